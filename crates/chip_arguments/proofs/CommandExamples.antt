@@ -9,7 +9,7 @@ use Rattle.clap.proofs.OnLiterals.{clap_on_literals}
 use Rattle.std.specs.Prelude.{⊤}
 use Rattle.chip_arguments.specs.CommandLine.{against, allow, allowed_keys, as_image, ascii, asm, check, chipbench, code, color, cover, debug, deep, dis, every, explain, explore, files, from, hash, hex, image, json, keys, keys_to, list, needed_source, output, pbm, picture, png, profile, progress, rate, reach, run, search_steps, seed, source, sources, states, steps, syms, tap, tape, test, trace, update, want, with_search, with_settings, with_steps}
 
--- what is unfolded to judge words that are written out
+-- what is unfolded to judge arguments that are written out
 unfoldable pub chipbench_on_literals : ⊤
 unfolding clap_on_literals against allow allowed_keys as_image ascii asm check chipbench code color cover debug deep dis every explain explore files from hash hex image json keys keys_to list needed_source output pbm picture png profile progress rate reach run search_steps seed source sources states steps syms tap tape test trace update want with_search with_settings with_steps
 chipbench_on_literals = tt
@@ -18,9 +18,9 @@ pub is_exact : is_simple_and_free chipbench ≡ true
 unfolding chipbench_on_literals
 is_exact = refl
 
-pub no_words : fault_of chipbench [] ≡ []
+pub no_arguments : fault_of chipbench [] ≡ []
 unfolding chipbench_on_literals
-no_words = refl
+no_arguments = refl
 
 steps_are_needed : fault_of chipbench (codes "run" ∷ codes "a" ∷ []) ≡ kind.MissingRequiredArgument ∷ []
 unfolding chipbench_on_literals
@@ -42,9 +42,9 @@ default_rate : option_map (λ p. one_of (codes "rate") p.1) (subcommand_of chipb
 unfolding chipbench_on_literals
 default_rate = refl
 
-pub no_words_no_command : subcommand_of chipbench [] ≡ None
+pub no_arguments_no_command : subcommand_of chipbench [] ≡ None
 unfolding chipbench_on_literals
-no_words_no_command = refl
+no_arguments_no_command = refl
 
 every_is_for_debug : fault_of chipbench (codes "run" ∷ codes "a" ∷ codes "--steps" ∷ codes "1" ∷ codes "--every" ∷ codes "1000" ∷ []) ≡ kind.UnknownArgument ∷ []
 unfolding chipbench_on_literals

@@ -5,7 +5,7 @@ use Rattle.clap.specs.Kinds.{FailsBy, HasKind, Kinds, or_else}
 use Rattle.clap.specs.Words.{first_of, first_value, rows_of}
 use Rattle.clap.specs.declared.error.Error.{Error}
 use Rattle.clap.specs.declared.parser.matches.Found.{Found}
-use Rattle.chip_arguments.specs.CommandWords.{first_value_fault}
+use Rattle.chip_arguments.specs.CommandArguments.{first_value_fault}
 use Rattle.chip_arguments.proofs.WordLemmas.{first_is, still_fails}
 
 module _ (fault : Option (List ℕ) → Kinds) (arguments : List (Bor (List ℕ) × Bor (List ℕ))) (found : Found) where

@@ -1,4 +1,5 @@
--- Which command words that `clap` takes name: one of the program's own, and not `help`, which `clap` answers by itself.
+-- Which command arguments that `clap` takes name: one of the program's own, and not `help`, which
+-- `clap` answers by itself.
 use Rattle.std.proofs.Common.{◌≡◌, ◌≢◌, inl, inr, List, [], ◌∷◌, ◌++◌, Bool, true, false, ℕ, Option, Some, None, codes, map, refl, sym, ◌∙◌, ap, subst, fold, ◌||◌, ◌&&◌, if◌then◌else◌, option_map}
 use Rattle.std.proofs.lemmas.Slice.Eq.{bytes_eq-Decides}
 use Rattle.std.specs.List.{find, list_all}
@@ -30,7 +31,7 @@ or_else_nil (k ∷ ks) b e = absurd (some_nil e)
     some_nil : k ∷ ks ≡ [] → ⊥
     some_nil h = cc
 
--- ---- words that name no command
+-- ---- arguments that name no command
 
 plain_step : (c : List Rule) (waiting : Waiting) (word : Text) (h : Held) → IsNoCommand (plain_word c waiting word h).1
 plain_step c idle word h = tt
@@ -97,7 +98,7 @@ module _ (s : Shape) (names : Names) (helps : s.disable_help_subcommand ≡ fals
   by_stop w word (Some p) e none before = before
   by_stop w word None e none before = by_trailing w word w.is_trailing e (or_else_nil _ _ (rw e at none)).0
 
-  walks : (w : Walk) (words : List Text) → walk_fault s names w words ≡ [] → IsNoHelp w.stopped → IsNoHelp (fold (walked s.rules names) w words).stopped
+  walks : (w : Walk) (arguments : List Text) → walk_fault s names w arguments ≡ [] → IsNoHelp w.stopped → IsNoHelp (fold (walked s.rules names) w arguments).stopped
   unfolding walk_fault walked
   walks w [] none before = before
   walks w (word ∷ rest) none before =
@@ -192,11 +193,11 @@ debug_is_left name (inr (inr (inr (inr (inr (inr (inr (inr (inr (inr (inl e)))))
 debug_is_left name (inr (inr (inr (inr (inr (inr (inr (inr (inr (inr (inr (inl e)))))))))))) asm list syms dis run trace picture check test explore explain = absurd (explain e)
 debug_is_left name (inr (inr (inr (inr (inr (inr (inr (inr (inr (inr (inr (inr none)))))))))))) asm list syms dis run trace picture check test explore explain = absurd none
 
-pub command_is : (words : List (List ℕ)) (name : List ℕ) (rows : List Row) → fault_of chipbench words ≡ [] → subcommand_of chipbench words ≡ Some (name, rows)
+pub command_is : (arguments : List (List ℕ)) (name : List ℕ) (rows : List Row) → fault_of chipbench arguments ≡ [] → subcommand_of chipbench arguments ≡ Some (name, rows)
     → IsOneOf name command_names
-command_is words name rows none named =
+command_is arguments name rows none named =
     let a = built chipbench in
-    let clean = (or_else_nil (walk_fault a.top (names_of a) (walk_from nothing_held) (argument_words chipbench words)) _ none).0 in
-    let before = walks a.top (names_of a) takes_help (walk_from nothing_held) (argument_words chipbench words) clean tt in
-    let one = entered_name a (stop_after a.top.rules (names_of a) (argument_words chipbench words)) name rows no_aliases before named in
+    let clean = (or_else_nil (walk_fault a.top (names_of a) (walk_from nothing_held) (argument_words chipbench arguments)) _ none).0 in
+    let before = walks a.top (names_of a) takes_help (walk_from nothing_held) (argument_words chipbench arguments) clean tt in
+    let one = entered_name a (stop_after a.top.rules (names_of a) (argument_words chipbench arguments)) name rows no_aliases before named in
     without_last name (codes "help") command_names (subst (IsOneOf name) names_built one.0) one.1

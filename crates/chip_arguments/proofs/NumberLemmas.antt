@@ -4,7 +4,7 @@ use Rattle.std.specs.Char.{is_ascii_digit}
 use Rattle.std.specs.List.{list_all}
 use Rattle.std.specs.Str.Parse.{AllDigits}
 use Rattle.std.proofs.lemmas.Str.Parse.{digit_from_value}
-use Rattle.chip_arguments.specs.CommandWords.{IsNumber}
+use Rattle.chip_arguments.specs.CommandArguments.{IsNumber}
 
 is_digit : (c : ℕ) → 48 ≤ c → c ≤ 57 → is_ascii_digit c ≡ true
 is_digit c low high = grind arith

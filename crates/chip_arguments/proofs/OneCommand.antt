@@ -1,5 +1,5 @@
--- Words whose first names a command are judged alike by the program with that command alone and by the whole one: both
--- walks stop at the first word, and the command that is entered is the same.
+-- Words whose first names a command are judged alike by the program with that command alone and by
+-- the whole one: both walks stop at the first word, and the command that is entered is the same.
 use Rattle.std.proofs.Common.{◌≡◌, ◌∙◌, Bool, false, true, List, [], ◌∷◌, Option, Some, codes, get_or, map, option_map, is_some, slice_get, refl, sym, ap, ap₂, subst}
 use Rattle.std.proofs.lemmas.List.{get_or-map}
 use Rattle.std.specs.List.{Contains, find}
@@ -89,14 +89,14 @@ pub judged_alone : {rows : List CommandRow} {word : Text} {row : CommandRow} {ol
 judged_alone {rows} {word} {row} {old} {sub} {new} is alone made each adds rest =
     let shape : app_of new ≡ with_one row = adds.shape made.local ∙ ap₂ (λ (a b : App). with_subcommand a b.top) alone made.shape in
     let named : row.name.now ∷ rest ≡ word ∷ rest = ap (λ (w : Text). w ∷ rest) is.named in
-    subst (λ words. JudgesAsAll words (app_of new)) named (subst (JudgesAsAll (row.name.now ∷ rest)) (sym shape) (judges row rest (row_found rows row is.place each)))
+    subst (λ arguments. JudgesAsAll arguments (app_of new)) named (subst (JudgesAsAll (row.name.now ∷ rest)) (sym shape) (judges row rest (row_found rows row is.place each)))
 
 pub judged_by_all : (word : Text) (command : Command) → app_of command ≡ chipbench → (rest : List Text) → JudgesAsAll (word ∷ rest) (app_of command)
 judged_by_all word command is rest = subst (JudgesAsAll (word ∷ rest)) (sym is) (record { exact = is_exact; fault = refl; command = refl })
 
--- at words that begin with that word
-pub judged_at : {T : Type 0} {word : Text} {app : App} (text : T → Text) (words : List T) (first : T) → Some first ≡ slice_get words 0 → word ≡ text first
-    → ((rest : List Text) → JudgesAsAll (word ∷ rest) app) → JudgesAsAll (map text words) app
+-- at arguments that begin with that word
+pub judged_at : {T : Type 0} {word : Text} {app : App} (text : T → Text) (arguments : List T) (first : T) → Some first ≡ slice_get arguments 0 → word ≡ text first
+    → ((rest : List Text) → JudgesAsAll (word ∷ rest) app) → JudgesAsAll (map text arguments) app
 judged_at text [] first begins is judges = cc
 judged_at {T} {word} {app} text (x ∷ xs) first begins is judges =
     let here : first ≡ x = cc in

@@ -17,8 +17,8 @@ use Rattle.chip_machine.specs.Profile.{profile_name}
 use Rattle.chip_machine.specs.declared.profile.Profile.{Profile}
 use Rattle.chip_machine.specs.declared.profile.Profile.TheVariants as profile
 use Rattle.chip_arguments.specs.CommandLine.{chipbench}
-use Rattle.chip_arguments.specs.CommandWords.{Asks, AsksBy, AsksFlag, AsksFor, ReadsNumber, ReadsOr, clash_fault, faults_below, value_faults, word_faults, needed, profile_fault}
-use Rattle.chip_arguments.specs.SettingWords.{default_words}
+use Rattle.chip_arguments.specs.CommandArguments.{Asks, AsksBy, AsksFlag, AsksFor, ReadsNumber, ReadsOr, clash_fault, faults_below, value_faults, argument_faults, needed, profile_fault}
+use Rattle.chip_arguments.specs.SettingArguments.{default_arguments}
 use Rattle.chip_arguments.specs.inner.Built.{JudgesAsAll}
 use Rattle.chip_arguments.specs.declared.command_line.CommandLine.{CommandLine}
 use Rattle.chip_arguments.specs.declared.command_line.CommandLine.TheVariants as line
@@ -79,41 +79,41 @@ still_fails kinds next e (inr h) = inr (still_among (kind_of e) kinds next h)
 
 module _ {T : Type 0} where
   -- what `clap` refuses is refused
-  pub fails_by_clap : (words : List (List ℕ)) (result : Result T Error) (e : Error) → result ≡ Err e →
-      FailsBy (fault_of chipbench words) result → FailsBy (word_faults words) result
-  unfolding word_faults
-  fails_by_clap words (Ok x) e h f = cc
-  fails_by_clap words (Err x) e h f = still_fails (fault_of chipbench words) (faults_below (subcommand_of chipbench words)) x f
+  pub fails_by_clap : (arguments : List (List ℕ)) (result : Result T Error) (e : Error) → result ≡ Err e →
+      FailsBy (fault_of chipbench arguments) result → FailsBy (argument_faults arguments) result
+  unfolding argument_faults
+  fails_by_clap arguments (Ok x) e h f = cc
+  fails_by_clap arguments (Err x) e h f = still_fails (fault_of chipbench arguments) (faults_below (subcommand_of chipbench arguments)) x f
 
 -- what `clap` takes is judged by its values
-judged_by : (words : List (List ℕ)) (command : Option (List ℕ × List Row)) → fault_of chipbench words ≡ [] →
-    subcommand_of chipbench words ≡ command → word_faults words ≡ faults_below command
-unfolding word_faults
-judged_by words command none named =
-    ap (λ (kinds : Kinds). or_else kinds (faults_below (subcommand_of chipbench words))) none
+judged_by : (arguments : List (List ℕ)) (command : Option (List ℕ × List Row)) → fault_of chipbench arguments ≡ [] →
+    subcommand_of chipbench arguments ≡ command → argument_faults arguments ≡ faults_below command
+unfolding argument_faults
+judged_by arguments command none named =
+    ap (λ (kinds : Kinds). or_else kinds (faults_below (subcommand_of chipbench arguments))) none
     ∙ ap (λ (c : Option (List ℕ × List Row)). faults_below c) named
 
-pub judged : {T : Type 0} (words : List (List ℕ)) (name : List ℕ) (rows : List Row) (result : Result T Error) →
-    fault_of chipbench words ≡ [] → subcommand_of chipbench words ≡ Some (name, rows) →
-    FailsBy (value_faults rows) result → FailsBy (word_faults words) result
-judged words name rows result none named f =
-    subst (λ (kinds : Kinds). FailsBy kinds result) (sym (judged_by words (Some (name, rows)) none named)) f
+pub judged : {T : Type 0} (arguments : List (List ℕ)) (name : List ℕ) (rows : List Row) (result : Result T Error) →
+    fault_of chipbench arguments ≡ [] → subcommand_of chipbench arguments ≡ Some (name, rows) →
+    FailsBy (value_faults rows) result → FailsBy (argument_faults arguments) result
+judged arguments name rows result none named f =
+    subst (λ (kinds : Kinds). FailsBy kinds result) (sym (judged_by arguments (Some (name, rows)) none named)) f
 
-pub without_command : (words : List (List ℕ)) → fault_of chipbench words ≡ [] → subcommand_of chipbench words ≡ None → word_faults words ≡ []
-without_command words none named = judged_by words None none named
+pub without_command : (arguments : List (List ℕ)) → fault_of chipbench arguments ≡ [] → subcommand_of chipbench arguments ≡ None → argument_faults arguments ≡ []
+without_command arguments none named = judged_by arguments None none named
 
-asked_by : (words : List (List ℕ)) (command : Option (List ℕ × List Row)) (line : CommandLine) →
-    subcommand_of chipbench words ≡ command → AsksBy command line → AsksFor words line
+asked_by : (arguments : List (List ℕ)) (command : Option (List ℕ × List Row)) (line : CommandLine) →
+    subcommand_of chipbench arguments ≡ command → AsksBy command line → AsksFor arguments line
 unfolding AsksFor
-asked_by words command line named asks = subst (λ (c : Option (List ℕ × List Row)). AsksBy c line) (sym named) asks
+asked_by arguments command line named asks = subst (λ (c : Option (List ℕ × List Row)). AsksBy c line) (sym named) asks
 
-pub asked_none : (words : List (List ℕ)) → subcommand_of chipbench words ≡ None → AsksFor words (line.Debug None false default_words)
-asked_none words named = asked_by words None _ named refl
+pub asked_none : (arguments : List (List ℕ)) → subcommand_of chipbench arguments ≡ None → AsksFor arguments (line.Debug None false default_arguments)
+asked_none arguments named = asked_by arguments None _ named refl
 
-pub asked_for : {E : Type 0} (words : List (List ℕ)) (name : List ℕ) (rows : List Row) (result : Result CommandLine E) →
-    subcommand_of chipbench words ≡ Some (name, rows) → IfOk result (Asks name rows) → IfOk result (AsksFor words)
-asked_for words name rows (Ok line) named asks = asked_by words (Some (name, rows)) line named asks
-asked_for words name rows (Err e) named asks = tt
+pub asked_for : {E : Type 0} (arguments : List (List ℕ)) (name : List ℕ) (rows : List Row) (result : Result CommandLine E) →
+    subcommand_of chipbench arguments ≡ Some (name, rows) → IfOk result (Asks name rows) → IfOk result (AsksFor arguments)
+asked_for arguments name rows (Ok line) named asks = asked_by arguments (Some (name, rows)) line named asks
+asked_for arguments name rows (Err e) named asks = tt
 
 -- the command that the matches name, and its values
 pub named_in : {X : Type 0} (o : Option X) (f : X → List ℕ) (g : X → List Row) (name : List ℕ) (rows : List Row) →
@@ -130,17 +130,18 @@ pub none_named : {X : Type 0} (o : Option X) (f : X → List ℕ) (g : X → Lis
 none_named None f g h = refl
 none_named (Some x) f g h = cc
 
--- the command that words name, by the matches that `clap` answers of a program that names the same
-pub subcommand_named : {app : App} (words : List (List ℕ)) (m : ArgMatches) (name : List ℕ) (rows : List Row) → JudgesAsAll words app →
-    HasMatchesOf app words m → Some name ≡ subcommand_name_of m →
-    Some rows ≡ option_map (λ (p : List ℕ × List Row). p.1) (subcommand_rows_of m) → subcommand_of chipbench words ≡ Some (name, rows)
-subcommand_named {app} words m name rows judges has n r =
+-- the command that arguments name, by the matches that `clap` answers of a program that names the
+-- same
+pub subcommand_named : {app : App} (arguments : List (List ℕ)) (m : ArgMatches) (name : List ℕ) (rows : List Row) → JudgesAsAll arguments app →
+    HasMatchesOf app arguments m → Some name ≡ subcommand_name_of m →
+    Some rows ≡ option_map (λ (p : List ℕ × List Row). p.1) (subcommand_rows_of m) → subcommand_of chipbench arguments ≡ Some (name, rows)
+subcommand_named {app} arguments m name rows judges has n r =
     sym judges.command ∙ sym ((has (both (is_simple app) _ judges.exact).0).1)
     ∙ named_in (out-ArgMatches m).subcommand (λ b. (out-SubCommand (box_value b)).name.now) (λ b. rows_of (found_of (out-SubCommand (box_value b)).matches)) name rows n r
 
-pub subcommand_none : {app : App} (words : List (List ℕ)) (m : ArgMatches) → JudgesAsAll words app → HasMatchesOf app words m →
-    None ≡ option_map (λ (p : List ℕ × List Row). p.1) (subcommand_rows_of m) → subcommand_of chipbench words ≡ None
-subcommand_none {app} words m judges has r =
+pub subcommand_none : {app : App} (arguments : List (List ℕ)) (m : ArgMatches) → JudgesAsAll arguments app → HasMatchesOf app arguments m →
+    None ≡ option_map (λ (p : List ℕ × List Row). p.1) (subcommand_rows_of m) → subcommand_of chipbench arguments ≡ None
+subcommand_none {app} arguments m judges has r =
     sym judges.command ∙ sym ((has (both (is_simple app) _ judges.exact).0).1)
     ∙ none_named (out-ArgMatches m).subcommand (λ b. (out-SubCommand (box_value b)).name.now) (λ b. rows_of (found_of (out-SubCommand (box_value b)).matches)) r
 

@@ -101,7 +101,7 @@ sources = record (new_rule (codes "sources")) {
   required = true;
 }
 
--- any text: the words for when there are colours are not part of what `clap` judges
+-- any text: the arguments for when there are colours are not part of what `clap` judges
 unfoldable pub color : Rule
 color = record (new_rule (codes "color")) { long = Some (codes "color"); value_names = 1 }
 

@@ -1,11 +1,11 @@
-//! What the words of the command line ask for.
+//! What the arguments ask for.
 ghost use Rattle.std.specs.Prelude.{◌≡◌, [], Ok, None, false, IfOk, map, option_copied, codes};
 ghost use Rattle.std.specs.Char.{is_ascii_digit};
 ghost use Rattle.std.specs.List.{list_all};
 ghost use Rattle.clap.specs.Matches.{found_of};
 ghost use Rattle.clap.specs.Words.{FailsBy, first_of, kind_of, one_of, rows_of};
-ghost use Rattle.chip_arguments.specs.SettingWords.{default_words};
-ghost use Rattle.chip_arguments.specs.CommandWords.{Asks, AsksFor, AsksSettings, IsProfile, ReadsNumber, AsksCheck, color_asked, AsksExplore, AsksPicture, AsksRun, AsksTest, AsksTrace, clash_fault, clash_faults, color_fault, first_value_fault, new_file_fault, new_files, number_fault, numbers, value_faults, word_faults, needed, profile_fault};
+ghost use Rattle.chip_arguments.specs.SettingArguments.{default_arguments};
+ghost use Rattle.chip_arguments.specs.CommandArguments.{Asks, AsksFor, AsksSettings, IsProfile, ReadsNumber, AsksCheck, color_asked, AsksExplore, AsksPicture, AsksRun, AsksTest, AsksTrace, clash_fault, clash_faults, color_fault, first_value_fault, new_file_fault, new_files, number_fault, numbers, value_faults, argument_faults, needed, profile_fault};
 ghost use Rattle.chip_arguments.specs.inner.Built.{IsOneOf, command_names};
 
 use crate::commands::{chipbench, chipbench_for};
@@ -46,7 +46,7 @@ pub enum CommandLine<'a> {
         source: Option<&'a str>,
         /// Whether the source is given as an image.
         is_image: bool,
-        settings: SettingWords<'a>,
+        settings: SettingArguments<'a>,
     },
     /// To write the image of a source to a file.
     Asm {
@@ -66,31 +66,31 @@ pub enum CommandLine<'a> {
         is_hex: bool,
     },
     /// To print the faults of sources with their places.
-    Check(CheckWords<'a>),
+    Check(CheckArguments<'a>),
     /// To print a source of an image.
     Dis {
         image: &'a str,
     },
     /// To run a source's image.
-    Run(RunWords<'a>),
+    Run(RunArguments<'a>),
     /// To print a line for each step of a run, or to compare the lines with those of a file.
-    Trace(TraceWords<'a>),
+    Trace(TraceArguments<'a>),
     /// To print the screen of a source's image, or to write it as a picture.
-    Picture(PictureWords<'a>),
+    Picture(PictureArguments<'a>),
     /// To compare the answers of sessions with those that files expect.
-    Test(TestWords<'a>),
+    Test(TestArguments<'a>),
     /// To search all key scripts for one that makes a source's image stop, or reach a place.
-    Explore(ExploreWords<'a>),
+    Explore(ExploreArguments<'a>),
     /// To print the page on a code, or the codes.
     Explain {
         code: Option<&'a str>,
     },
 }
 
-/// A check, as the words ask for it.
+/// A check, as the arguments ask for it.
 #[derive(Drop)]
-pub struct CheckWords<'a> {
-    /// The sources, in the order of the words.
+pub struct CheckArguments<'a> {
+    /// The sources, in the order of the arguments.
     pub sources: Vec<&'a str>,
     /// Whether JSON objects are printed, and not text.
     pub is_json: bool,
@@ -113,23 +113,23 @@ pub enum ColorChoice {
     Never,
 }
 
-/// A run, as the words ask for it.
+/// A run, as the arguments ask for it.
 #[derive(Clone, Copy)]
-pub struct RunWords<'a> {
+pub struct RunArguments<'a> {
     pub source: &'a str,
     /// Whether the source is given as an image.
     pub is_image: bool,
     pub steps: u32,
     /// The file of key events.
     pub keys: Option<&'a str>,
-    pub settings: SettingWords<'a>,
+    pub settings: SettingArguments<'a>,
 }
 
-/// A trace, as the words ask for it.
+/// A trace, as the arguments ask for it.
 #[derive(Clone, Copy)]
-pub struct TraceWords<'a> {
+pub struct TraceArguments<'a> {
     /// Of which run.
-    pub run: RunWords<'a>,
+    pub run: RunArguments<'a>,
     /// The first step that is printed, 0 to 1000000.
     pub from: u32,
     /// Whether sums of the screen and of the memory are printed too.
@@ -140,11 +140,11 @@ pub struct TraceWords<'a> {
     pub against: Option<&'a str>,
 }
 
-/// A picture, as the words ask for it.
+/// A picture, as the arguments ask for it.
 #[derive(Clone, Copy)]
-pub struct PictureWords<'a> {
+pub struct PictureArguments<'a> {
     /// At the end of which run.
-    pub run: RunWords<'a>,
+    pub run: RunArguments<'a>,
     /// Whether it is printed in ASCII, and not in half blocks.
     pub ascii: bool,
     /// The file for a portable bitmap.
@@ -153,10 +153,10 @@ pub struct PictureWords<'a> {
     pub png: Option<&'a str>,
 }
 
-/// A test, as the words ask for it.
+/// A test, as the arguments ask for it.
 #[derive(Drop)]
-pub struct TestWords<'a> {
-    /// The files of cases, in the order of the words.
+pub struct TestArguments<'a> {
+    /// The files of cases, in the order of the arguments.
     pub files: Vec<&'a str>,
     /// Whether the answers that are given are written into the files.
     pub is_update: bool,
@@ -164,9 +164,9 @@ pub struct TestWords<'a> {
     pub is_tap: bool,
 }
 
-/// A search, as the words ask for it.
+/// A search, as the arguments ask for it.
 #[derive(Clone, Copy)]
-pub struct ExploreWords<'a> {
+pub struct ExploreArguments<'a> {
     pub source: &'a str,
     /// Whether the source is given as an image.
     pub is_image: bool,
@@ -188,12 +188,12 @@ pub struct ExploreWords<'a> {
     pub is_covering: bool,
     /// Whether standard error says how far the search is.
     pub is_progress_shown: bool,
-    pub settings: SettingWords<'a>,
+    pub settings: SettingArguments<'a>,
 }
 
-/// The settings, as the words give them.
+/// The settings, as the arguments give them.
 #[derive(Clone, Copy)]
-pub struct SettingWords<'a> {
+pub struct SettingArguments<'a> {
     /// How many steps there are to a tick, 1 to 1000.
     pub rate: u32,
     /// The tape in hexadecimal.
@@ -206,9 +206,9 @@ pub struct SettingWords<'a> {
     pub spacing: u32,
 }
 
-impl<'a> SettingWords<'a> {
+impl<'a> SettingArguments<'a> {
     /// The settings where no word gives one.
-    pub const DEFAULT: SettingWords<'static> = SettingWords {
+    pub const DEFAULT: SettingArguments<'static> = SettingArguments {
         rate: DEFAULT_RATE,
         tape: None,
         seed: None,
@@ -217,30 +217,33 @@ impl<'a> SettingWords<'a> {
     };
 }
 
-/// Reads the words after the program's name.
+/// Reads the arguments after the program's name.
 ///
 /// # Errors
 ///
-/// A fault of the words, a request for help, or that memory ran out.
-pub fn parse_words<'a, S: AsStr>(alloc: Global, words: &'a [S]) -> Result<CommandLine<'a>, Error>
-    ensures fault { FailsBy (word_faults (map S.text words.entry.now)) result }
-    ensures asked { IfOk result (AsksFor (map S.text words.entry.now)) }
-    ensures none { words.entry.now ≡ [] → result ≡ Ok (CommandLine.Debug None false default_words) }
+/// A fault of the arguments, a request for help, or that memory ran out.
+pub fn parse_arguments<'a, S: AsStr>(
+    alloc: Global,
+    arguments: &'a [S],
+) -> Result<CommandLine<'a>, Error>
+    ensures fault { FailsBy (argument_faults (map S.text arguments.entry.now)) result }
+    ensures asked { IfOk result (AsksFor (map S.text arguments.entry.now)) }
+    ensures none { arguments.entry.now ≡ [] → result ≡ Ok (CommandLine.Debug None false default_arguments) }
 {
-    let Some(first) = words.first() else {
+    let Some(first) = arguments.first() else {
         return Ok(CommandLine::Debug {
             source: None,
             is_image: false,
-            settings: SettingWords::DEFAULT,
+            settings: SettingArguments::DEFAULT,
         });
     };
-    let matches = chipbench_for(alloc, first.as_str())?.try_get_matches_from(words)?;
+    let matches = chipbench_for(alloc, first.as_str())?.try_get_matches_from(arguments)?;
     match matches.subcommand() {
         Some((name, found)) => command_asked(alloc, name, found),
         None => Ok(CommandLine::Debug {
             source: None,
             is_image: false,
-            settings: SettingWords::DEFAULT,
+            settings: SettingArguments::DEFAULT,
         }),
     }
 }
@@ -269,27 +272,28 @@ fn command_asked<'a>(
             source: required_text(found, "source"),
             is_hex: found.get_flag("hex"),
         },
-        "check" => CommandLine::Check(check_words(alloc, found, profile)?),
+        "check" => CommandLine::Check(check_arguments(alloc, found, profile)?),
         "dis" => CommandLine::Dis {
             image: required_text(found, "image"),
         },
-        "run" => CommandLine::Run(run_words(found, profile)),
-        "trace" => CommandLine::Trace(trace_words(found, profile)),
-        "picture" => CommandLine::Picture(picture_words(found, profile)),
-        "test" => CommandLine::Test(test_words(alloc, found)?),
-        "explore" => CommandLine::Explore(explore_words(found, profile)),
+        "run" => CommandLine::Run(run_arguments(found, profile)),
+        "trace" => CommandLine::Trace(trace_arguments(found, profile)),
+        "picture" => CommandLine::Picture(picture_arguments(found, profile)),
+        "test" => CommandLine::Test(test_arguments(alloc, found)?),
+        "explore" => CommandLine::Explore(explore_arguments(found, profile)),
         "explain" => CommandLine::Explain {
             code: found.get_str("code"),
         },
         _ => CommandLine::Debug {
             source: found.get_str("source"),
             is_image: found.get_flag("image"),
-            settings: setting_words(found, profile),
+            settings: setting_arguments(found, profile),
         },
     })
 }
 
-// Judges the values that `clap` takes and the program doesn't, and gives the profile that they name.
+// Judges the values that `clap` takes and the program doesn't, and gives the profile that they
+// name.
 fn judged(alloc: Global, found: &ArgMatches<'_>) -> Result<Profile, Error>
     ensures profile { IfOk result (IsProfile
         (first_of (codes "profile") (rows_of (found_of found.now)))) }
@@ -420,7 +424,7 @@ fn is_decimal(text: &str) -> bool
     text.as_bytes().iter().all(|byte| byte.is_ascii_digit())
 }
 
-/// The fault of words that aren't text.
+/// The fault of arguments that aren't text.
 pub fn not_text(alloc: Global) -> Result<Error, AllocError>
     ensures { IfOk result (λ error. kind_of error ≡ ErrorKind.InvalidValue) }
 {
@@ -431,7 +435,7 @@ pub fn not_text(alloc: Global) -> Result<Error, AllocError>
     )
 }
 
-// A fault of the words that `clap` doesn't find.
+// A fault of the arguments that `clap` doesn't find.
 fn usage_error(alloc: Global, kind: ErrorKind, message: &str) -> Result<Error, AllocError>
     ensures { IfOk result (λ error. kind_of error ≡ kind) }
 {
@@ -462,7 +466,7 @@ fn no_such_profile(alloc: Global, name: &str) -> Result<Error, AllocError>
     usage_error(alloc, ErrorKind::InvalidValue, message.as_str())
 }
 
-// The text of an argument without which `clap` refuses the words.
+// The text of an argument without which `clap` refuses the arguments.
 fn required_text<'a>(found: &ArgMatches<'a>, id: &str) -> &'a str
     ensures { result.now ≡ needed id.now (rows_of (found_of found.now)) }
 {
@@ -493,28 +497,28 @@ pub fn seed(text: Option<&str>) -> Option<u64>
     }
 }
 
-fn run_words<'a>(found: &ArgMatches<'a>, profile: Profile) -> RunWords<'a>
+fn run_arguments<'a>(found: &ArgMatches<'a>, profile: Profile) -> RunArguments<'a>
     ensures { IsProfile (first_of (codes "profile") (rows_of (found_of found.now))) profile
         → AsksRun (rows_of (found_of found.now)) result }
 {
-    RunWords {
+    RunArguments {
         source: required_text(found, "source"),
         is_image: found.get_flag("image"),
         steps: number(found.get_str("steps")).unwrap_or(0),
         keys: found.get_str("keys"),
-        settings: setting_words(found, profile),
+        settings: setting_arguments(found, profile),
     }
 }
 
-fn check_words<'a>(
+fn check_arguments<'a>(
     alloc: Global,
     found: &ArgMatches<'a>,
     profile: Profile,
-) -> Result<CheckWords<'a>, AllocError>
+) -> Result<CheckArguments<'a>, AllocError>
     ensures { IsProfile (first_of (codes "profile") (rows_of (found_of found.now))) profile
         → IfOk result (AsksCheck (rows_of (found_of found.now))) }
 {
-    Ok(CheckWords {
+    Ok(CheckArguments {
         sources: Vec::from_slice(alloc, found.get_strs("sources").unwrap_or(&[]))?,
         is_json: found.get_flag("json"),
         allowed: found.get_str("allow"),
@@ -535,12 +539,12 @@ fn color_asked(word: Option<&str>) -> ColorChoice
     }
 }
 
-fn trace_words<'a>(found: &ArgMatches<'a>, profile: Profile) -> TraceWords<'a>
+fn trace_arguments<'a>(found: &ArgMatches<'a>, profile: Profile) -> TraceArguments<'a>
     ensures { IsProfile (first_of (codes "profile") (rows_of (found_of found.now))) profile
         → AsksTrace (rows_of (found_of found.now)) result }
 {
-    TraceWords {
-        run: run_words(found, profile),
+    TraceArguments {
+        run: run_arguments(found, profile),
         from: number(found.get_str("from")).unwrap_or(0),
         sums: found.get_flag("hash"),
         is_json: found.get_flag("json"),
@@ -548,33 +552,36 @@ fn trace_words<'a>(found: &ArgMatches<'a>, profile: Profile) -> TraceWords<'a>
     }
 }
 
-fn picture_words<'a>(found: &ArgMatches<'a>, profile: Profile) -> PictureWords<'a>
+fn picture_arguments<'a>(found: &ArgMatches<'a>, profile: Profile) -> PictureArguments<'a>
     ensures { IsProfile (first_of (codes "profile") (rows_of (found_of found.now))) profile
         → AsksPicture (rows_of (found_of found.now)) result }
 {
-    PictureWords {
-        run: run_words(found, profile),
+    PictureArguments {
+        run: run_arguments(found, profile),
         ascii: found.get_flag("ascii"),
         bitmap: found.get_str("pbm"),
         png: found.get_str("png"),
     }
 }
 
-fn test_words<'a>(alloc: Global, found: &ArgMatches<'a>) -> Result<TestWords<'a>, AllocError>
+fn test_arguments<'a>(
+    alloc: Global,
+    found: &ArgMatches<'a>,
+) -> Result<TestArguments<'a>, AllocError>
     ensures { IfOk result (AsksTest (rows_of (found_of found.now))) }
 {
-    Ok(TestWords {
+    Ok(TestArguments {
         files: Vec::from_slice(alloc, found.get_strs("files").unwrap_or(&[]))?,
         is_update: found.get_flag("update"),
         is_tap: found.get_flag("tap"),
     })
 }
 
-fn explore_words<'a>(found: &ArgMatches<'a>, profile: Profile) -> ExploreWords<'a>
+fn explore_arguments<'a>(found: &ArgMatches<'a>, profile: Profile) -> ExploreArguments<'a>
     ensures { IsProfile (first_of (codes "profile") (rows_of (found_of found.now))) profile
         → AsksExplore (rows_of (found_of found.now)) result }
 {
-    ExploreWords {
+    ExploreArguments {
         source: required_text(found, "source"),
         is_image: found.get_flag("image"),
         steps: number(found.get_str("steps")),
@@ -586,15 +593,15 @@ fn explore_words<'a>(found: &ArgMatches<'a>, profile: Profile) -> ExploreWords<'
         keys_to: found.get_str("keys-to"),
         is_covering: found.get_flag("cover"),
         is_progress_shown: found.get_flag("progress"),
-        settings: setting_words(found, profile),
+        settings: setting_arguments(found, profile),
     }
 }
 
-fn setting_words<'a>(found: &ArgMatches<'a>, profile: Profile) -> SettingWords<'a>
+fn setting_arguments<'a>(found: &ArgMatches<'a>, profile: Profile) -> SettingArguments<'a>
     ensures { IsProfile (first_of (codes "profile") (rows_of (found_of found.now))) profile
         → AsksSettings (rows_of (found_of found.now)) result }
 {
-    SettingWords {
+    SettingArguments {
         rate: number(found.get_str("rate")).unwrap_or(DEFAULT_RATE),
         tape: found.get_str("tape"),
         seed: seed(found.get_str("seed")),

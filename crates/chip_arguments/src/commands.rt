@@ -8,7 +8,8 @@ use crate::arguments::Argument;
 use clap::Command;
 use std::alloc::{AllocError, Global};
 
-/// The workbench's version, and the logic that it is proved in, as the end of `rt version` names it.
+/// The workbench's version, and the logic that it is proved in, as the end of `rt version` names
+/// it.
 pub const VERSION: &str = "1.0 (logic dac8208d650f15bf)";
 
 const PROGRAM_NOTES: &str = "\
@@ -236,9 +237,10 @@ pub(crate) fn chipbench<'a>(alloc: Global) -> Result<Command<'a>, AllocError>
     with_commands(alloc, program(alloc)?, &COMMANDS)
 }
 
-/// The program as words need it that begin with this one: with the command of that name alone, or
-/// where none has it with all. One command spares an eighth of a process's start, and judges such
-/// words as all do, since `clap` stops at the first word and goes on with the command that it names.
+/// The program as arguments need it that begin with this one: with the command of that name alone,
+/// or where none has it with all. One command spares an eighth of a process's start, and judges
+/// such arguments as all do, since `clap` stops at the first word and goes on with the command that
+/// it names.
 pub(crate) fn chipbench_for<'a>(alloc: Global, word: &str) -> Result<Command<'a>, AllocError>
     ensures { IfOk result (λ command. (rest : List (List ℕ))
         → JudgesAsAll (word.now ∷ rest) (app_of command)) }

@@ -1,4 +1,4 @@
-//! What the words of the command line ask for, as plain data.
+//! What the arguments ask for, as plain data.
 #![tactic(auto)]
 
 mod arguments;
@@ -7,8 +7,8 @@ mod commands;
 mod limits;
 
 pub use command_line::{
-    CheckWords, ColorChoice, CommandLine, ExploreWords, PictureWords, RunWords, SettingWords,
-    TestWords, TraceWords, not_text, number, parse_words, seed,
+    CheckArguments, ColorChoice, CommandLine, ExploreArguments, PictureArguments, RunArguments,
+    SettingArguments, TestArguments, TraceArguments, not_text, number, parse_arguments, seed,
 };
 pub use commands::VERSION;
 pub use limits::USUAL_STATES;

@@ -1,6 +1,6 @@
 //! The limits of arguments that stand in no crate below.
 
-/// How many states a search may keep where the words don't say.
+/// How many states a search may keep where the arguments don't say.
 pub const USUAL_STATES: u32 = 1_000_000;
 
 /// The most states that a search may be asked to keep.

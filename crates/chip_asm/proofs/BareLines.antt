@@ -16,7 +16,7 @@ use Rattle.chip_asm.specs.inner.Tables.{Tables, name_of, symbols_of}
 use Rattle.chip_asm.specs.inner.Turns.{moved}
 use Rattle.chip_asm.specs.Layout.{Placed, full_size, own_size, is_redefinition, is_side_or_end, symbol_given}
 use Rattle.chip_asm.specs.computed.Walk.{place, placed, first_fault, symbols, is_aligning, address}
-use Rattle.chip_asm.proofs.BlockSteps.{live_here}
+use Rattle.chip_asm.proofs.BlockSteps.{active_here}
 use Rattle.chip_asm.proofs.NextLine.{placement-at, follows-push}
 use Rattle.chip_asm.proofs.QuietLines.{Calm, Plain, calm-idle, plain}
 
@@ -51,24 +51,24 @@ given : (number here : ℕ) (value : ℤ) (body : Body) (name : Option Name) →
 given number here value body None p = refl
 given number here value body (Some name) p = ap (λ v. Some (name, record { value = v; line = number })) (sym (p.given here value))
 
--- where it has no fault it is passed, live or not
+-- where it has no fault it is passed, active or not
 abbrev pub found-bare : ℕ → ℕ → Bool → Found
-found-bare here size live = record { value = pos 0; here = here; size = size; fault = None; live = live }
+found-bare here size active = record { value = pos 0; here = here; size = size; fault = None; active = active }
 
-pub passed-bare : (pass : Pass) (names : Tables) (lines : List Reading) (line : Reading) (at size : ℕ) (defines : Option NameId) (live : Bool) → pass.live ≡ live → Follows pass (placed lines) → at ≡ length lines
-    → IsBare pass.names.keys live line size defines → (fits : pass.here + size ≤ MEMORY_BYTES) → is_redefinition pass.names.symbols (name_of pass.names.keys defines) ≡ false
+pub passed-bare : (pass : Pass) (names : Tables) (lines : List Reading) (line : Reading) (at size : ℕ) (defines : Option NameId) (active : Bool) → pass.active ≡ active → Follows pass (placed lines) → at ≡ length lines
+    → IsBare pass.names.keys active line size defines → (fits : pass.here + size ≤ MEMORY_BYTES) → is_redefinition pass.names.symbols (name_of pass.names.keys defines) ≡ false
     → names.symbols ≡ pass.names.symbols ++ symbols_of pass.names.keys defines (record { value = pos pass.here; line = at + 1 })
-    → (found-bare pass.here size live ≡ placement_of (place (placed lines) line)) × Follows (record pass { here = pass.here + size; within = fits; names = names }) (placed (lines ++ line ∷ []))
-passed-bare pass names lines (bad fault) at size defines live same f is b fits new given_now = absurd (let never : false ≡ true = b.bare in cc)
-passed-bare pass names lines (read name body) at size defines live same f is b fits new given_now = (
+    → (found-bare pass.here size active ≡ placement_of (place (placed lines) line)) × Follows (record pass { here = pass.here + size; within = fits; names = names }) (placed (lines ++ line ∷ []))
+passed-bare pass names lines (bad fault) at size defines active same f is b fits new given_now = absurd (let never : false ≡ true = b.bare in cc)
+passed-bare pass names lines (read name body) at size defines active same f is b fits new given_now = (
   found_now,
   follows-push pass (record pass { here = pass.here + size; within = fits; names = names }) lines line (at + 1) q (ap (λ n. n + 1) is) f found_now (record {
-    at_address = rw e.plain.no_org (no-jump (q.live && true));
-    aligning = sym (e.plain.no_align (q.live && true) pass.aligning);
-    ended = rw e.plain.no_end (no-end q.live);
-    names = given_now ∙ ap (λ s. pass.names.symbols ++ option_to_list s) (adds live b.named);
+    at_address = rw e.plain.no_org (no-jump (q.active && true));
+    aligning = sym (e.plain.no_align (q.active && true) pass.aligning);
+    ended = rw e.plain.no_end (no-end q.active);
+    names = given_now ∙ ap (λ s. pass.names.symbols ++ option_to_list s) (adds active b.named);
     open_blocks = λ nearest opened. opened ∙ ap reverse (e.stays _ nearest);
-    live = λ nearest opened nested. f.live;
+    active = λ nearest opened nested. f.active;
   }),
 )
   where
@@ -82,7 +82,7 @@ passed-bare pass names lines (read name body) at size defines live same f is b f
     before = placed lines
 
     q : Found
-    q = found-bare pass.here size live
+    q = found-bare pass.here size active
 
     no-jump : (a : Bool) → pass.here + size ≡ cond (a && false) (unsigned_abs (pos 0)) (pass.here + size)
     no-jump true = refl
@@ -92,12 +92,12 @@ passed-bare pass names lines (read name body) at size defines live same f is b f
     no-end true = refl
     no-end false = refl
 
-    adds : (live : Bool) → IsNumberOf pass.names.keys defines (if live then name else None)
-        → option_map (λ n. (n, record { value = pos pass.here; line = at + 1 })) (name_of pass.names.keys defines) ≡ (if live && true then symbol_given (at + 1) pass.here (pos 0) line else None)
+    adds : (active : Bool) → IsNumberOf pass.names.keys defines (if active then name else None)
+        → option_map (λ n. (n, record { value = pos pass.here; line = at + 1 })) (name_of pass.names.keys defines) ≡ (if active && true then symbol_given (at + 1) pass.here (pos 0) line else None)
     adds true n = rw (named-so pass.names.keys defines name n) (given (at + 1) pass.here (pos 0) body name e.plain)
     adds false n = rw (named-so pass.names.keys defines None n) refl
 
-    faultless : (live : Bool) → IsNumberOf pass.names.keys defines (if live then name else None) → size ≡ (if live then own_size body (pos 0) else 0) → None ≡ (if live then first_fault before line else None)
+    faultless : (active : Bool) → IsNumberOf pass.names.keys defines (if active then name else None) → size ≡ (if active then own_size body (pos 0) else 0) → None ≡ (if active then first_fault before line else None)
     faultless false n s = refl
     faultless true n s =
         let once : is_redefinition (symbols before) name ≡ false = rw (← f.names, ← named-so pass.names.keys defines name n) new in
@@ -105,13 +105,13 @@ passed-bare pass names lines (read name body) at size defines live same f is b f
         = ap (λ n. nat_lt MEMORY_BYTES (address before + n)) (e.unpadded (is_aligning before) (address before) ∙ sym s) ∙ ap (λ a. nat_lt MEMORY_BYTES (a + size)) (sym f.at_address) ∙ le-ltb MEMORY_BYTES (pass.here + size) fits in
         sym (e.plain.first before name ∙ (rw (once, room) refl))
 
-    sizes : (live : Bool) → size ≡ (if live then own_size body (pos 0) else 0) → size ≡ (if live && true then full_size (is_aligning before) pass.here body (pos 0) else 0)
+    sizes : (active : Bool) → size ≡ (if active then own_size body (pos 0) else 0) → size ≡ (if active && true then full_size (is_aligning before) pass.here body (pos 0) else 0)
     sizes true s = s ∙ sym (e.unpadded (is_aligning before) pass.here)
     sizes false s = s
 
     found_now : q ≡ placement_of (place before line)
     found_now =
-        placement-at before line live pass.here None (pos 0) size (sym same ∙ live_here pass before body e.side f) f.at_address (rw e.calm.value refl) (faultless live b.named b.sized) (sizes live b.sized)
+        placement-at before line active pass.here None (pos 0) size (sym same ∙ active_here pass before body e.side f) f.at_address (rw e.calm.value refl) (faultless active b.named b.sized) (sizes active b.sized)
 
 -- what is kept beside the line at a place
 pub info-here : (keys : List Name) (lines : List KeptLine) (place : ℕ) (kept : KeptLine) → AreInfos keys lines → place < length lines → kept ≡ get_or lines place kept → IsInfo keys kept.info kept.several (reading_in kept)

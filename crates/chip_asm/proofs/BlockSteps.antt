@@ -9,7 +9,7 @@ use Rattle.chip_lang.specs.declared.line.Body.TheVariants.{Else, Endif}
 use Rattle.chip_lang.specs.SeenLine.{seen_body}
 use Rattle.chip_asm.specs.declared.block.Block.{Block}
 use Rattle.chip_asm.specs.Layout.{Placed, has_ended, is_side_or_end}
-use Rattle.chip_asm.specs.computed.Walk.{is_live, enclosing}
+use Rattle.chip_asm.specs.computed.Walk.{is_active, enclosing}
 use Rattle.chip_asm.specs.declared.pass.Pass.{Pass}
 use Rattle.chip_asm.specs.inner.Follows.{Follows, block_of}
 use Rattle.chip_asm.specs.inner.Turns.{turned, turn_first}
@@ -33,25 +33,25 @@ not_side Else h k = absurd (h refl)
 not_side Endif h k = absurd (k refl)
 not_side _ h k = refl
 
--- a line that is no ELSE or ENDIF is live where all blocks hold and no END came
-pub live_elsewhere : (before : List Placed) (body : Body) (bs : List Block) → is_side_or_end body ≡ false → has_ended before ≡ false
-    → bs ≡ reverse (map (block_of before) (enclosing before)) → list_all (λ b. b.holds) bs ≡ is_live before body
-unfolding is_live
-live_elsewhere before body bs s e h =
+-- a line that is no ELSE or ENDIF is active where all blocks hold and no END came
+pub active_elsewhere : (before : List Placed) (body : Body) (bs : List Block) → is_side_or_end body ≡ false → has_ended before ≡ false
+    → bs ≡ reverse (map (block_of before) (enclosing before)) → list_all (λ b. b.holds) bs ≡ is_active before body
+unfolding is_active
+active_elsewhere before body bs s e h =
     rw (h, s, e) (list_all-reverse (λ (b : Block). b.holds) (map (block_of before) (enclosing before)) ∙ list_all-map (λ (b : Block). b.holds) (block_of before) (enclosing before))
 
--- such a line is live where the pass says so
-ended_here : (before : List Placed) (body : Body) → has_ended before ≡ true → false ≡ is_live before body
-unfolding is_live
+-- such a line is active where the pass says so
+ended_here : (before : List Placed) (body : Body) → has_ended before ≡ true → false ≡ is_active before body
+unfolding is_active
 ended_here before body h = rw h refl
 
-live_by : (ended live : Bool) (before : List Placed) (body : Body) (bs : List Block) → is_side_or_end body ≡ false → ended ≡ has_ended before
-    → bs ≡ reverse (map (block_of before) (enclosing before)) → live ≡ (not ended && list_all (λ b. b.holds) bs) → live ≡ is_live before body
-live_by false live before body bs s h e l = l ∙ live_elsewhere before body bs s (sym h) e
-live_by true live before body bs s h e l = l ∙ ended_here before body (sym h)
+active_by : (ended active : Bool) (before : List Placed) (body : Body) (bs : List Block) → is_side_or_end body ≡ false → ended ≡ has_ended before
+    → bs ≡ reverse (map (block_of before) (enclosing before)) → active ≡ (not ended && list_all (λ b. b.holds) bs) → active ≡ is_active before body
+active_by false active before body bs s h e l = l ∙ active_elsewhere before body bs s (sym h) e
+active_by true active before body bs s h e l = l ∙ ended_here before body (sym h)
 
-pub live_here : (pass : Pass) (before : List Placed) (body : Body) → is_side_or_end body ≡ false → Follows pass before → pass.live ≡ is_live before body
-live_here pass before body s f = live_by pass.ended pass.live before body pass.blocks.items s f.ended f.open_blocks f.live
+pub active_here : (pass : Pass) (before : List Placed) (body : Body) → is_side_or_end body ≡ false → Follows pass before → pass.active ≡ is_active before body
+active_here pass before body s f = active_by pass.ended pass.active before body pass.blocks.items s f.ended f.open_blocks f.active
 
 set_last : (xs : List Block) (b c : Block) → set (xs ++ b ∷ []) (length xs) c ≡ xs ++ c ∷ []
 set_last [] b c = refl

@@ -6,7 +6,7 @@ use Rattle.chip_lang.specs.declared.limits.TheConstants.{IMAGE_START, MEMORY_BYT
 use Rattle.chip_lang.specs.declared.fault.Fault.{Fault}
 use Rattle.chip_lang.specs.Line.{Body, org, Reading, bad, read}
 use Rattle.chip_asm.specs.Layout.{Placed, body_of, full_size, value_at, value_or_zero, takes_effect, is_org_body, is_backwards, is_past_end, is_negative_space, is_redefinition}
-use Rattle.chip_asm.specs.computed.Walk.{place, placed, is_live, first_fault, symbols, is_aligning, address, fault_of_value, is_misplaced}
+use Rattle.chip_asm.specs.computed.Walk.{place, placed, is_active, first_fault, symbols, is_aligning, address, fault_of_value, is_misplaced}
 use Rattle.chip_asm.proofs.BlockSteps.{reverse-cons}
 use Rattle.chip_asm.proofs.NextLine.{none_from}
 use Rattle.chip_asm.proofs.PlaceSteps.{address-cons}
@@ -51,11 +51,11 @@ read-fits before (read label body) e =
     let second = no_fault (is_redefinition (symbols before) label) _ _ first.1 in
     value-fits (is_aligning before) (address before) body (value_at (symbols before) body) second.1
 
-live-fits : (before : List Placed) (line : Reading) (live : Bool) → (live && is_none (cond live (first_fault before line) None)) ≡ true
+active-fits : (before : List Placed) (line : Reading) (active : Bool) → (active && is_none (cond active (first_fault before line) None)) ≡ true
     → (is_backwards (address before) (body_of line) (value_or_zero (value_at (symbols before) (body_of line))) ≡ false)
     × (is_past_end (is_aligning before) (address before) (body_of line) (value_or_zero (value_at (symbols before) (body_of line))) ≡ false)
-live-fits before line true e = read-fits before line (none_from (first_fault before line) e)
-live-fits before line false e = cc
+active-fits before line true e = read-fits before line (none_from (first_fault before line) e)
+active-fits before line false e = cc
 
 -- where a line stands after these
 record Stands (before : List Placed) (p : Placed) : Type 0 where
@@ -65,7 +65,7 @@ record Stands (before : List Placed) (p : Placed) : Type 0 where
 
 stands : (before : List Placed) (line : Reading) → Stands before (place before line)
 unfolding place
-stands before line = record { here = refl; size = refl; fits = λ e. live-fits before line (is_live before (body_of line)) e }
+stands before line = record { here = refl; size = refl; fits = λ e. active-fits before line (is_active before (body_of line)) e }
 
 -- within memory
 abbrev pub IsWithinMemory : Placed → Type 0

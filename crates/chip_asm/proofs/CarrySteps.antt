@@ -14,7 +14,7 @@ use Rattle.chip_asm.specs.Names.{values_of}
 use Rattle.chip_asm.specs.Program.{bytes_in_code, fault_in_code, names_of_lines}
 use Rattle.chip_asm.specs.computed.Walk.{place, placed}
 use Rattle.chip_asm.specs.inner.Passes.{AreGapsZero, Change, HasCode, IsCarried, IsChange, IsHeld, IsSlot, code_before, is_byte_of, placed_at}
-use Rattle.chip_asm.specs.inner.Placements.{bare_status, found, is_accepted, is_live_status, refusal, status_coded}
+use Rattle.chip_asm.specs.inner.Placements.{bare_status, found, is_accepted, is_active_status, refusal, status_coded}
 use Rattle.chip_asm.specs.inner.Recode.{has_code}
 use Rattle.chip_asm.proofs.Bounds.{IsWithinMemory}
 use Rattle.chip_asm.proofs.ImageSteps.{no-code}
@@ -115,8 +115,8 @@ fresh-held e from new n x line q false slot refused zeros bare =
 -- an accepted line that is noted otherwise, as accepted too
 pub noted-found : (q : Placement) (status : Status) → is_accepted q.status ≡ true → is_accepted status ≡ true → found (record q { status = status }) ≡ found q
 noted-found q status taken accepted =
-    let old = and_parts (is_live_status q.status) (is_none (refusal q.status)) taken in
-    let new = and_parts (is_live_status status) (is_none (refusal status)) accepted in
+    let old = and_parts (is_active_status q.status) (is_none (refusal q.status)) taken in
+    let new = and_parts (is_active_status status) (is_none (refusal status)) accepted in
     rw (new.0, none_from (refusal status) new.1, old.0, none_from (refusal q.status) old.1) refl
 
 pub bare-accepted : (coded : Bool) → is_accepted (bare_status true coded) ≡ true

@@ -9,16 +9,16 @@ use Rattle.std.proofs.lemmas.Option.{get_or_from_slice_get, slice_get_within}
 use Rattle.chip_lang.specs.declared.fault.Fault.{Fault}
 use Rattle.chip_lang.specs.Line.{Reading}
 use Rattle.chip_asm.specs.declared.placement.Placement.{Placement}
-use Rattle.chip_asm.specs.inner.Placements.{found, is_accepted, is_live_status, refusal, status_coded}
+use Rattle.chip_asm.specs.inner.Placements.{found, is_accepted, is_active_status, refusal, status_coded}
 use Rattle.chip_asm.proofs.NextLine.{none_from}
 
 -- an accepted line is found the same, whatever became of its code
 pub found-coded : (q : Placement) (fault : Option Fault) → is_accepted q.status ≡ true → found (record q { status = status_coded fault }) ≡ found q
 found-coded q fault accepted =
-    let both = and_parts (is_live_status q.status) (is_none (refusal q.status)) accepted in
+    let both = and_parts (is_active_status q.status) (is_none (refusal q.status)) accepted in
     rw (both.0, none_from (refusal q.status) both.1) (by fault)
   where
-    by : (f : Option Fault) → found (record q { status = status_coded f }) ≡ record { value = q.value; here = q.here; size = q.size; fault = None; live = true }
+    by : (f : Option Fault) → found (record q { status = status_coded f }) ≡ record { value = q.value; here = q.here; size = q.size; fault = None; active = true }
     by None = refl
     by (Some f) = refl
 

@@ -30,14 +30,14 @@ pub read-found : (lines : List KeptLine) (at : ℕ) (q : Found) (kept : KeptLine
 read-found lines at q kept a inside is = read-at lines at kept a.x.line (slice_get-get_or lines at kept inside ∙ ap Some (sym is)) a.line
 
 -- what is found of a line says what its effect is
-pub effect-at : (lines : List KeptLine) (at : ℕ) (q : Found) (was : KeptLine) (new : Reading) (a : AtPlace (readings_in lines) at q) → reading_in was ≡ a.x.line → HasSameEffect q.live (reading_in was) new
+pub effect-at : (lines : List KeptLine) (at : ℕ) (q : Found) (was : KeptLine) (new : Reading) (a : AtPlace (readings_in lines) at q) → reading_in was ≡ a.x.line → HasSameEffect q.active (reading_in was) new
     → HasSameEffectAt (readings_in lines) at new
 effect-at lines at q was new a read e = record {
   each = λ p there.
       (let it : a.x ≡ p = same_Some a.x p (sym a.at ∙ there) in
-      let live : q.live ≡ p.live = ap (λ r. r.live) a.placement ∙ ap (λ (x : Placed). x.live) it in
+      let active : q.active ≡ p.active = ap (λ r. r.active) a.placement ∙ ap (λ (x : Placed). x.active) it in
       let line : reading_in was ≡ p.line = read ∙ ap (λ (x : Placed). x.line) it in
-      rw (← live, ← line) e);
+      rw (← active, ← line) e);
 }
 
 never-pending : (fault : Option Fault) → status_coded fault ≡ Pending → ⊥

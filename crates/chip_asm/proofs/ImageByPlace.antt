@@ -56,8 +56,8 @@ image-made lines =
 pub image-given : (lines : List Reading) (bytes : List ℕ) (all : List Placed) → image_of_lines lines ≡ Some bytes → ArePlaced lines all → IsImage all bytes
 image-given lines bytes all is a = rw (unfaulty (faults_of_lines lines) (bytes_of_lines (placed lines)) bytes is, only lines all a) (image-made lines)
 
-abbrev fault_from : (live unclosed : Bool) → (first second : Option Fault) → Option Fault
-fault_from live unclosed first second = cond live (cond (is_some (cond unclosed (Some UnclosedIf) first)) (cond unclosed (Some UnclosedIf) first) second) None
+abbrev fault_from : (active unclosed : Bool) → (first second : Option Fault) → Option Fault
+fault_from active unclosed first second = cond active (cond (is_some (cond unclosed (Some UnclosedIf) first)) (cond unclosed (Some UnclosedIf) first) second) None
 
 fault-made : (lines : List Reading) (i : ℕ) (p : Placed) → slice_get (reverse (placed lines)) i ≡ Some p → IsFaultOf (reverse (placed lines)) i p (fault_of (placed lines) p)
 unfolding symbols
@@ -65,13 +65,13 @@ fault-made lines i p at =
     let decided = unclosed lines i p at in
     let u : Bool = is_unclosed (placed lines) p in
     let s : Option Fault = fault_in_code (code_under (placed lines) p) in
-    let live_as = λ (e : p.live ≡ true). ap (λ l. fault_from l u p.fault s) e in
+    let active_as = λ (e : p.active ≡ true). ap (λ l. fault_from l u p.fault s) e in
     let closed_as = λ (closed : IsUnclosed (reverse (placed lines)) i p → ⊥). ap (λ b. fault_from true b p.fault s) (false_from_ne_true u (λ e. closed (decided.0 e))) in
     record {
-      not_live = λ dead. ap (λ l. fault_from l u p.fault s) dead;
-      unclosed = λ x. live_as x.live ∙ ap (λ b. fault_from true b p.fault s) (decided.1 x);
-      first = λ live closed some. live_as live ∙ closed_as closed ∙ ap (λ b. cond b p.fault s) some;
-      second = λ live closed none. live_as live ∙ closed_as closed ∙ ap (λ o. cond (is_some o) o s) none;
+      not_active = λ dead. ap (λ l. fault_from l u p.fault s) dead;
+      unclosed = λ x. active_as x.active ∙ ap (λ b. fault_from true b p.fault s) (decided.1 x);
+      first = λ active closed some. active_as active ∙ closed_as closed ∙ ap (λ b. cond b p.fault s) some;
+      second = λ active closed none. active_as active ∙ closed_as closed ∙ ap (λ o. cond (is_some o) o s) none;
     }
 
 pub fault-given : (lines : List Reading) (all : List Placed) (i : ℕ) (p : Placed) → ArePlaced lines all → slice_get all i ≡ Some p → IsFaultOf all i p (fault_of_line lines (i + 1))

@@ -14,7 +14,7 @@ use Rattle.chip_asm.specs.declared.table.Symbol.{Symbol}
 use Rattle.chip_asm.specs.Names.{Name, lookup_name, values_of}
 use Rattle.chip_asm.specs.Layout.{Placed, body_of, is_redefinition, value_at, value_or_zero}
 use Rattle.chip_asm.specs.Program.{is_unclosed, names_of_lines}
-use Rattle.chip_asm.specs.computed.Walk.{address, first_fault, fault_of_value, is_aligning, is_live, is_misplaced, place, placed, symbols}
+use Rattle.chip_asm.specs.computed.Walk.{address, first_fault, fault_of_value, is_aligning, is_active, is_misplaced, place, placed, symbols}
 use Rattle.chip_asm.specs.inner.Layouts.{final_placement, placements_of}
 use Rattle.chip_asm.specs.inner.Placements.{Found, is_accepted_found}
 use Rattle.chip_asm.proofs.Bounds.{no_fault}
@@ -50,9 +50,9 @@ no-other before (read label body) h =
 accepted-value : (all before : List Placed) (line : Reading) → is_accepted_found (final_placement all (place before line)) ≡ true
     → value_at (symbols before) (body_of line) ≡ Ok (place before line).value
 unfolding place
-accepted-value all before line h = no-other before line (by (is_live before (body_of line)) (is_unclosed all (place before line)) h)
+accepted-value all before line h = no-other before line (by (is_active before (body_of line)) (is_unclosed all (place before line)) h)
   where
-    by : (live unclosed : Bool) → (live && is_none (if unclosed then Some UnclosedIf else (if live then first_fault before line else None))) ≡ true → first_fault before line ≡ None
+    by : (active unclosed : Bool) → (active && is_none (if unclosed then Some UnclosedIf else (if active then first_fault before line else None))) ≡ true → first_fault before line ≡ None
     by false unclosed h = cc
     by true true h = cc
     by true false h = none_from (first_fault before line) h

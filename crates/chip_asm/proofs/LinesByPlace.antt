@@ -165,9 +165,9 @@ if-room true here (ifund n) value h = refl
 if-room false here (ifund n) value h = refl
 if-room aligning here body value h = cc
 
--- an IF without ENDIF is a live IF line
-pub unclosed-parts : (all : List Placed) (x : Placed) → is_unclosed all x ≡ true → (is_if x ≡ true) × (x.live ≡ true)
-unclosed-parts all x h = and_parts (is_if x) x.live (and_parts _ _ (and_parts _ _ h).0).0
+-- an IF without ENDIF is an active IF line
+pub unclosed-parts : (all : List Placed) (x : Placed) → is_unclosed all x ≡ true → (is_if x ≡ true) × (x.active ≡ true)
+unclosed-parts all x h = and_parts (is_if x) x.active (and_parts _ _ (and_parts _ _ h).0).0
 
 refused-size : (lines : List Reading) (n : ℕ) (q : Found) (a : AtPlace lines n q) → is_accepted_found q ≡ false → a.x.size ≡ 0
 refused-size lines n q a refused = by (is_unclosed (placed lines) a.x) refl (ap is_accepted_found (sym a.placement) ∙ refused)
@@ -175,7 +175,7 @@ refused-size lines n q a refused = by (is_unclosed (placed lines) a.x) refl (ap 
     p : Parts (placed (take n lines)) a.x.line
     p = parts (placed (take n lines)) a.x.line
 
-    by : (u : Bool) → is_unclosed (placed lines) a.x ≡ u → (a.x.live && is_none (cond u (Some UnclosedIf) a.x.fault)) ≡ false → a.x.size ≡ 0
+    by : (u : Bool) → is_unclosed (placed lines) a.x ≡ u → (a.x.active && is_none (cond u (Some UnclosedIf) a.x.fault)) ≡ false → a.x.size ≡ 0
     by false unclosed_is h = a.within.2 h
     by true unclosed_is h =
         ap (λ (y : Placed). y.size) a.follows ∙ p.size
@@ -187,22 +187,23 @@ covers-accepted lines n q a address c = true_from_ne_false (is_accepted_found q)
     (let both = and_parts (leb q.here address) (ltb address (q.here + q.size)) c in
     omega (arith, leb-true q.here address both.0, ltb-true address (q.here + q.size) both.1, refused-size lines n q a refused, ap (λ (p : Found). p.size) a.placement)))
 
--- the fault of an accepted line is that of its code, and that of another one is that of the first pass
+-- the fault of an accepted line is that of its code, and that of another one is that of the first
+-- pass
 pub line-fault : (lines : List Reading) (n : ℕ) (q : Found) (a : AtPlace lines n q) → fault_of (placed lines) a.x ≡ cond (is_accepted_found q) (fault_in_code (code_under (placed lines) a.x)) q.fault
 line-fault lines n q a =
-    by a.x.live (first_pass_fault (placed lines) a.x) (fault_in_code (code_under (placed lines) a.x)) none
+    by a.x.active (first_pass_fault (placed lines) a.x) (fault_in_code (code_under (placed lines) a.x)) none
     ∙ ap (λ (p : Found). cond (is_accepted_found p) (fault_in_code (code_under (placed lines) a.x)) p.fault) (sym a.placement)
   where
-    by : (live : Bool) (fault code : Option Fault) → (live ≡ false → fault ≡ None) → cond live (cond (is_some fault) fault code) None ≡ cond (live && is_none fault) code fault
+    by : (active : Bool) (fault code : Option Fault) → (active ≡ false → fault ≡ None) → cond active (cond (is_some fault) fault code) None ≡ cond (active && is_none fault) code fault
     by true None code h = refl
     by true (Some f) code h = refl
     by false fault code h = sym (h refl)
 
-    none : a.x.live ≡ false → first_pass_fault (placed lines) a.x ≡ None
+    none : a.x.active ≡ false → first_pass_fault (placed lines) a.x ≡ None
     none dead =
         let closed : is_unclosed (placed lines) a.x ≡ false = false_from_ne_true (is_unclosed (placed lines) a.x) (λ u. false≢true (sym dead ∙ (unclosed-parts (placed lines) a.x u).1)) in
         let before : List Placed = placed (take n lines) in
-        rw closed (subst (λ (y : Placed). y.live ≡ false → y.fault ≡ None) (sym a.follows) (λ e. (parts before a.x.line).fault ∙ (rw e refl)) dead)
+        rw closed (subst (λ (y : Placed). y.active ≡ false → y.fault ≡ None) (sym a.follows) (λ e. (parts before a.x.line).fault ∙ (rw e refl)) dead)
 
 pub refused-fault : (lines : List Reading) (n : ℕ) (q : Found) (a : AtPlace lines n q) → is_accepted_found q ≡ false → q.fault ≡ fault_of (placed lines) a.x
 refused-fault lines n q a refused = sym (line-fault lines n q a ∙ (rw refused refl))
@@ -215,8 +216,8 @@ accepted-fault lines n q a accepted = line-fault lines n q a ∙ (rw accepted re
 pub accepted-effect : (all : List Placed) (x : Placed) → is_accepted_found (final_placement all x) ≡ true → takes_effect x ≡ true
 accepted-effect all x accepted = by (is_unclosed all x) accepted
   where
-    by : (u : Bool) → (x.live && is_none (cond u (Some UnclosedIf) x.fault)) ≡ true → takes_effect x ≡ true
-    by true h = absurd (false≢true (and_parts x.live false h).1)
+    by : (u : Bool) → (x.active && is_none (cond u (Some UnclosedIf) x.fault)) ≡ true → takes_effect x ≡ true
+    by true h = absurd (false≢true (and_parts x.active false h).1)
     by false h = h
 
 own-room : (lines : List Reading) (n : ℕ) (q : Found) (a : AtPlace lines n q) → is_accepted_found q ≡ true → own_size (body_of a.x.line) (place (placed (take n lines)) a.x.line).value ≤ q.size

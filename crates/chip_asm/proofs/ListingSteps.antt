@@ -91,9 +91,9 @@ shown-same (suc n) a b h =
     ∙ sym (bytes-more n b)
     ∙ ap (λ m. bytes_shown m b) (add-one n)
 
-field-by : (fault : Option Fault) (live : Bool) (body : Body) (here : ℕ) (value : ℤ) (size : ℕ) (kept own : List ℕ) → ((k : ℕ) → k < size → get_or kept k 0 ≡ get_or own k 0)
-    → field_shown fault live body here value size kept ≡ field_shown fault live body here value size own
-field-by (Some f) live body here value size kept own k = refl
+field-by : (fault : Option Fault) (active : Bool) (body : Body) (here : ℕ) (value : ℤ) (size : ℕ) (kept own : List ℕ) → ((k : ℕ) → k < size → get_or kept k 0 ≡ get_or own k 0)
+    → field_shown fault active body here value size kept ≡ field_shown fault active body here value size own
+field-by (Some f) active body here value size kept own k = refl
 field-by None false body here value size kept own k = refl
 field-by None true body here value size kept own k =
     let same : bytes_shown (min 6 size) kept ≡ bytes_shown (min 6 size) own = shown-same (min 6 size) kept own (λ i h. k i (let few = min-le_right 6 size in omega (arith, few, h))) in
@@ -102,15 +102,15 @@ field-by None true body here value size kept own k =
 -- what is kept of a line gives its line of the listing
 same-line : (lines : List KeptLine) (q : Found) (kept : KeptLine) (i : ℕ) (a : AtPlace (readings_in lines) i q) (fault : Option Fault) (bytes : List ℕ) → fault ≡ fault_of (placed (readings_in lines)) a.x
     → ((k : ℕ) → k < a.x.size → get_or bytes k 0 ≡ get_or (bytes_in_code (code_under (placed (readings_in lines)) a.x)) k 0)
-    → reading_in kept ≡ a.x.line → shown (i + 1) q.live q.here (field_shown fault q.live (body_of (reading_in kept)) q.here q.value q.size bytes) (more_shown fault q.size) kept.text
+    → reading_in kept ≡ a.x.line → shown (i + 1) q.active q.here (field_shown fault q.active (body_of (reading_in kept)) q.here q.value q.size bytes) (more_shown fault q.size) kept.text
     ≡ line_shown (placed (readings_in lines)) a.x kept.text
 same-line lines q kept i a fault bytes f own read =
-    ap (λ (p : Found). shown (i + 1) p.live p.here (field_shown fault p.live (body_of (reading_in kept)) p.here p.value p.size bytes) (more_shown fault p.size) kept.text) a.placement
-    ∙ ap (λ n. shown n a.x.live a.x.here (field_shown fault a.x.live (body_of (reading_in kept)) a.x.here a.x.value a.x.size bytes) (more_shown fault a.x.size) kept.text) (sym (number-at (readings_in lines) i a.x a.at))
-    ∙ ap (λ g. shown a.x.number a.x.live a.x.here (field_shown g a.x.live (body_of (reading_in kept)) a.x.here a.x.value a.x.size bytes) (more_shown g a.x.size) kept.text) f
-    ∙ ap (λ r. shown a.x.number a.x.live a.x.here (field_shown (fault_of (placed (readings_in lines)) a.x) a.x.live (body_of r) a.x.here a.x.value a.x.size bytes) (more_shown (fault_of (placed (readings_in lines)) a.x) a.x.size) kept.text) read
-    ∙ ap (λ g. shown a.x.number a.x.live a.x.here g (more_shown (fault_of (placed (readings_in lines)) a.x) a.x.size) kept.text)
-    (field-by (fault_of (placed (readings_in lines)) a.x) a.x.live (body_of a.x.line) a.x.here a.x.value a.x.size bytes (bytes_in_code (code_under (placed (readings_in lines)) a.x)) own)
+    ap (λ (p : Found). shown (i + 1) p.active p.here (field_shown fault p.active (body_of (reading_in kept)) p.here p.value p.size bytes) (more_shown fault p.size) kept.text) a.placement
+    ∙ ap (λ n. shown n a.x.active a.x.here (field_shown fault a.x.active (body_of (reading_in kept)) a.x.here a.x.value a.x.size bytes) (more_shown fault a.x.size) kept.text) (sym (number-at (readings_in lines) i a.x a.at))
+    ∙ ap (λ g. shown a.x.number a.x.active a.x.here (field_shown g a.x.active (body_of (reading_in kept)) a.x.here a.x.value a.x.size bytes) (more_shown g a.x.size) kept.text) f
+    ∙ ap (λ r. shown a.x.number a.x.active a.x.here (field_shown (fault_of (placed (readings_in lines)) a.x) a.x.active (body_of r) a.x.here a.x.value a.x.size bytes) (more_shown (fault_of (placed (readings_in lines)) a.x) a.x.size) kept.text) read
+    ∙ ap (λ g. shown a.x.number a.x.active a.x.here g (more_shown (fault_of (placed (readings_in lines)) a.x) a.x.size) kept.text)
+    (field-by (fault_of (placed (readings_in lines)) a.x) a.x.active (body_of a.x.line) a.x.here a.x.value a.x.size bytes (bytes_in_code (code_under (placed (readings_in lines)) a.x)) own)
 
 some-is : {X : Type 0} (x y : X) → Some x ≡ Some y → x ≡ y
 some-is x y e = cc
@@ -129,7 +129,7 @@ pub listed-more : (lines : List KeptLine) (q : Found) (kept : KeptLine) (i : ℕ
     → fault ≡ fault_of (placed (readings_in lines)) a.x
     → ((k : ℕ) → k < a.x.size → get_or bytes k 0 ≡ get_or (bytes_in_code (code_under (placed (readings_in lines)) a.x)) k 0)
     → reading_in kept ≡ a.x.line → listed lines (i + 1)
-    ≡ listed lines i ++ shown (i + 1) q.live q.here (field_shown fault q.live (body_of (reading_in kept)) q.here q.value q.size bytes) (more_shown fault q.size) kept.text
+    ≡ listed lines i ++ shown (i + 1) q.active q.here (field_shown fault q.active (body_of (reading_in kept)) q.here q.value q.size bytes) (more_shown fault q.size) kept.text
 listed-more lines q kept i a fault bytes inside is f own read =
     let text : slice_get (texts_in lines) i ≡ Some kept.text
     = slice_get-map (λ (k : KeptLine). k.text) lines i ∙ ap (option_map (λ (k : KeptLine). k.text)) (slice_get-get_or lines i kept inside ∙ ap Some (sym is)) in

@@ -38,7 +38,7 @@ list_any-blocks all place [] = refl
 list_any-blocks all place (o ∷ os) = ap (λ b. opens_at place o || b) (list_any-blocks all place os)
 
 by_mark : (u : Bool) (all : List Placed) (p : Placed) (q : Placement) → is_unclosed all p ≡ u → found q ≡ placement_of p → found (if u then unclosed q else q) ≡ final_placement all p
-by_mark true all p q e is = ap (λ (f : Found). record f { fault = Some UnclosedIf; live = true }) is ∙ (let live = (unclosed-parts all p e).1 in rw (e, live) refl)
+by_mark true all p q e is = ap (λ (f : Found). record f { fault = Some UnclosedIf; active = true }) is ∙ (let active = (unclosed-parts all p e).1 in rw (e, active) refl)
 by_mark false all p q e is = rw e is
 
 -- a line whose block is open at the end is marked, and no other

@@ -12,7 +12,7 @@ use Rattle.chip_lang.specs.Uses.{name_defined}
 use Rattle.chip_asm.specs.declared.table.Symbol.{Symbol}
 use Rattle.chip_asm.specs.Names.{Name, lookup_name}
 use Rattle.chip_asm.specs.Layout.{Placed, body_of, symbol_of, symbol_given, value_given, takes_effect, is_redefinition}
-use Rattle.chip_asm.specs.computed.Walk.{place, placed, is_live, first_fault, symbols, is_misplaced}
+use Rattle.chip_asm.specs.computed.Walk.{place, placed, is_active, first_fault, symbols, is_misplaced}
 use Rattle.chip_asm.proofs.Bounds.{no_fault}
 use Rattle.chip_asm.proofs.NextLine.{none_from}
 use Rattle.chip_asm.proofs.PlaceSteps.{symbols-cons}
@@ -37,13 +37,13 @@ new-name before (read label body) e =
     let first = no_fault (is_misplaced before body) _ _ e in
     (no_fault (is_redefinition (symbols before) label) _ _ first.1).0
 
-live-new : (before : List Placed) (line : Reading) (live : Bool) → (live && is_none (cond live (first_fault before line) None)) ≡ true → is_redefinition (symbols before) (name_defined line) ≡ false
-live-new before line true e = new-name before line (none_from (first_fault before line) e)
-live-new before line false e = cc
+active-new : (before : List Placed) (line : Reading) (active : Bool) → (active && is_none (cond active (first_fault before line) None)) ≡ true → is_redefinition (symbols before) (name_defined line) ≡ false
+active-new before line true e = new-name before line (none_from (first_fault before line) e)
+active-new before line false e = cc
 
 accepted-new : (before : List Placed) (line : Reading) → takes_effect (place before line) ≡ true → is_redefinition (symbols before) (name_defined line) ≡ false
 unfolding place
-accepted-new before line e = live-new before line (is_live before (body_of line)) e
+accepted-new before line e = active-new before line (is_active before (body_of line)) e
 
 same-line : (before : List Placed) (line : Reading) → (place before line).line ≡ line
 unfolding place

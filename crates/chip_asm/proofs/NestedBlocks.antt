@@ -1,11 +1,11 @@
--- An IF line is live just where the blocks around it hold, unless an END came.
+-- An IF line is active just where the blocks around it hold, unless an END came.
 use Rattle.std.proofs.Common.{◌≡◌, ◌-◌, Bool, true, false, ◌&&◌, ◌||◌, List, [], ◌∷◌, ◌++◌, map, reverse, fold, length, length-append, refl, ap, sym, subst, ◌∙◌, Some, None, slice_get, arith}
 use Rattle.std.specs.List.{list_all}
 use Rattle.std.proofs.lemmas.List.Folds.{list_all-append, list_all-map}
 use Rattle.chip_lang.specs.Line.{Body, Reading, ifdef, ifund, else_line, endif}
 use Rattle.chip_asm.specs.declared.block.Block.{Block}
 use Rattle.chip_asm.specs.Layout.{Placed, body_of, has_ended, is_if_body, is_side_or_end}
-use Rattle.chip_asm.specs.computed.Walk.{place, placed, is_live, enclosing}
+use Rattle.chip_asm.specs.computed.Walk.{place, placed, is_active, enclosing}
 use Rattle.chip_asm.specs.inner.Follows.{block_of}
 use Rattle.chip_asm.specs.inner.Turns.{AreNested, moved, turn_first, close_first}
 use Rattle.chip_asm.proofs.BlockSteps.{reverse-cons, list_all-reverse}
@@ -30,7 +30,7 @@ nested-closed : (bs : List Block) → AreNested bs → AreNested (close_first bs
 nested-closed [] n = tt
 nested-closed (b ∷ bs) n = n.1
 
-nested-moved : (body : Body) (opened : Block) (bs : List Block) → (is_if_body body ≡ true → opened.live ≡ list_all (λ (o : Block). o.holds) bs) → AreNested bs → AreNested (moved body opened bs)
+nested-moved : (body : Body) (opened : Block) (bs : List Block) → (is_if_body body ≡ true → opened.active ≡ list_all (λ (o : Block). o.holds) bs) → AreNested bs → AreNested (moved body opened bs)
 nested-moved (ifdef name) opened bs o n = (o refl, n)
 nested-moved (ifund name) opened bs o n = (o refl, n)
 nested-moved else_line opened bs o n = nested-turned bs n
@@ -42,28 +42,28 @@ if_not_side (ifdef name) e = refl
 if_not_side (ifund name) e = refl
 if_not_side _ e = cc
 
-live-if : (before : List Placed) (body : Body) → is_if_body body ≡ true → has_ended before ≡ false
-    → is_live before body ≡ list_all (λ (o : Block). o.holds) (map (block_of before) (enclosing before))
-unfolding is_live
-live-if before body e yet = rw (if_not_side body e, yet) (sym (list_all-map (λ (o : Block). o.holds) (block_of before) (enclosing before)))
+active-if : (before : List Placed) (body : Body) → is_if_body body ≡ true → has_ended before ≡ false
+    → is_active before body ≡ list_all (λ (o : Block). o.holds) (map (block_of before) (enclosing before))
+unfolding is_active
+active-if before body e yet = rw (if_not_side body e, yet) (sym (list_all-map (λ (o : Block). o.holds) (block_of before) (enclosing before)))
 
 or_false : (a b : Bool) → (a || b) ≡ false → b ≡ false
 or_false true b e = cc
 or_false false b e = e
 
-place-live : (before : List Placed) (line : Reading) → (place before line).live ≡ is_live before (body_of line)
+place-active : (before : List Placed) (line : Reading) → (place before line).active ≡ is_active before (body_of line)
 unfolding place
-place-live before line = refl
+place-active before line = refl
 
 nests-place : (before : List Placed) (line : Reading) → IsNumbered before → Nests before → Nests (place before line ∷ before)
 nests-place before line numbered n yet =
     let p = place before line in
     let bs = map (block_of before) (enclosing before) in
     let no_end : has_ended before ≡ false = or_false _ (has_ended before) (sym (has_ended-cons p before) ∙ yet) in
-    let opened : Block = record { number = p.number; live = p.live; holds = p.condition; has_else = false } in
-    let live : is_if_body (body_of p.line) ≡ true → opened.live ≡ list_all (λ (o : Block). o.holds) bs =
-    λ e. place-live before line ∙ live-if before (body_of line) (ap (λ l. is_if_body (body_of l)) (sym (line-at before line)) ∙ e) no_end in
-    subst AreNested (sym (blocks-cons p before (numbered-place before line numbered))) (nested-moved (body_of p.line) opened bs live (n no_end))
+    let opened : Block = record { number = p.number; active = p.active; holds = p.condition; has_else = false } in
+    let active : is_if_body (body_of p.line) ≡ true → opened.active ≡ list_all (λ (o : Block). o.holds) bs =
+    λ e. place-active before line ∙ active-if before (body_of line) (ap (λ l. is_if_body (body_of l)) (sym (line-at before line)) ∙ e) no_end in
+    subst AreNested (sym (blocks-cons p before (numbered-place before line numbered))) (nested-moved (body_of p.line) opened bs active (n no_end))
 
 nests-fold : (before : List Placed) (lines : List Reading) → IsNumbered before → Nests before → Nests (fold onto before lines)
 nests-fold before [] numbered n = n
@@ -85,7 +85,7 @@ and_true false b = refl
 
 -- whether all hold, as the last one says
 all-by-last : (items nearest : List Block) (b : Block) → items ≡ reverse nearest → AreNested nearest → slice_get items (length items - 1) ≡ Some b
-    → (b.live && b.holds) ≡ list_all (λ (o : Block). o.holds) items
+    → (b.active && b.holds) ≡ list_all (λ (o : Block). o.holds) items
 all-by-last items [] b e n at = let none : Some b ≡ None = sym at ∙ ap (λ (l : List Block). slice_get l (length items - 1)) e in cc
 all-by-last items (x ∷ outer) b e n at =
     let split : items ≡ reverse outer ++ x ∷ [] = e ∙ reverse-cons x outer in
@@ -94,12 +94,12 @@ all-by-last items (x ∷ outer) b e n at =
     let same : x ≡ b = (let here = at-end (reverse outer) [] x in cc) in
     let whole : list_all (λ (o : Block). o.holds) items ≡ (list_all (λ (o : Block). o.holds) (reverse outer) && (x.holds && true))
     = ap (list_all (λ (o : Block). o.holds)) split ∙ list_all-append (λ (o : Block). o.holds) (reverse outer) (x ∷ []) in
-    ap (λ (o : Block). o.live && o.holds) (sym same) ∙ ap (λ l. l && x.holds) (n.0 ∙ sym (list_all-reverse (λ (o : Block). o.holds) outer)) ∙ sym (and_true _ x.holds) ∙ sym whole
+    ap (λ (o : Block). o.active && o.holds) (sym same) ∙ ap (λ l. l && x.holds) (n.0 ∙ sym (list_all-reverse (λ (o : Block). o.holds) outer)) ∙ sym (and_true _ x.holds) ∙ sym whole
 
 pub holds-by-last : (items nearest : List Block) (b : Block) → items ≡ reverse nearest → AreNested nearest → slice_get items (length items - 1) ≡ Some b
-    → b.live ≡ true → b.holds ≡ list_all (λ (o : Block). o.holds) items
-holds-by-last items nearest b e n at live = ap (λ l. l && b.holds) (sym live) ∙ all-by-last items nearest b e n at
+    → b.active ≡ true → b.holds ≡ list_all (λ (o : Block). o.holds) items
+holds-by-last items nearest b e n at active = ap (λ l. l && b.holds) (sym active) ∙ all-by-last items nearest b e n at
 
 pub fails-by-last : (items nearest : List Block) (b : Block) → items ≡ reverse nearest → AreNested nearest → slice_get items (length items - 1) ≡ Some b
-    → b.live ≡ false → b.live ≡ list_all (λ (o : Block). o.holds) items
+    → b.active ≡ false → b.active ≡ list_all (λ (o : Block). o.holds) items
 fails-by-last items nearest b e n at dead = dead ∙ ap (λ l. l && b.holds) (sym dead) ∙ all-by-last items nearest b e n at

@@ -6,7 +6,7 @@ use Rattle.chip_lang.specs.Line.{Body, Reading}
 use Rattle.chip_asm.specs.declared.block.Block.{Block}
 use Rattle.chip_asm.specs.declared.pass.Pass.{Pass}
 use Rattle.chip_asm.specs.Layout.{Placed, body_of, full_size, value_at, value_or_zero, is_end_body, condition_of, symbol_given, has_ended}
-use Rattle.chip_asm.specs.computed.Walk.{place, placed, is_live, first_fault, symbols, is_aligning, address, fault_of_value, enclosing}
+use Rattle.chip_asm.specs.computed.Walk.{place, placed, is_active, first_fault, symbols, is_aligning, address, fault_of_value, enclosing}
 use Rattle.chip_asm.specs.inner.Follows.{Follows, block_of, placement_of, next_address, next_aligning}
 use Rattle.chip_asm.specs.inner.Placements.{Found, is_accepted_found}
 use Rattle.chip_asm.specs.inner.Turns.{moved, AreNested}
@@ -16,25 +16,25 @@ use Rattle.chip_asm.proofs.PlaceSteps.{address-cons, aligning-cons, has_ended-co
 use Rattle.chip_asm.proofs.Placing.{placed-push, line-at, numbered-next, length-placed}
 
 -- the parts of a placement, one by one
-pub placement-at : (before : List Placed) (line : Reading) (live : Bool) (here : ℕ) (fault : Option Fault) (value : ℤ) (size : ℕ)
-    → live ≡ is_live before (body_of line) → here ≡ address before
+pub placement-at : (before : List Placed) (line : Reading) (active : Bool) (here : ℕ) (fault : Option Fault) (value : ℤ) (size : ℕ)
+    → active ≡ is_active before (body_of line) → here ≡ address before
     → value ≡ value_or_zero (value_at (symbols before) (body_of line))
-    → fault ≡ (if live then first_fault before line else None)
-    → size ≡ (if live && is_none fault then full_size (is_aligning before) here (body_of line) value else 0)
-    → (let made : Found = record { live = live; here = here; fault = fault; value = value; size = size } in made ≡ placement_of (place before line))
+    → fault ≡ (if active then first_fault before line else None)
+    → size ≡ (if active && is_none fault then full_size (is_aligning before) here (body_of line) value else 0)
+    → (let made : Found = record { active = active; here = here; fault = fault; value = value; size = size } in made ≡ placement_of (place before line))
 unfolding place
-placement-at before line live here fault value size l h v f s = rw (s, f, v, h, l) refl
+placement-at before line active here fault value size l h v f s = rw (s, f, v, h, l) refl
 
 -- what the state is after a line of which this holds
 pub record Advances (pass next : Pass) (line : Reading) (q : Found) (number : ℕ) : Type 0 where
   pub at_address : next.here ≡ next_address (is_accepted_found q) pass.here (body_of line) q.value q.size
   pub aligning : next.aligning ≡ next_aligning (is_accepted_found q) pass.aligning (body_of line)
-  pub ended : next.ended ≡ ((q.live && is_end_body (body_of line)) || pass.ended)
+  pub ended : next.ended ≡ ((q.active && is_end_body (body_of line)) || pass.ended)
   pub names : next.names.symbols ≡ pass.names.symbols ++ option_to_list (if is_accepted_found q then symbol_given number pass.here q.value line else None)
   pub open_blocks : (nearest : List Block) → pass.blocks.items ≡ reverse nearest
-      → next.blocks.items ≡ reverse (moved (body_of line) (record { number = number; live = q.live; holds = condition_of pass.names.symbols (body_of line); has_else = false }) nearest)
-  pub live : (nearest : List Block) → next.blocks.items ≡ reverse nearest → (next.ended ≡ false → AreNested nearest)
-      → next.live ≡ (not next.ended && list_all (λ b. b.holds) next.blocks.items)
+      → next.blocks.items ≡ reverse (moved (body_of line) (record { number = number; active = q.active; holds = condition_of pass.names.symbols (body_of line); has_else = false }) nearest)
+  pub active : (nearest : List Block) → next.blocks.items ≡ reverse nearest → (next.ended ≡ false → AreNested nearest)
+      → next.active ≡ (not next.ended && list_all (λ b. b.holds) next.blocks.items)
 
 number-at : (before : List Placed) (line : Reading) → (place before line).number ≡ length before + 1
 unfolding place
@@ -52,7 +52,7 @@ blocks-next : (pass next : Pass) (before : List Placed) (p : Placed) (number : �
     → p.condition ≡ condition_of (symbols before) (body_of p.line) → Follows pass before → Advances pass next p.line (placement_of p) number
     → next.blocks.items ≡ reverse (map (block_of (p ∷ before)) (enclosing (p ∷ before)))
 blocks-next pass next before p number numbered is_number at_condition f a =
-    let turned_to = λ (holding : Bool). reverse (moved (body_of p.line) (record { number = number; live = p.live; holds = holding; has_else = false }) (map (block_of before) (enclosing before))) in
+    let turned_to = λ (holding : Bool). reverse (moved (body_of p.line) (record { number = number; active = p.active; holds = holding; has_else = false }) (map (block_of before) (enclosing before))) in
     let e : next.blocks.items ≡ turned_to (condition_of pass.names.symbols (body_of p.line)) = a.open_blocks (map (block_of before) (enclosing before)) f.open_blocks in
     let k : condition_of pass.names.symbols (body_of p.line) ≡ p.condition = ap (λ names. condition_of names (body_of p.line)) f.names ∙ sym at_condition in
     e ∙ ap turned_to k ∙ (rw is_number (ap reverse (sym (blocks-cons p before numbered))))
@@ -69,7 +69,7 @@ follows-next pass next before p number numbered nests at_here at_condition is_nu
       ended = ended;
       open_blocks = open_blocks;
       names = a.names ∙ (rw (f.names, f.at_address, ← at_here, is_number) (sym (symbols-cons p before)));
-      live = a.live (map (block_of (p ∷ before)) (enclosing (p ∷ before))) open_blocks (λ yet. nests (sym ended ∙ yet));
+      active = a.active (map (block_of (p ∷ before)) (enclosing (p ∷ before))) open_blocks (λ yet. nests (sym ended ∙ yet));
     }
 
 -- a whole list of lines, and one line more

@@ -97,14 +97,14 @@ close-rest : (before os : List Placed) → map (block_of before) (rest_of os) �
 close-rest before [] = refl
 close-rest before (o ∷ os) = refl
 
-opened-here : (p : Placed) (before : List Placed) → IsNumbered (p ∷ before) → is_else p ≡ false → block_of (p ∷ before) p ≡ record { number = p.number; live = p.live; holds = p.condition; has_else = false }
+opened-here : (p : Placed) (before : List Placed) → IsNumbered (p ∷ before) → is_else p ≡ false → block_of (p ∷ before) p ≡ record { number = p.number; active = p.active; holds = p.condition; has_else = false }
 unfolding has_else
 opened-here p before n e =
     let none : has_else before p ≡ false = has_else-later before p n.2 (omega (arith, n.0)) in
     rw (e, none) refl
 
 moved-by : (p : Placed) (before : List Placed) (b : Body) → body_of p.line ≡ b → IsNumbered (p ∷ before)
-    → map (block_of (p ∷ before)) (open_blocks (p ∷ before)) ≡ moved b (record { number = p.number; live = p.live; holds = p.condition; has_else = false }) (map (block_of before) (open_blocks before))
+    → map (block_of (p ∷ before)) (open_blocks (p ∷ before)) ≡ moved b (record { number = p.number; active = p.active; holds = p.condition; has_else = false }) (map (block_of before) (open_blocks before))
 moved-by p before (ifdef name) e n =
     let i : is_if p ≡ true = ap is_if_body e in
     let l : is_else p ≡ false = ap is_else_body e in
@@ -130,5 +130,5 @@ moved-by p before _ e n =
 
 -- what a line does to the blocks
 pub blocks-cons : (p : Placed) (before : List Placed) → IsNumbered (p ∷ before)
-    → map (block_of (p ∷ before)) (enclosing (p ∷ before)) ≡ moved (body_of p.line) (record { number = p.number; live = p.live; holds = p.condition; has_else = false }) (map (block_of before) (enclosing before))
+    → map (block_of (p ∷ before)) (enclosing (p ∷ before)) ≡ moved (body_of p.line) (record { number = p.number; active = p.active; holds = p.condition; has_else = false }) (map (block_of before) (enclosing before))
 blocks-cons p before n = rw (enclosing-open (p ∷ before), enclosing-open before) (moved-by p before (body_of p.line) refl n)

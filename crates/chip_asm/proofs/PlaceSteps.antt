@@ -24,7 +24,7 @@ address_by p before false e =
 pub address-cons : (p : Placed) (before : List Placed) → address (p ∷ before) ≡ cond (is_origin p) (unsigned_abs p.value) (address before + p.size)
 address-cons p before = address_by p before (is_origin p) refl
 
-pub has_ended-cons : (p : Placed) (before : List Placed) → has_ended (p ∷ before) ≡ ((p.live && is_end_body (body_of p.line)) || has_ended before)
+pub has_ended-cons : (p : Placed) (before : List Placed) → has_ended (p ∷ before) ≡ ((p.active && is_end_body (body_of p.line)) || has_ended before)
 unfolding has_ended
 has_ended-cons p before = refl
 

@@ -12,8 +12,8 @@ use Rattle.chip_lang.specs.declared.fault.Fault.{Fault}
 use Rattle.chip_lang.specs.declared.fault.Fault.TheVariants.{DefinedTwice, StrayBranch, OutOfRange, OrgBelowHere, PastMemory}
 use Rattle.chip_lang.specs.Line.{Body, else_line, endif, Reading, bad, read, fault_if, first_that_holds as first_fault_of}
 use Rattle.chip_asm.specs.Layout.{Placed, body_of, is_side_or_end, is_origin, is_align, is_align_off_body, first_of, has_else, has_ended, holds, is_redefinition, is_negative_space, is_backwards, is_past_end, value_at, value_or_zero, full_size}
-use Rattle.chip_asm.specs.computed.Walk.{place, placed, is_aligning, address, symbols, enclosing, is_live, is_misplaced, first_fault, fault_of_value}
-use Rattle.chip_asm.specs.Places.{Passes, IsLast, IsFromLast, Encloses, IsLive, sizes, fault_in_value, is_stray, first_pass_faults, IsPlaced, ArePlaced}
+use Rattle.chip_asm.specs.computed.Walk.{place, placed, is_aligning, address, symbols, enclosing, is_active, is_misplaced, first_fault, fault_of_value}
+use Rattle.chip_asm.specs.Places.{Passes, IsLast, IsFromLast, Encloses, IsActive, sizes, fault_in_value, is_stray, first_pass_faults, IsPlaced, ArePlaced}
 use Rattle.chip_asm.proofs.BlockSteps.{reverse-cons}
 use Rattle.chip_asm.proofs.LastLine.{at-end, one-side, same-there, Search, found, nowhere, search-last, Opener, opener, closed, last-opener, all-enclosing, enclosing-all, any-turned}
 use Rattle.chip_asm.proofs.Placing.{onto}
@@ -103,7 +103,7 @@ block-of r = by (last-opener r)
     by (opener j o l is) = given-last (Encloses (reverse r)) number_in _ _ (one-encloses (reverse r)) j o l (rw is refl)
     by (closed none is) = given-none (Encloses (reverse r)) number_in _ _ none (rw is refl)
 
--- whether a line is live
+-- whether a line is active
 
 pub ended-turned : (r : List Placed) → has_ended (reverse r) ≡ has_ended r
 unfolding has_ended
@@ -117,27 +117,27 @@ holds-turned : (r : List Placed) (o : Placed) → holds (reverse r) o ≡ holds 
 holds-turned r o = rw (else-turned r o) refl
 
 abbrev reached : List Placed → Bool → Bool
-reached r side = cond side (option_map_or (λ o. o.live) (first_of (enclosing r)) true) (list_all (holds r) (enclosing r))
+reached r side = cond side (option_map_or (λ o. o.active) (first_of (enclosing r)) true) (list_all (holds r) (enclosing r))
 
-side-live : (r : List Placed) → option_map_or (λ o. o.live) (first_of (enclosing r)) true ≡ true → (j : ℕ) (o : Placed) → IsLast (Encloses (reverse r)) j o → o.live ≡ true
-side-live r h j o l = by (last-opener r)
+side-active : (r : List Placed) → option_map_or (λ o. o.active) (first_of (enclosing r)) true ≡ true → (j : ℕ) (o : Placed) → IsLast (Encloses (reverse r)) j o → o.active ≡ true
+side-active r h j o l = by (last-opener r)
   where
-    by : Opener r → o.live ≡ true
+    by : Opener r → o.active ≡ true
     by (opener k q m is) =
         let at : j ≡ k = le_antisymm (m.latest j o l.fits) (l.latest k q m.fits) in
         let same : o ≡ q = one-encloses (reverse r) k o q (subst (λ (n : ℕ). Encloses (reverse r) n o) at l.fits) m.fits in
-        ap (λ (p : Placed). p.live) same ∙ (rw is at h)
+        ap (λ (p : Placed). p.active) same ∙ (rw is at h)
     by (closed none is) = absurd (none j o l.fits)
 
-live-side : (r : List Placed) → ((j : ℕ) (o : Placed) → IsLast (Encloses (reverse r)) j o → o.live ≡ true) → option_map_or (λ o. o.live) (first_of (enclosing r)) true ≡ true
-live-side r h = by (last-opener r)
+active-side : (r : List Placed) → ((j : ℕ) (o : Placed) → IsLast (Encloses (reverse r)) j o → o.active ≡ true) → option_map_or (λ o. o.active) (first_of (enclosing r)) true ≡ true
+active-side r h = by (last-opener r)
   where
-    by : Opener r → option_map_or (λ o. o.live) (first_of (enclosing r)) true ≡ true
+    by : Opener r → option_map_or (λ o. o.active) (first_of (enclosing r)) true ≡ true
     by (opener j o l is) = rw is (h j o l)
     by (closed none is) = rw is refl
 
-live-from : (r : List Placed) (body : Body) (side : Bool) → is_side_or_end body ≡ side → (not (has_ended r) && reached r side) ≡ true → IsLive (reverse r) body
-live-from r body side e h = by side e (and_parts (not (has_ended r)) (reached r side) h).0 (and_parts (not (has_ended r)) (reached r side) h).1
+active-from : (r : List Placed) (body : Body) (side : Bool) → is_side_or_end body ≡ side → (not (has_ended r) && reached r side) ≡ true → IsActive (reverse r) body
+active-from r body side e h = by side e (and_parts (not (has_ended r)) (reached r side) h).0 (and_parts (not (has_ended r)) (reached r side) h).1
   where
     open_yet : not (has_ended r) ≡ true → has_ended (reverse r) ≡ false
     open_yet k = ended-turned r ∙ negated (has_ended r) k
@@ -146,25 +146,25 @@ live-from r body side e h = by side e (and_parts (not (has_ended r)) (reached r 
         negated true k = cc
         negated false k = refl
 
-    by : (s : Bool) → is_side_or_end body ≡ s → not (has_ended r) ≡ true → reached r s ≡ true → IsLive (reverse r) body
-    by true e k g = record { not_ended = open_yet k; side_or_end = λ is. side-live r g; other = λ is. absurd (let never : true ≡ false = sym e ∙ is in cc) }
+    by : (s : Bool) → is_side_or_end body ≡ s → not (has_ended r) ≡ true → reached r s ≡ true → IsActive (reverse r) body
+    by true e k g = record { not_ended = open_yet k; side_or_end = λ is. side-active r g; other = λ is. absurd (let never : true ≡ false = sym e ∙ is in cc) }
     by false e k g = record {
       not_ended = open_yet k;
       side_or_end = λ is. absurd (let never : false ≡ true = sym e ∙ is in cc);
       other = λ is j o n. holds-turned r o ∙ all-enclosing (holds r) r g j o n;
     }
 
-live-to : (r : List Placed) (body : Body) (side : Bool) → is_side_or_end body ≡ side → IsLive (reverse r) body → (not (has_ended r) && reached r side) ≡ true
-live-to r body true e l =
+active-to : (r : List Placed) (body : Body) (side : Bool) → is_side_or_end body ≡ side → IsActive (reverse r) body → (not (has_ended r) && reached r side) ≡ true
+active-to r body true e l =
     let yet : has_ended r ≡ false = sym (ended-turned r) ∙ l.not_ended in
-    rw (yet, live-side r (l.side_or_end e)) refl
-live-to r body false e l =
+    rw (yet, active-side r (l.side_or_end e)) refl
+active-to r body false e l =
     let yet : has_ended r ≡ false = sym (ended-turned r) ∙ l.not_ended in
     rw (yet, enclosing-all (holds r) r (λ j o n. sym (holds-turned r o) ∙ l.other e j o n)) refl
 
-live-decides : (r : List Placed) (body : Body) → Decides (is_live r body) (IsLive (reverse r) body)
-unfolding is_live
-live-decides r body = (live-from r body (is_side_or_end body) refl, live-to r body (is_side_or_end body) refl)
+active-decides : (r : List Placed) (body : Body) → Decides (is_active r body) (IsActive (reverse r) body)
+unfolding is_active
+active-decides r body = (active-from r body (is_side_or_end body) refl, active-to r body (is_side_or_end body) refl)
 
 -- the first fault
 
@@ -207,8 +207,8 @@ value-same aligning here body (Ok v) =
     (next-fault (is_backwards here body v) (is_backwards here body v) OrgBelowHere last _ refl (next-fault (is_past_end aligning here body v) (is_past_end aligning here body v) PastMemory [] None refl refl))
 
 abbrev with_parts : ℕ → Reading → Option ℕ → Bool → Bool → ℕ → ℤ → Option Fault → ℕ → Placed
-with_parts number line block condition live here value fault size =
-    record { number = number; line = line; block = block; condition = condition; live = live; here = here; value = value; fault = fault; size = size }
+with_parts number line block condition active here value fault size =
+    record { number = number; line = line; block = block; condition = condition; active = active; here = here; value = value; fault = fault; size = size }
 
 -- of the parts of a line that its fault depends on
 abbrev looked_for : List Placed → Bool → Reading → Option ℕ → ℕ → ℤ → List (Option Fault)
@@ -233,31 +233,31 @@ is-placed r line = record {
   is_line = refl;
   block = block-of r;
   condition = refl;
-  live = live-decides r (body_of line);
+  active = active-decides r (body_of line);
   here = address-of r;
   value = refl;
   aligning = is_aligning r;
   is_aligning = aligning-of r;
-  fault = ap (λ fault. cond (is_live r (body_of line)) fault None) (sym (fault-same r line));
+  fault = ap (λ fault. cond (is_active r (body_of line)) fault None) (sym (fault-same r line));
   size = refl;
 }
 
-same-parts : (number number2 : ℕ) (line line2 : Reading) (block block2 : Option ℕ) (condition condition2 live live2 : Bool) (here here2 : ℕ) (value value2 : ℤ) (fault fault2 : Option Fault) (size size2 : ℕ)
-    → number ≡ number2 → line ≡ line2 → block ≡ block2 → condition ≡ condition2 → live ≡ live2 → here ≡ here2 → value ≡ value2 → fault ≡ fault2 → size ≡ size2
-    → with_parts number line block condition live here value fault size ≡ with_parts number2 line2 block2 condition2 live2 here2 value2 fault2 size2
-same-parts number number2 line line2 block block2 condition condition2 live live2 here here2 value value2 fault fault2 size size2 a b c d e f g h i = rw (a, b, c, d, e, f, g, h, i) refl
+same-parts : (number number2 : ℕ) (line line2 : Reading) (block block2 : Option ℕ) (condition condition2 active live2 : Bool) (here here2 : ℕ) (value value2 : ℤ) (fault fault2 : Option Fault) (size size2 : ℕ)
+    → number ≡ number2 → line ≡ line2 → block ≡ block2 → condition ≡ condition2 → active ≡ live2 → here ≡ here2 → value ≡ value2 → fault ≡ fault2 → size ≡ size2
+    → with_parts number line block condition active here value fault size ≡ with_parts number2 line2 block2 condition2 live2 here2 value2 fault2 size2
+same-parts number number2 line line2 block block2 condition condition2 active live2 here here2 value value2 fault fault2 size size2 a b c d e f g h i = rw (a, b, c, d, e, f, g, h, i) refl
 
-same-fault : (before : List Placed) (a b : Bool) (line line2 : Reading) (block block2 : Option ℕ) (live live2 : Bool) (here here2 : ℕ) (value value2 : ℤ)
-    → a ≡ b → line ≡ line2 → block ≡ block2 → live ≡ live2 → here ≡ here2 → value ≡ value2
-    → cond live (first_fault_of (looked_for before a line block here value)) None ≡ cond live2 (first_fault_of (looked_for before b line2 block2 here2 value2)) None
-same-fault before a b line line2 block block2 live live2 here here2 value value2 e f g h i j =
+same-fault : (before : List Placed) (a b : Bool) (line line2 : Reading) (block block2 : Option ℕ) (active live2 : Bool) (here here2 : ℕ) (value value2 : ℤ)
+    → a ≡ b → line ≡ line2 → block ≡ block2 → active ≡ live2 → here ≡ here2 → value ≡ value2
+    → cond active (first_fault_of (looked_for before a line block here value)) None ≡ cond live2 (first_fault_of (looked_for before b line2 block2 here2 value2)) None
+same-fault before a b line line2 block block2 active live2 here here2 value value2 e f g h i j =
     let same : looked_for before a line block here value ≡ looked_for before b line2 block2 here2 value2 = rw (e, f, g, i, j) refl in
-    ap (λ faults. cond live (first_fault_of faults) None) same
+    ap (λ faults. cond active (first_fault_of faults) None) same
     ∙ ap (λ l. cond l (first_fault_of (looked_for before b line2 block2 here2 value2)) None) h
 
-same-size : (a b live live2 : Bool) (fault fault2 : Option Fault) (here here2 : ℕ) (body : Body) (value value2 : ℤ) → a ≡ b → live ≡ live2 → fault ≡ fault2 → here ≡ here2 → value ≡ value2
-    → (let size : ℕ = cond (live && is_none fault) (full_size a here body value) 0 in size) ≡ cond (live2 && is_none fault2) (full_size b here2 body value2) 0
-same-size a b live live2 fault fault2 here here2 body value value2 e f g h i = rw (e, f, g, h, i) refl
+same-size : (a b active live2 : Bool) (fault fault2 : Option Fault) (here here2 : ℕ) (body : Body) (value value2 : ℤ) → a ≡ b → active ≡ live2 → fault ≡ fault2 → here ≡ here2 → value ≡ value2
+    → (let size : ℕ = cond (active && is_none fault) (full_size a here body value) 0 in size) ≡ cond (live2 && is_none fault2) (full_size b here2 body value2) 0
+same-size a b active live2 fault fault2 here here2 body value value2 e f g h i = rw (e, f, g, h, i) refl
 
 only-this : (r : List Placed) (line : Reading) (p : Placed) → IsPlaced (reverse r) line p → p ≡ place r line
 unfolding place symbols
@@ -266,14 +266,14 @@ only-this r line p h =
     let aligned : h.aligning ≡ is_aligning r = one-of-last (Passes is_align (reverse r)) is_on true h.aligning (is_aligning r) (passing is_align r) h.is_aligning (aligning-of r) in
     let block : p.block ≡ block_in r = one-of-last (Encloses (reverse r)) number_in None p.block (block_in r) (enclosed r) h.block (block-of r) in
     let here : p.here ≡ address r = one-of-last (Passes is_origin (reverse r)) (after_org (reverse r)) (IMAGE_START + sizes (reverse r)) p.here (address r) (passing is_origin r) h.here (address-of r) in
-    let live : p.live ≡ is_live r (body_of line) = one_answer p.live (is_live r (body_of line)) h.live (live-decides r (body_of line)) in
-    let fault : p.fault ≡ cond (is_live r (body_of line)) (first_fault r line) None
+    let active : p.active ≡ is_active r (body_of line) = one_answer p.active (is_active r (body_of line)) h.active (active-decides r (body_of line)) in
+    let fault : p.fault ≡ cond (is_active r (body_of line)) (first_fault r line) None
     = h.fault
-    ∙ same-fault (reverse r) h.aligning (is_aligning r) p.line line p.block (block_in r) p.live (is_live r (body_of line)) p.here (address r) p.value (value_or_zero (value_at (symbols r) (body_of line))) aligned h.is_line block live here h.value
-    ∙ ap (λ fault. cond (is_live r (body_of line)) fault None) (fault-same r line) in
+    ∙ same-fault (reverse r) h.aligning (is_aligning r) p.line line p.block (block_in r) p.active (is_active r (body_of line)) p.here (address r) p.value (value_or_zero (value_at (symbols r) (body_of line))) aligned h.is_line block active here h.value
+    ∙ ap (λ fault. cond (is_active r (body_of line)) fault None) (fault-same r line) in
     same-parts _ _ _ _ _ _ _ _ _ _ _ _ _ _ _ _ _ _
-    (h.number ∙ ap (λ n. n + 1) (length-reverse r)) h.is_line block h.condition live here h.value fault
-    (h.size ∙ same-size h.aligning (is_aligning r) p.live (is_live r (body_of line)) p.fault (cond (is_live r (body_of line)) (first_fault r line) None) p.here (address r) (body_of line) p.value (value_or_zero (value_at (symbols r) (body_of line))) aligned live fault here h.value)
+    (h.number ∙ ap (λ n. n + 1) (length-reverse r)) h.is_line block h.condition active here h.value fault
+    (h.size ∙ same-size h.aligning (is_aligning r) p.active (is_active r (body_of line)) p.fault (cond (is_active r (body_of line)) (first_fault r line) None) p.here (address r) (body_of line) p.value (value_or_zero (value_at (symbols r) (body_of line))) aligned active fault here h.value)
 
 -- all lines
 

@@ -12,7 +12,7 @@ use Rattle.chip_asm.specs.declared.table.Symbol.{Symbol}
 use Rattle.chip_asm.specs.inner.Effect.{is_plain, is_plain_line, is_idle, TakesSameSpace, AreAlike, HasSameEffect}
 use Rattle.chip_asm.specs.inner.Follows.{next_aligning}
 use Rattle.chip_asm.specs.Layout.{Placed, body_of, is_if_body, is_else_body, is_endif_body, is_end_body, is_org_body, is_if, is_else, is_endif, takes_effect, is_origin, symbol_of, value_given, condition_of, value_at, value_or_zero, full_size, is_redefinition, has_ended, has_else, holds, first_of}
-use Rattle.chip_asm.specs.computed.Walk.{place, first_fault, fault_of_value, is_misplaced, is_live, enclosing, symbols, address, is_aligning}
+use Rattle.chip_asm.specs.computed.Walk.{place, first_fault, fault_of_value, is_misplaced, is_active, enclosing, symbols, address, is_aligning}
 use Rattle.chip_asm.proofs.OpenBlocks.{open_blocks, enclosing-open}
 use Rattle.chip_asm.proofs.PlaceSteps.{address-cons, aligning-cons, has_ended-cons, symbols-cons}
 
@@ -73,44 +73,44 @@ plain _ h = absurd (false≢true h)
 -- lines
 
 -- a placed line, by its parts
-pub place-at : (before : List Placed) (line : Reading) (number : ℕ) (block : Option ℕ) (condition live : Bool) (here : ℕ) (value : ℤ) (fault : Option Fault) (size : ℕ)
+pub place-at : (before : List Placed) (line : Reading) (number : ℕ) (block : Option ℕ) (condition active : Bool) (here : ℕ) (value : ℤ) (fault : Option Fault) (size : ℕ)
     → number ≡ length before + 1 → block ≡ option_map (λ o. o.number) (first_of (enclosing before)) → condition ≡ condition_of (symbols before) (body_of line)
-    → live ≡ is_live before (body_of line) → here ≡ address before → value ≡ value_or_zero (value_at (symbols before) (body_of line))
-    → fault ≡ (if live then first_fault before line else None)
-    → size ≡ (if live && is_none fault then full_size (is_aligning before) here (body_of line) value else 0)
-    → (let made : Placed = record { number = number; line = line; block = block; condition = condition; live = live; here = here; value = value; fault = fault; size = size } in made ≡ place before line)
+    → active ≡ is_active before (body_of line) → here ≡ address before → value ≡ value_or_zero (value_at (symbols before) (body_of line))
+    → fault ≡ (if active then first_fault before line else None)
+    → size ≡ (if active && is_none fault then full_size (is_aligning before) here (body_of line) value else 0)
+    → (let made : Placed = record { number = number; line = line; block = block; condition = condition; active = active; here = here; value = value; fault = fault; size = size } in made ≡ place before line)
 unfolding place
-place-at before line number block condition live here value fault size n b c l h v f s = rw (s, f, v, h, l, c, b, n) refl
+place-at before line number block condition active here value fault size n b c l h v f s = rw (s, f, v, h, l, c, b, n) refl
 
 -- a line's parts, of the line itself
 pub record Parts (before : List Placed) (line : Reading) : Type 0 where
   pub number : (place before line).number ≡ length before + 1
   pub block : (place before line).block ≡ option_map (λ o. o.number) (first_of (enclosing before))
   pub condition : (place before line).condition ≡ condition_of (symbols before) (body_of line)
-  pub live : (place before line).live ≡ is_live before (body_of line)
+  pub active : (place before line).active ≡ is_active before (body_of line)
   pub here : (place before line).here ≡ address before
   pub value : (place before line).value ≡ value_or_zero (value_at (symbols before) (body_of line))
-  pub fault : (place before line).fault ≡ (if (place before line).live then first_fault before line else None)
+  pub fault : (place before line).fault ≡ (if (place before line).active then first_fault before line else None)
   pub size : (place before line).size ≡ (if takes_effect (place before line) then full_size (is_aligning before) (place before line).here (body_of line) (place before line).value else 0)
   pub line_is : (place before line).line ≡ line
 
 pub parts : (before : List Placed) (line : Reading) → Parts before line
 unfolding place
-parts before line = record { number = refl; block = refl; condition = refl; live = refl; here = refl; value = refl; fault = refl; size = refl; line_is = refl }
+parts before line = record { number = refl; block = refl; condition = refl; active = refl; here = refl; value = refl; fault = refl; size = refl; line_is = refl }
 
 -- the same line with another text
 abbrev pub with_line : Placed → Reading → Placed
 with_line p line = record p { line = line }
 
-live-calm : (before : List Placed) (a b : Body) → Calm a → Calm b → is_live before a ≡ is_live before b
-unfolding is_live
-live-calm before a b x y = rw (x.no_else, x.no_endif, y.no_else, y.no_endif) refl
+active-calm : (before : List Placed) (a b : Body) → Calm a → Calm b → is_active before a ≡ is_active before b
+unfolding is_active
+active-calm before a b x y = rw (x.no_else, x.no_endif, y.no_else, y.no_endif) refl
 
 full-same : (a : Bool) (here : ℕ) (b c : Body) → TakesSameSpace b c → full_size a here b (pos 0) ≡ full_size a here c (pos 0)
 full-same a here b c s = rw (s.size, s.padded) refl
 
 -- of two lines with the same effect both are idle
-idle-both : (live : Bool) (old new : Reading) → HasSameEffect live old new → (is_idle (body_of old) ≡ true) × (is_idle (body_of new) ≡ true)
+idle-both : (active : Bool) (old new : Reading) → HasSameEffect active old new → (is_idle (body_of old) ≡ true) × (is_idle (body_of new) ≡ true)
 idle-both false old new e = (e.was_idle refl, e.now_idle refl)
 idle-both true old new e = (plain-line old (e.alike refl).was_plain, plain-line new (e.alike refl).now_plain)
   where
@@ -126,34 +126,34 @@ first-same before (read l b) (read m c) a =
     (plain b a.was_plain).first before l
     ∙ (rw (name, full-same (is_aligning before) (address before) b c a.space) (sym ((plain c a.now_plain).first before m)))
 
-fault-same : (live : Bool) (before : List Placed) (old new : Reading) → HasSameEffect live old new → cond live (first_fault before old) None ≡ cond live (first_fault before new) None
+fault-same : (active : Bool) (before : List Placed) (old new : Reading) → HasSameEffect active old new → cond active (first_fault before old) None ≡ cond active (first_fault before new) None
 fault-same false before old new e = refl
 fault-same true before old new e = first-same before old new (e.alike refl)
 
-size-same : (live : Bool) (fault : Option Fault) (a : Bool) (here : ℕ) (old new : Reading) → HasSameEffect live old new
-    → cond (live && is_none fault) (full_size a here (body_of old) (pos 0)) 0 ≡ cond (live && is_none fault) (full_size a here (body_of new) (pos 0)) 0
+size-same : (active : Bool) (fault : Option Fault) (a : Bool) (here : ℕ) (old new : Reading) → HasSameEffect active old new
+    → cond (active && is_none fault) (full_size a here (body_of old) (pos 0)) 0 ≡ cond (active && is_none fault) (full_size a here (body_of new) (pos 0)) 0
 size-same false fault a here old new e = refl
 size-same true fault a here old new e = rw (full-same a here (body_of old) (body_of new) (e.alike refl).space) refl
 
-place-line : (before : List Placed) (old new : Reading) → HasSameEffect (place before old).live (place before old).line new → HasSameEffect (place before old).live old new
-place-line before old new e = subst (λ (l : Reading). HasSameEffect (place before old).live l new) (parts before old).line_is e
+place-line : (before : List Placed) (old new : Reading) → HasSameEffect (place before old).active (place before old).line new → HasSameEffect (place before old).active old new
+place-line before old new e = subst (λ (l : Reading). HasSameEffect (place before old).active l new) (parts before old).line_is e
 
 -- it stands where the other one stood
-pub place-swapped : (before : List Placed) (old new : Reading) → HasSameEffect (place before old).live (place before old).line new → place before new ≡ with_line (place before old) new
+pub place-swapped : (before : List Placed) (old new : Reading) → HasSameEffect (place before old).active (place before old).line new → place before new ≡ with_line (place before old) new
 place-swapped before old new at =
     let e = place-line before old new at in
     let p = parts before old in
-    let idle = idle-both (place before old).live old new e in
+    let idle = idle-both (place before old).active old new e in
     let a = calm-idle (body_of old) idle.0 in
     let b = calm-idle (body_of new) idle.1 in
     let no_value : (place before old).value ≡ pos 0 = p.value ∙ ap value_or_zero (a.value (symbols before)) in
     sym
-    (place-at before new (place before old).number (place before old).block (place before old).condition (place before old).live (place before old).here (place before old).value (place before old).fault
-    (place before old).size p.number p.block (p.condition ∙ a.condition (symbols before) ∙ sym (b.condition (symbols before))) (p.live ∙ live-calm before (body_of old) (body_of new) a b) p.here
+    (place-at before new (place before old).number (place before old).block (place before old).condition (place before old).active (place before old).here (place before old).value (place before old).fault
+    (place before old).size p.number p.block (p.condition ∙ a.condition (symbols before) ∙ sym (b.condition (symbols before))) (p.active ∙ active-calm before (body_of old) (body_of new) a b) p.here
     (no_value ∙ sym (ap value_or_zero (b.value (symbols before))))
-    (p.fault ∙ fault-same (place before old).live before old new e)
+    (p.fault ∙ fault-same (place before old).active before old new e)
     (p.size
-    ∙ (rw no_value (size-same (place before old).live (place before old).fault (is_aligning before) (place before old).here old new e))))
+    ∙ (rw no_value (size-same (place before old).active (place before old).fault (is_aligning before) (place before old).here old new e))))
 
 -- what lists of lines before have to share, so that the same lines may follow
 pub record Same (xs ys : List Placed) : Type 0 where
@@ -169,9 +169,9 @@ holds-same : (xs ys os : List Placed) → Same xs ys → list_all (holds xs) os 
 holds-same xs ys [] s = refl
 holds-same xs ys (o ∷ os) s = rw (s.sides o, holds-same xs ys os s) refl
 
-live-same : (xs ys : List Placed) (b : Body) → Same xs ys → is_live xs b ≡ is_live ys b
-unfolding is_live
-live-same xs ys b s = rw (s.ended, s.open_ifs, holds-same xs ys (enclosing ys) s) refl
+active-same : (xs ys : List Placed) (b : Body) → Same xs ys → is_active xs b ≡ is_active ys b
+unfolding is_active
+active-same xs ys b s = rw (s.ended, s.open_ifs, holds-same xs ys (enclosing ys) s) refl
 
 misplaced-same : (xs ys : List Placed) (b : Body) → Same xs ys → is_misplaced xs b ≡ is_misplaced ys b
 misplaced-same xs ys else_line s = ap (λ os. option_map_or (has_else xs) (first_of os) true) s.open_ifs ∙ by (first_of (enclosing ys))
@@ -192,12 +192,12 @@ unfolding place
 place-same xs ys line s =
     let p = parts ys line in
     let q = parts xs line in
-    let live : (place xs line).live ≡ is_live ys (body_of line) = q.live ∙ live-same xs ys (body_of line) s in
-    place-at ys line (place xs line).number (place xs line).block (place xs line).condition (place xs line).live (place xs line).here (place xs line).value (place xs line).fault (place xs line).size
+    let active : (place xs line).active ≡ is_active ys (body_of line) = q.active ∙ active-same xs ys (body_of line) s in
+    place-at ys line (place xs line).number (place xs line).block (place xs line).condition (place xs line).active (place xs line).here (place xs line).value (place xs line).fault (place xs line).size
     (q.number ∙ ap (λ n. n + 1) s.count) (q.block ∙ ap (λ os. option_map (λ (o : Placed). o.number) (first_of os)) s.open_ifs)
-    (q.condition ∙ ap (λ names. condition_of names (body_of line)) s.names) live (q.here ∙ s.at)
+    (q.condition ∙ ap (λ names. condition_of names (body_of line)) s.names) active (q.here ∙ s.at)
     (q.value ∙ ap (λ names. value_or_zero (value_at names (body_of line))) s.names)
-    (q.fault ∙ ap (λ f. cond (place xs line).live f None) (first-after xs ys line s))
+    (q.fault ∙ ap (λ f. cond (place xs line).active f None) (first-after xs ys line s))
     (q.size ∙ ap (λ a. cond (takes_effect (place xs line)) (full_size a (place xs line).here (body_of line) (place xs line).value) 0) s.aligned)
 
 open-same : (p : Placed) (xs ys : List Placed) → enclosing xs ≡ enclosing ys → enclosing (p ∷ xs) ≡ enclosing (p ∷ ys)
@@ -220,7 +220,7 @@ same-cons p xs ys s = record {
   open_ifs = open-same p xs ys s.open_ifs;
   at = address-cons p xs ∙ ap (λ n. cond (is_origin p) (unsigned_abs p.value) (n + p.size)) s.at ∙ sym (address-cons p ys);
   aligned = aligning-cons p xs ∙ ap (λ a. next_aligning (takes_effect p) a (body_of p.line)) s.aligned ∙ sym (aligning-cons p ys);
-  ended = has_ended-cons p xs ∙ ap (λ e. (p.live && is_end_body (body_of p.line)) || e) s.ended ∙ sym (has_ended-cons p ys);
+  ended = has_ended-cons p xs ∙ ap (λ e. (p.active && is_end_body (body_of p.line)) || e) s.ended ∙ sym (has_ended-cons p ys);
   sides = λ o. side-same p o xs ys (s.sides o);
 }
 
@@ -230,7 +230,7 @@ pub record Quiet (p : Placed) : Type 0 where
   pub no_else : is_else p ≡ false
   pub no_endif : is_endif p ≡ false
   pub no_origin : is_origin p ≡ false
-  pub no_end : (p.live && is_end_body (body_of p.line)) ≡ false
+  pub no_end : (p.active && is_end_body (body_of p.line)) ≡ false
   pub no_align : (aligning : Bool) → next_aligning (takes_effect p) aligning (body_of p.line) ≡ aligning
 
 and_never : (a : Bool) → (a && false) ≡ false
@@ -246,7 +246,7 @@ quiet-plain p h =
       no_else = c.no_else;
       no_endif = c.no_endif;
       no_origin = ap (λ b. takes_effect p && b) q.no_org ∙ and_never (takes_effect p);
-      no_end = ap (λ b. p.live && b) q.no_end ∙ and_never p.live;
+      no_end = ap (λ b. p.active && b) q.no_end ∙ and_never p.active;
       no_align = λ a. q.no_align (takes_effect p) a;
     }
 
@@ -254,7 +254,7 @@ not_accepted-aligning : (a : Bool) (b : Body) → next_aligning false a b ≡ a
 not_accepted-aligning a (align on) = refl
 not_accepted-aligning a _ = refl
 
-quiet-idle : (p : Placed) → p.live ≡ false → is_idle (body_of p.line) ≡ true → Quiet p
+quiet-idle : (p : Placed) → p.active ≡ false → is_idle (body_of p.line) ≡ true → Quiet p
 quiet-idle p l h =
     let c = calm-idle (body_of p.line) h in
     let n : takes_effect p ≡ false = rw l refl in
@@ -267,7 +267,7 @@ quiet-idle p l h =
       no_align = λ a. rw n (not_accepted-aligning a (body_of p.line));
     }
 
-quiet-by : (p : Placed) (live : Bool) → p.live ≡ live → (live ≡ true → is_plain (body_of p.line) ≡ true) → (live ≡ false → is_idle (body_of p.line) ≡ true) → Quiet p
+quiet-by : (p : Placed) (active : Bool) → p.active ≡ active → (active ≡ true → is_plain (body_of p.line) ≡ true) → (active ≡ false → is_idle (body_of p.line) ≡ true) → Quiet p
 quiet-by p true l a b = quiet-plain p (a refl)
 quiet-by p false l a b = quiet-idle p l (b refl)
 
@@ -275,13 +275,13 @@ pub plain-body : (line : Reading) → is_plain_line line ≡ true → is_plain (
 plain-body (bad f) h = absurd (false≢true h)
 plain-body (read label b) h = h
 
-pub quiet-old : (p : Placed) (new : Reading) → HasSameEffect p.live p.line new → Quiet p
-quiet-old p new e = quiet-by p p.live refl (λ l. plain-body p.line (e.alike l).was_plain) e.was_idle
+pub quiet-old : (p : Placed) (new : Reading) → HasSameEffect p.active p.line new → Quiet p
+quiet-old p new e = quiet-by p p.active refl (λ l. plain-body p.line (e.alike l).was_plain) e.was_idle
 
-pub quiet-new : (p : Placed) (new : Reading) → HasSameEffect p.live p.line new → Quiet (with_line p new)
-quiet-new p new e = quiet-by (with_line p new) p.live refl (λ l. plain-body new (e.alike l).now_plain) e.now_idle
+pub quiet-new : (p : Placed) (new : Reading) → HasSameEffect p.active p.line new → Quiet (with_line p new)
+quiet-new p new e = quiet-by (with_line p new) p.active refl (λ l. plain-body new (e.alike l).now_plain) e.now_idle
 
-symbol-same : (p : Placed) (new : Reading) (live : Bool) → p.live ≡ live → (live ≡ true → AreAlike p.line new) → symbol_of p ≡ symbol_of (with_line p new)
+symbol-same : (p : Placed) (new : Reading) (active : Bool) → p.active ≡ active → (active ≡ true → AreAlike p.line new) → symbol_of p ≡ symbol_of (with_line p new)
 symbol-same p new false l a = rw l refl
 symbol-same p new true l a =
     let k = a refl in
@@ -305,6 +305,6 @@ quiet-same p q before a b names size = record {
 }
 
 -- the same lines may follow two lines with the same effect
-pub same-swapped : (p : Placed) (new : Reading) (before : List Placed) → HasSameEffect p.live p.line new → Same (p ∷ before) (with_line p new ∷ before)
+pub same-swapped : (p : Placed) (new : Reading) (before : List Placed) → HasSameEffect p.active p.line new → Same (p ∷ before) (with_line p new ∷ before)
 same-swapped p new before e =
-    quiet-same p (with_line p new) before (quiet-old p new e) (quiet-new p new e) (symbol-same p new p.live refl e.alike) refl
+    quiet-same p (with_line p new) before (quiet-old p new e) (quiet-new p new e) (symbol-same p new p.active refl e.alike) refl

@@ -118,7 +118,7 @@ none-ended = refl
 
 not-ended : (before : List Placed) → AreSteady before → has_ended before ≡ false
 not-ended [] s = none-ended
-not-ended (p ∷ before) s = has_ended-cons p before ∙ (rw (s.0.no_end, not-ended before s.1) (none p.live))
+not-ended (p ∷ before) s = has_ended-cons p before ∙ (rw (s.0.no_end, not-ended before s.1) (none p.active))
   where
     none : (l : Bool) → ((l && false) || false) ≡ false
     none true = refl

@@ -52,7 +52,7 @@ small-line : (line : Reading) → is_bare_line line ≡ true → Small (body_of 
 small-line (bad fault) h = cc
 small-line (read label body) h = small body h
 
-record-of : (q : Found) (size : ℕ) → q.value ≡ pos 0 → q.size ≡ size → q.fault ≡ None → q.live ≡ true → q ≡ found-bare q.here size true
+record-of : (q : Found) (size : ℕ) → q.value ≡ pos 0 → q.size ≡ size → q.fault ≡ None → q.active ≡ true → q ≡ found-bare q.here size true
 record-of q size v s f l = rw (← v, ← s, ← f, ← l) refl
 
 -- such a line that was accepted
@@ -61,9 +61,9 @@ pub record StoodBare (q : Placement) (size : ℕ) : Type 0 where
   pub high : q.here + size ≤ MEMORY_BYTES
   pub is : found q ≡ found-bare q.here size true
 
-pub bare-stood : (e : Change) (pass : Pass) (was : List Placement) (from : List ℕ) (n size : ℕ) (kept : KeptLine) (x : Placed) (defines : Option NameId) (live : Bool) → IsChange e → Facing e pass was from n kept x
-    → is_accepted (get_or was n nothing).status ≡ true → live ≡ true → IsBare pass.names.keys live (reading_in kept) size defines → StoodBare (get_or was n nothing) size
-bare-stood e pass was from n size kept now defines live change f taken is_live bare =
+pub bare-stood : (e : Change) (pass : Pass) (was : List Placement) (from : List ℕ) (n size : ℕ) (kept : KeptLine) (x : Placed) (defines : Option NameId) (active : Bool) → IsChange e → Facing e pass was from n kept x
+    → is_accepted (get_or was n nothing).status ≡ true → active ≡ true → IsBare pass.names.keys active (reading_in kept) size defines → StoodBare (get_or was n nothing) size
+bare-stood e pass was from n size kept now defines active change f taken is_active bare =
     let q : Placement = get_or was n nothing in
     let line : Reading = reading_in kept in
     let s = stood-there e from n line q change f.line (f.slot nothing) taken in
@@ -78,7 +78,7 @@ bare-stood e pass was from n size kept now defines live change f taken is_live b
     = ap (λ (y : Placed). y.size) s.at.follows ∙ p.size ∙ ap (λ b. cond b (full_size (is_aligning before) (place before x.line).here (body_of x.line) (place before x.line).value) 0) (ap takes_effect (sym s.at.follows) ∙ effect)
     ∙ ap (full_size (is_aligning before) (place before x.line).here (body_of x.line)) (ap (λ (y : Placed). y.value) (sym s.at.follows) ∙ value)
     ∙ small_line.size (is_aligning before) (place before x.line).here ∙ ap (λ l. own_size (body_of l) (pos 0)) s.line_is
-    ∙ sym (bare.sized ∙ ap (λ b. cond b (own_size (body_of line) (pos 0)) 0) is_live) in
+    ∙ sym (bare.sized ∙ ap (λ b. cond b (own_size (body_of line) (pos 0)) 0) is_active) in
     let size_is : q.size ≡ size = ap (λ (r : Found). r.size) s.at.placement ∙ sized in
     record {
       low = low e.was s.before (found q) s.at;
@@ -92,21 +92,21 @@ one-at-most : (keys : List Name) (defines : Option NameId) (symbol : Symbol) →
 one-at-most keys None symbol = omega arith
 one-at-most keys (Some id) symbol = omega arith
 
-pub steps-bare : (pass : Pass) (names : Tables) (n size : ℕ) (line : Reading) (defines : Option NameId) (live : Bool) → pass.live ≡ live
-    → IsBare pass.names.keys live line size defines → (fits : pass.here + size ≤ MEMORY_BYTES) → is_redefinition pass.names.symbols (name_of pass.names.keys defines) ≡ false
+pub steps-bare : (pass : Pass) (names : Tables) (n size : ℕ) (line : Reading) (defines : Option NameId) (active : Bool) → pass.active ≡ active
+    → IsBare pass.names.keys active line size defines → (fits : pass.here + size ≤ MEMORY_BYTES) → is_redefinition pass.names.symbols (name_of pass.names.keys defines) ≡ false
     → names.symbols ≡ pass.names.symbols ++ symbols_of pass.names.keys defines (record { value = pos pass.here; line = n + 1 }) → KeepsBefore pass.names names
     → StepsOn pass (record pass { here = pass.here + size; within = fits; names = names }) n line
-steps-bare pass names n size line defines live same bare fits new given keeps = record {
+steps-bare pass names n size line defines active same bare fits new given keeps = record {
   keeps = keeps;
-  passed = λ before f is. (passed-bare pass names before line n size defines live same f is bare fits new given).1;
+  passed = λ before f is. (passed-bare pass names before line n size defines active same f is bare fits new given).1;
   room = λ left room. record {
     blocks = (let b = room.blocks in omega arith);
     names = omega (arith, room.names, keeps.room, ap length given, length-append pass.names.symbols (symbols_of pass.names.keys defines (record { value = pos pass.here; line = n + 1 })), one-at-most pass.names.keys defines (record { value = pos pass.here; line = n + 1 }));
   };
 }
 
--- what is noted of one that is not live, or was not accepted
-pub noted-bare : (here size : ℕ) (live coded : Bool) → found (record { value = pos 0; here = here; size = size; status = bare_status live coded }) ≡ found-bare here size live
+-- what is noted of one that is not active, or was not accepted
+pub noted-bare : (here size : ℕ) (active coded : Bool) → found (record { value = pos 0; here = here; size = size; status = bare_status active coded }) ≡ found-bare here size active
 noted-bare here size true true = refl
 noted-bare here size true false = refl
 noted-bare here size false coded = refl
@@ -115,9 +115,9 @@ noted-bare here size false coded = refl
 coded-size : (keys : List Name) (line : Reading) (size : ℕ) (defines : Option NameId) → IsBare keys true line size defines → eqb size 2 ≡ has_code (body_of line)
 coded-size keys line size defines b = ap (λ n. eqb n 2) b.sized ∙ (small-line line b.bare).coded
 
-pub bare-held : (e : Change) (pass : Pass) (was : List Placement) (from image : List ℕ) (n size : ℕ) (kept : KeptLine) (x : Placed) (defines : Option NameId) (live : Bool) (here : ℕ) → Facing e pass was from n kept x
-    → found-bare here size live ≡ placement_of x → IsBare pass.names.keys live (reading_in kept) size defines → (live ≡ true → is_accepted (get_or was n nothing).status ≡ false)
-    → ((k : ℕ) → is_byte_of x.here x.size k ≡ true → get_or image k 0 ≡ 0) → IsHeld e n x (record { value = pos 0; here = here; size = size; status = bare_status live (eqb size 2) }) image
+pub bare-held : (e : Change) (pass : Pass) (was : List Placement) (from image : List ℕ) (n size : ℕ) (kept : KeptLine) (x : Placed) (defines : Option NameId) (active : Bool) (here : ℕ) → Facing e pass was from n kept x
+    → found-bare here size active ≡ placement_of x → IsBare pass.names.keys active (reading_in kept) size defines → (active ≡ true → is_accepted (get_or was n nothing).status ≡ false)
+    → ((k : ℕ) → is_byte_of x.here x.size k ≡ true → get_or image k 0 ≡ 0) → IsHeld e n x (record { value = pos 0; here = here; size = size; status = bare_status active (eqb size 2) }) image
 bare-held e pass was from image n size kept x defines true here f is bare refused zeros = λ effect.
     fresh-held e from image n x (reading_in kept) (get_or was n nothing) (eqb size 2) (f.slot nothing) (refused refl) zeros
     (coded-size pass.names.keys (reading_in kept) size defines bare ∙ ap (λ l. has_code (body_of l)) (sym f.line_is))

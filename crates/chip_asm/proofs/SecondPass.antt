@@ -1,6 +1,6 @@
--- The second pass: at each place the line there has its code under the names after the edit, or gets
--- it, and the bytes of the other lines stay. What is known before it, over lines that don't wait, and
--- where it is over.
+-- The second pass: at each place the line there has its code under the names after the edit, or
+-- gets it, and the bytes of the other lines stay. What is known before it, over lines that don't
+-- wait, and where it is over.
 use Rattle.std.proofs.Common.{◌≡◌, ℕ, ◌+◌, ◌-◌, ◌<◌, ◌≤◌, ◌⊎◌, inl, inr, Bool, true, false, cond, not, ◌&&◌, ◌||◌, is_none, List, map, reverse, length, take, get_or, slice_get, refl, ap, sym, subst, ◌∙◌, arith, below_more, Option, Some, None, option_map}
 use Rattle.std.specs.List.{enumerate_from}
 use Rattle.std.specs.Option.{option_map_or}
@@ -162,7 +162,8 @@ again-accepted q kept changed again = by q.status again
 abbrev pub AreQuiet : Tables → List Placement → (start end : ℕ) → Type 0
 AreQuiet names placements start end = (j : ℕ) (q : Placement) → start ≤ j → j < end → slice_get placements j ≡ Some q → (names.before ≡ values_of names.symbols) × (q.status ≡ Pending → ⊥)
 
--- where each line from a place up to another one doesn't wait and has the same code, they have their codes
+-- where each line from a place up to another one doesn't wait and has the same code, they have
+-- their codes
 kept-over : (e : Change) (placements : List Placement) (image : List ℕ) (start end : ℕ)
     → ((j : ℕ) (x : Placed) (q : Placement) → start ≤ j → j < end → placed_at e j ≡ Some x → slice_get placements j ≡ Some q → (q.status ≡ Pending → ⊥) × AlikeIn e x.line)
     → start ≤ end → AreCoded e placements image start → AreCoded e placements image end
@@ -212,7 +213,8 @@ keeps-is : (e : Change) (line : Reading) (o : Option ℕ) → option_map_or (λ 
 keeps-is e line None = refl
 keeps-is e line (Some b) = refl
 
--- a line that is to be encoded doesn't keep its code, so it is encoded again if it has one and is accepted
+-- a line that is to be encoded doesn't keep its code, so it is encoded again if it has one and is
+-- accepted
 pub again-more : (e : Change) (names : Tables) (lines : List KeptLine) (place : ℕ) (kept : KeptLine) (q : Placement) (placements : List Placement) (image : List ℕ) → IsEncodedUnder e names lines → Stands e.now place kept q
     → AreCoded e placements image place → slice_get placements place ≡ Some q
     → (is_pending q.status || (not (agree_on names.before (values_of names.symbols) (reading_in kept)) && is_coded kept q)) ≡ true
@@ -277,8 +279,8 @@ note-half : (e : Change) (j : ℕ) (x : Placed) (was q : Placement) (image : Lis
 note-half e j x was q image is held taken =
     subst (λ (p : Placement). IsCarried e j x p.status image) (sym (is ∙ by (is_unclosed (placed e.now) x) taken)) (held (accepted-effect (placed e.now) x taken))
   where
-    by : (u : Bool) → (x.live && is_none (cond u (Some UnclosedIf) x.fault)) ≡ true → cond u (unclosed was) was ≡ was
-    by true h = absurd (false≢true (and_parts x.live false h).1)
+    by : (u : Bool) → (x.active && is_none (cond u (Some UnclosedIf) x.fault)) ≡ true → cond u (unclosed was) was ≡ was
+    by true h = absurd (false≢true (and_parts x.active false h).1)
     by false h = refl
 
 pub walked-all : (e : Change) (lines : List KeptLine) (pass : Pass) (placements : List Placement) (tally : Tally) (from image : List ℕ) → IsUnderWay e lines pass placements tally from image (length lines) → HasPassed placements pass e.now

@@ -68,7 +68,7 @@ pub record Swapped (lines : List Reading) (at : ℕ) (new : Reading) : Type 0 wh
   pub now : placed (set lines at new) ≡ later ++ with_line x new ∷ before
   pub same : Same (later ++ x ∷ before) (later ++ with_line x new ∷ before)
   pub above : AreAbove (x.here + x.size) later
-  pub effect : HasSameEffect x.live x.line new
+  pub effect : HasSameEffect x.active x.line new
 
 pub reverse-middle : (later before : List Placed) (x : Placed) → reverse (later ++ x ∷ before) ≡ reverse before ++ x ∷ reverse later
 reverse-middle later before x =
@@ -91,7 +91,7 @@ swapped lines at old new inside is_old effect =
     let alone : Later (x ∷ before) (x ∷ before) back (x.here + x.size) = later (x ∷ before) (x ∷ before) back (x.here + x.size) (same-refl (x ∷ before)) past in
     let is_there : get_or (reverse (placed lines)) at x ≡ x = ap (λ ps. get_or (reverse ps) at x) (was ∙ alone.of_first) ∙ at-middle alone.later before x x at count in
     let there : slice_get (reverse (placed lines)) at ≡ Some x = slice_get-get_or (reverse (placed lines)) at x (omega (arith, inside, length-numbered lines)) ∙ ap Some is_there in
-    let e : HasSameEffect x.live x.line new = effect.each x there in
+    let e : HasSameEffect x.active x.line new = effect.each x there in
     let r : Later (x ∷ before) (with_line x new ∷ before) back (x.here + x.size) = later (x ∷ before) (with_line x new ∷ before) back (x.here + x.size) (same-swapped x new before e) past in
     record {
       later = r.later;

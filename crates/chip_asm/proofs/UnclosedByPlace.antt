@@ -40,12 +40,12 @@ same-place lines i p there (one_encloses j o e g) =
 
 unclosed-from : (lines : List Reading) (i : ℕ) (p : Placed) → slice_get (reverse (placed lines)) i ≡ Some p → is_unclosed (placed lines) p ≡ true → IsUnclosed (reverse (placed lines)) i p
 unclosed-from lines i p there h =
-    let two = and_parts (is_if p && p.live && not (has_ended (placed lines))) (list_any (has_number p.number) (enclosing (placed lines))) h in
-    let more = and_parts (is_if p && p.live) (not (has_ended (placed lines))) two.0 in
-    let first = and_parts (is_if p) p.live more.0 in
+    let two = and_parts (is_if p && p.active && not (has_ended (placed lines))) (list_any (has_number p.number) (enclosing (placed lines))) h in
+    let more = and_parts (is_if p && p.active) (not (has_ended (placed lines))) two.0 in
+    let first = and_parts (is_if p) p.active more.0 in
     record {
       encloses = same-place lines i p there (any-enclosing (has_number p.number) (placed lines) two.1);
-      live = first.1;
+      active = first.1;
       not_ended = ended-turned (placed lines) ∙ negated (has_ended (placed lines)) more.1;
     }
   where
@@ -57,16 +57,16 @@ unclosed-to : (lines : List Reading) (i : ℕ) (p : Placed) → IsUnclosed (reve
 unclosed-to lines i p u =
     let yet : has_ended (placed lines) ≡ false = sym (ended-turned (placed lines)) ∙ u.not_ended in
     let any : list_any (has_number p.number) (enclosing (placed lines)) ≡ true = enclosing-any (has_number p.number) (placed lines) i p u.encloses (eq-eqb p.number p.number refl) in
-    rw (u.encloses.opens, u.live, yet, any) refl
+    rw (u.encloses.opens, u.active, yet, any) refl
 
 pub unclosed : (lines : List Reading) (i : ℕ) (p : Placed) → slice_get (reverse (placed lines)) i ≡ Some p → Decides (is_unclosed (placed lines) p) (IsUnclosed (reverse (placed lines)) i p)
 unclosed lines i p there = (unclosed-from lines i p there, unclosed-to lines i p)
 
--- a live IF line at a place
+-- an active IF line at a place
 abbrev pub opens_at : ℕ → Placed → Bool
-opens_at place o = o.live && nat_eq o.number (place + 1)
+opens_at place o = o.active && nat_eq o.number (place + 1)
 
--- an IF without ENDIF is a live one whose block is open at the end
+-- an IF without ENDIF is an active one whose block is open at the end
 pub open-at : (lines : List Reading) (i : ℕ) (p : Placed) → slice_get (reverse (placed lines)) i ≡ Some p → (not (has_ended (placed lines)) && list_any (opens_at i) (enclosing (placed lines))) ≡ is_unclosed (placed lines) p
 open-at lines i p there = by (not (has_ended (placed lines)) && list_any (opens_at i) (enclosing (placed lines))) (is_unclosed (placed lines) p) refl refl
   where
@@ -76,13 +76,13 @@ open-at lines i p there = by (not (has_ended (placed lines)) && list_any (opens_
 
     found : Enclosing (opens_at i) (placed lines) → not (has_ended (placed lines)) ≡ true → is_unclosed (placed lines) p ≡ true
     found (one_encloses j o e g) yet =
-        let two = and_parts o.live (nat_eq o.number (i + 1)) g in
+        let two = and_parts o.active (nat_eq o.number (i + 1)) g in
         let at : j ≡ i = omega (arith, eqb-true o.number (i + 1) two.1, number-at lines j o e.there) in
         let moved : Encloses (reverse (placed lines)) i o = subst (λ (n : ℕ). Encloses (reverse (placed lines)) n o) at e in
         let same : o ≡ p = same-there (reverse (placed lines)) i o p moved.there there in
         unclosed-to lines i p (record {
           encloses = subst (Encloses (reverse (placed lines)) i) same moved;
-          live = ap (λ (q : Placed). q.live) (sym same) ∙ two.0;
+          active = ap (λ (q : Placed). q.active) (sym same) ∙ two.0;
           not_ended = ended-turned (placed lines) ∙ negated (has_ended (placed lines)) yet;
         })
 
@@ -93,7 +93,7 @@ open-at lines i p there = by (not (has_ended (placed lines)) && list_any (opens_
     by false true e h =
         let is = unclosed-from lines i p there h in
         let any : list_any (opens_at i) (enclosing (placed lines)) ≡ true
-        = enclosing-any (opens_at i) (placed lines) i p is.encloses (rw is.live (eq-eqb p.number (i + 1) (number-at lines i p there))) in
+        = enclosing-any (opens_at i) (placed lines) i p is.encloses (rw is.active (eq-eqb p.number (i + 1) (number-at lines i p there))) in
         let yet : has_ended (placed lines) ≡ false = sym (ended-turned (placed lines)) ∙ is.not_ended in
         let none : true ≡ false = (rw (yet, any) refl) ∙ e in
         cc

@@ -19,7 +19,7 @@ pub record Placed : Type 0 where
   pub block : Option ℕ
   -- of an IF line: whether its condition holds
   pub condition : Bool
-  pub live : Bool
+  pub active : Bool
   pub here : ℕ
   -- the value of its expression, where it is an EQU, ORG or DS line
   pub value : ℤ
@@ -63,10 +63,10 @@ is_else p = is_else_body (body_of p.line)
 abbrev pub is_endif : Placed → Bool
 is_endif p = is_endif_body (body_of p.line)
 
--- a live line without a fault gives its name, moves the address and switches the alignment; an IF
--- without ENDIF, whose fault is found at the end, does none of it
+-- an active line without a fault gives its name, moves the address and switches the alignment; an
+-- IF without ENDIF, whose fault is found at the end, does none of it
 abbrev pub takes_effect : Placed → Bool
-takes_effect p = p.live && is_none p.fault
+takes_effect p = p.active && is_none p.fault
 
 -- names
 
@@ -111,7 +111,7 @@ condition_of names (ifund n) = is_none (lookup_name names n)
 condition_of names _ = false
 
 unfoldable pub has_ended : List Placed → Bool
-has_ended before = list_any (λ p. p.live && is_end_body (body_of p.line)) before
+has_ended before = list_any (λ p. p.active && is_end_body (body_of p.line)) before
 
 abbrev pub is_side_or_end : Body → Bool
 is_side_or_end body = is_else_body body || is_endif_body body

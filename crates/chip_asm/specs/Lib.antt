@@ -3,7 +3,7 @@
 --     Edits        when an edit is refused
 --     Names        names and tables of names
 --     Layout       words for a line: what it says, which name it gives, how much it takes
---     Places       what holds of each line: whether it is live, where it stands, what is wrong with
+--     Places       what holds of each line: whether it is active, where it stands, what is wrong with
 --                  it
 --     Program      names, faults and image of a source
 --     Listing      the listing

@@ -18,9 +18,9 @@ at_right places text = replicate (places - length text) 32 ++ text
 abbrev pub at_left : ℕ → List ℕ → List ℕ
 at_left places text = text ++ replicate (places - length text) 32
 
--- the address of a line; four dashes for a line that isn't live
+-- the address of a line; four dashes for a line that isn't active
 abbrev pub address_shown : Bool → ℕ → List ℕ
-address_shown live here = if live then four_hex_digits here else codes "----"
+address_shown active here = if active then four_hex_digits here else codes "----"
 
 -- the line gives its name a value of its own
 abbrev pub is_definition : Body → Bool
@@ -33,12 +33,12 @@ abbrev pub bytes_shown : ℕ → List ℕ → List ℕ
 bytes_shown count bytes = flat_map two_hex_digits (map (slice_index bytes) (range_with_len 0 count))
 
 -- what stands in the field of a line: its fault, its value, or its first six bytes
-abbrev pub field_shown : Option Fault → (live : Bool) → Body → (here : ℕ) → (value : ℤ) → (size : ℕ)
+abbrev pub field_shown : Option Fault → (active : Bool) → Body → (here : ℕ) → (value : ℤ) → (size : ℕ)
     → (bytes : List ℕ) → List ℕ
-field_shown (Some fault) live body here value size bytes =
+field_shown (Some fault) active body here value size bytes =
     codes "F" ++ decimal (number_of_fault fault)
-field_shown None live body here value size bytes =
-    if not live then []
+field_shown None active body here value size bytes =
+    if not active then []
     else (if is_definition body then codes "=" ++ signed_decimal (value_given here value body)
     else bytes_shown (min 6 size) bytes)
 
@@ -47,16 +47,16 @@ abbrev pub more_shown : Option Fault → ℕ → ℕ
 more_shown fault size = if is_none fault && nat_lt 6 size then 43 else 32
 
 -- one line of the listing
-unfoldable pub shown : (number : ℕ) (live : Bool) (here : ℕ) (field : List ℕ) (more : ℕ)
+unfoldable pub shown : (number : ℕ) (active : Bool) (here : ℕ) (field : List ℕ) (more : ℕ)
     (text : List ℕ) → List ℕ
-shown number live here field more text =
-    at_right 4 (decimal number) ++ 32 ∷ address_shown live here ++ 32 ∷ at_left 12 field
+shown number active here field more text =
+    at_right 4 (decimal number) ++ 32 ∷ address_shown active here ++ 32 ∷ at_left 12 field
     ++ more ∷ 32 ∷ text ++ 10 ∷ []
 
 abbrev pub line_shown : List Placed → Placed → List ℕ → List ℕ
 line_shown all p text =
-    shown p.number p.live p.here
-    (field_shown (fault_of all p) p.live (body_of p.line) p.here p.value p.size
+    shown p.number p.active p.here
+    (field_shown (fault_of all p) p.active (body_of p.line) p.here p.value p.size
     (bytes_in_code (code_under all p))) (more_shown (fault_of all p) p.size) text
 
 abbrev pub lines_shown : List Placed → List (List ℕ) → List ℕ

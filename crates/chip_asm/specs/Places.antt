@@ -41,13 +41,13 @@ pub record Encloses (before : List Placed) (j : ℕ) (opener : Placed) : Type 0 
       → count_by is_endif (take n (drop (j + 1) before))
       ≤ count_by is_if (take n (drop (j + 1) before))
 
--- No line before is a live END. An ELSE or ENDIF is live where the last IF that encloses it is, or
--- none does; another line where the condition of each IF that encloses it holds on the side that is
--- reached.
-pub record IsLive (before : List Placed) (body : Body) : Type 0 where
+-- No line before is an active END. An ELSE or ENDIF is active where the last IF that encloses it
+-- is, or none does; another line where the condition of each IF that encloses it holds on the side
+-- that is reached.
+pub record IsActive (before : List Placed) (body : Body) : Type 0 where
   pub not_ended : has_ended before ≡ false
   pub side_or_end : is_side_or_end body ≡ true
-      → (j : ℕ) (opener : Placed) → IsLast (Encloses before) j opener → opener.live ≡ true
+      → (j : ℕ) (opener : Placed) → IsLast (Encloses before) j opener → opener.active ≡ true
   pub other : is_side_or_end body ≡ false
       → (j : ℕ) (opener : Placed) → Encloses before j opener → holds before opener ≡ true
 
@@ -103,14 +103,14 @@ pub record IsPlaced (before : List Placed) (line : Reading) (p : Placed) : Type 
   -- the last IF line that encloses it
   pub block : IsFromLast (Encloses before) (λ j opener. Some opener.number) None p.block
   pub condition : p.condition ≡ condition_of (names_given before) (body_of line)
-  pub live : Decides p.live (IsLive before (body_of line))
+  pub active : Decides p.active (IsActive before (body_of line))
   pub here : IsAfter before p.here
   pub value : p.value ≡ value_or_zero (value_at (names_given before) (body_of line))
   -- the last ALIGN that takes effect is not OFF
   pub aligning : Bool
   pub is_aligning : IsFromLast (Passes is_align before)
       (λ j p. not (is_align_off_body (body_of p.line))) true aligning
-  pub fault : p.fault ≡ (if p.live then first_that_holds (first_pass_faults before aligning p) else None)
+  pub fault : p.fault ≡ (if p.active then first_that_holds (first_pass_faults before aligning p) else None)
   pub size : p.size
       ≡ (if takes_effect p then full_size aligning p.here (body_of line) p.value else 0)
 
@@ -120,11 +120,11 @@ pub record ArePlaced (lines : List Reading) (all : List Placed) : Type 0 where
   pub each : (i : ℕ) (line : Reading) (p : Placed)
       → slice_get lines i ≡ Some line → slice_get all i ≡ Some p → IsPlaced (take i all) line p
 
--- an IF without ENDIF in a whole source: it is live, it encloses what would follow, and there is no
--- live END
+-- an IF without ENDIF in a whole source: it is active, it encloses what would follow, and there is
+-- no active END
 pub record IsUnclosed (all : List Placed) (i : ℕ) (p : Placed) : Type 0 where
   pub encloses : Encloses all i p
-  pub live : p.live ≡ true
+  pub active : p.active ≡ true
   pub not_ended : has_ended all ≡ false
 
 abbrev pub fault_in_code : Result (List ℕ) Fault → Option Fault
@@ -144,8 +144,8 @@ abbrev pub code_among : List Placed → Placed → Result (List ℕ) Fault
 code_among all p = code_with (names_given all) p.line
 
 -- the image of a whole source, if no line has a fault: it reaches up to the address after the last
--- line; each line's own bytes stand at its address, zeros behind them up to its size, and zeros where
--- no line stands
+-- line; each line's own bytes stand at its address, zeros behind them up to its size, and zeros
+-- where no line stands
 pub record IsImage (all : List Placed) (bytes : List ℕ) : Type 0 where
   pub up_to : IsAfter all (IMAGE_START + length bytes)
   pub of_line : (i k : ℕ) (p : Placed) → slice_get all i ≡ Some p → k < p.size
@@ -156,11 +156,12 @@ pub record IsImage (all : List Placed) (bytes : List ℕ) : Type 0 where
       → (IMAGE_START + k < p.here) ⊎ (p.here + p.size ≤ IMAGE_START + k))
       → slice_index bytes k ≡ 0
 
--- the fault of the line at place i of a whole source, if it has one: a line that isn't live has none;
--- else it is that of an IF without ENDIF, or that of the first pass, or that of the line's own bytes
+-- the fault of the line at place i of a whole source, if it has one: a line that isn't active has
+-- none; else it is that of an IF without ENDIF, or that of the first pass, or that of the line's
+-- own bytes
 pub record IsFaultOf (all : List Placed) (i : ℕ) (p : Placed) (fault : Option Fault) : Type 0 where
-  pub not_live : p.live ≡ false → fault ≡ None
+  pub not_active : p.active ≡ false → fault ≡ None
   pub unclosed : IsUnclosed all i p → fault ≡ Some UnclosedIf
-  pub first : p.live ≡ true → (IsUnclosed all i p → ⊥) → is_some p.fault ≡ true → fault ≡ p.fault
-  pub second : p.live ≡ true → (IsUnclosed all i p → ⊥) → p.fault ≡ None
+  pub first : p.active ≡ true → (IsUnclosed all i p → ⊥) → is_some p.fault ≡ true → fault ≡ p.fault
+  pub second : p.active ≡ true → (IsUnclosed all i p → ⊥) → p.fault ≡ None
       → fault ≡ fault_in_code (code_among all p)

@@ -16,10 +16,10 @@ pub use Rattle.chip_asm.specs.Places.{bytes_in_code, code_with, fault_in_code}
 abbrev pub names_of_lines : List Reading → List (Name × Symbol)
 names_of_lines lines = symbols (placed lines)
 
--- a live IF that would enclose one line more, in a source that no END ends
+-- an active IF that would enclose one line more, in a source that no END ends
 abbrev pub is_unclosed : List Placed → Placed → Bool
 is_unclosed all p =
-    is_if p && p.live && not (has_ended all)
+    is_if p && p.active && not (has_ended all)
     && list_any (λ opener. nat_eq opener.number p.number) (enclosing all)
 
 -- the fault of the first pass
@@ -30,10 +30,10 @@ first_pass_fault all p = if is_unclosed all p then Some UnclosedIf else p.fault
 abbrev pub code_under : List Placed → Placed → Result (List ℕ) Fault
 code_under all p = code_with (symbols all) p.line
 
--- the fault of a line of the source: a line that isn't live has none
+-- the fault of a line of the source: a line that isn't active has none
 abbrev pub fault_of : List Placed → Placed → Option Fault
 fault_of all p =
-    if p.live
+    if p.active
     then (if is_some (first_pass_fault all p) then first_pass_fault all p
     else fault_in_code (code_under all p))
     else None

@@ -9,9 +9,9 @@ use Rattle.chip_asm.specs.Layout.{Placed}
 use Rattle.chip_asm.specs.computed.Walk.{placed}
 use Rattle.chip_asm.specs.Program.{names_of_lines, first_pass_fault}
 
--- the first pass finds no fault in the live line
+-- the first pass finds no fault in the active line
 abbrev pub is_accepted_in : List Placed → Placed → Bool
-is_accepted_in all p = p.live && is_none (first_pass_fault all p)
+is_accepted_in all p = p.active && is_none (first_pass_fault all p)
 
 -- the line at a place (from 0) is accepted
 abbrev pub is_accepted_at : List Reading → ℕ → Bool

@@ -7,24 +7,24 @@ ghost use Rattle.chip_asm.specs.declared.block.Block.{Block};
 
 use chip_lang::Body;
 
-/// An open block: the number of its IF line; that line was live; its condition holds on this side;
-/// an ELSE came.
+/// An open block: the number of its IF line; that line was active; its condition holds on this
+/// side; an ELSE came.
 #[derive(Clone, Copy)]
 pub(crate) struct Block {
     pub(crate) number: usize,
-    pub(crate) live: bool,
+    pub(crate) active: bool,
     pub(crate) holds: bool,
     pub(crate) has_else: bool,
 }
 
-/// Whether every block holds on its side. The last one tells, since it was opened live just where
+/// Whether every block holds on its side. The last one tells, since it was opened active just where
 /// those around it hold.
 pub(crate) fn all_hold(blocks: &[Block]) -> bool
     ensures { (nearest : List Block) → blocks.now ≡ reverse nearest → AreNested nearest
         → result ≡ list_all (λ b. b.holds) blocks.now }
 {
     match blocks.last() {
-        Some(block) => block.live && block.holds,
+        Some(block) => block.active && block.holds,
         None => true,
     }
 }
@@ -38,7 +38,7 @@ fn turned(block: Block) -> Block
     } else {
         Block {
             number: block.number,
-            live: block.live,
+            active: block.active,
             holds: !block.holds,
             has_else: true,
         }

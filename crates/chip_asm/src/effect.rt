@@ -25,7 +25,7 @@ fn is_plain(body: &Body) -> bool
     )
 }
 
-/// Whether a line does nothing where it isn't live.
+/// Whether a line does nothing where it isn't active.
 fn is_idle(line: &Line) -> bool
     ensures { result ≡ is_idle (body_of (seen_line line.now)) }
 {
@@ -77,11 +77,11 @@ fn are_alike(old: &Line, new: &Line) -> bool
     }
 }
 
-/// Whether a line in the place of another one, which is live or not, changes nothing else.
-pub(crate) fn has_same_effect(live: bool, old: &Line, new: &Line) -> bool
-    ensures { result ≡ true → HasSameEffect live (seen_line old.now) (seen_line new.now) }
+/// Whether a line in the place of another one, which is active or not, changes nothing else.
+pub(crate) fn has_same_effect(active: bool, old: &Line, new: &Line) -> bool
+    ensures { result ≡ true → HasSameEffect active (seen_line old.now) (seen_line new.now) }
 {
-    if live {
+    if active {
         are_alike(old, new)
     } else {
         is_idle(old) && is_idle(new)

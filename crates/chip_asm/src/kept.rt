@@ -184,7 +184,7 @@ impl Kept {
             → HasSameEffectAt (lines_kept self.now) at (seen_line line.now) }
     {
         let placement = self.layout.placements[at];
-        has_same_effect(placement.is_live(), self.lines[at].line(), line)
+        has_same_effect(placement.is_active(), self.lines[at].line(), line)
     }
 
     /// Puts a line in the place of one with the same effect: its bytes, and whether it has a fault,
@@ -238,7 +238,7 @@ impl Kept {
         self.blocks.reserve(count)
     }
 
-    /// Makes an edit by both passes. Each growth comes before the first change.
+    /// Makes an edit by both passes. Each allocation comes before the first change.
     fn remake(&mut self, alloc: Global, meter: &mut Meter, edit: Edit) -> Result<(), AllocError>
         requires { MayEdit self.old edit }
         ensures ok { OnOk result (texts_kept self.new

@@ -103,7 +103,7 @@ impl Tally {
     }
 }
 
-/// Gives the live IF lines that no ENDIF closes their fault. The line of a number stands at the
+/// Gives the active IF lines that no ENDIF closes their fault. The line of a number stands at the
 /// place before it.
 pub(crate) fn mark_unclosed(
     placements: &mut [Placement],
@@ -120,7 +120,7 @@ pub(crate) fn mark_unclosed(
         return;
     }
     for index in 0..blocks.len() {
-        if blocks[index].live {
+        if blocks[index].active {
             let place = blocks[index].number - 1;
             let mut placement = placements[place];
             placement.status = Status::Refused(Fault::UnclosedIf);

@@ -294,20 +294,20 @@ impl LineInfo {
         Ok(infos)
     }
 
-    /// The size that a line takes, live or not, and the name that it gives then, if the first pass
-    /// asks nothing else of it.
+    /// The size that a line takes, active or not, and the name that it gives then, if the first
+    /// pass asks nothing else of it.
     #[inline(always)]
-    pub(crate) fn bare(self, live: bool) -> Option<(usize, Option<NameId>)>
+    pub(crate) fn bare(self, active: bool) -> Option<(usize, Option<NameId>)>
         ensures is { (keys : List Name) (several : List NameId) (line : Reading)
             → IsInfo keys self several line
-            → IfSome result (λ made. IsBare keys live line made.0 made.1) }
+            → IfSome result (λ made. IsBare keys active line made.0 made.1) }
         ensures small { IfSome result (λ made. made.0 ≤ 2) }
         ensures zero { IfSome result (λ made. (made.0 ≡ 2 → ⊥) → made.0 ≡ 0) }
     {
         if !self.is_bare {
             return None;
         }
-        if !live {
+        if !active {
             return Some((0, None));
         }
         Some((if self.is_coded { 2 } else { 0 }, self.defines))

@@ -8,7 +8,7 @@ ghost use Rattle.chip_asm.specs.inner.Layouts.{IsLayoutOf};
 ghost use Rattle.chip_asm.specs.Listing.{at_right, at_left, address_shown, bytes_shown, field_shown, more_shown, is_definition, shown, lines_shown};
 ghost use Rattle.chip_asm.specs.inner.Records.{reading_in, readings_in, texts_in};
 ghost use Rattle.chip_asm.specs.inner.Codes.{IsImageOf};
-ghost use Rattle.chip_asm.specs.inner.Placements.{fault_noted, is_live_status};
+ghost use Rattle.chip_asm.specs.inner.Placements.{fault_noted, is_active_status};
 
 use crate::codes::{byte_or_zero, bytes_at};
 use crate::kept_line::BoxedLine;
@@ -52,11 +52,11 @@ fn number_text(number: usize) -> [u8; 4]
 }
 
 /// The address of a line.
-fn address_text(live: bool, here: u16) -> [u8; 4]
-    ensures text { result ≡ address_shown live here }
+fn address_text(active: bool, here: u16) -> [u8; 4]
+    ensures text { result ≡ address_shown active here }
     ensures places { length result ≡ 4 }
 {
-    if live { word_digits(here) } else { *b"----" }
+    if active { word_digits(here) } else { *b"----" }
 }
 
 /// Appends a sign and digits, at the left of the field, the sign after it, and a space.
@@ -147,7 +147,7 @@ fn push_field(
 ) -> Result<(), AllocError>
     ensures { OnOk result (out.new.items
         ≡ out.old.items ++ (at_left 12 (field_shown (fault_noted placement.now.status)
-        (is_live_status placement.now.status) (body_of (seen_line line.now)) placement.now.here
+        (is_active_status placement.now.status) (body_of (seen_line line.now)) placement.now.here
         placement.now.value placement.now.size bytes.now)
         ++ more_shown (fault_noted placement.now.status) placement.now.size ∷ 32 ∷ [])) }
 {
@@ -157,7 +157,7 @@ fn push_field(
         let mut digits = Buffer::new();
         return push_left(out, b'F', digits.format(fault.number()).as_bytes(), more);
     }
-    if !placement.is_live() {
+    if !placement.is_active() {
         return push_bytes(out, 0, bytes, more);
     }
     if is_definition(line) {
@@ -191,14 +191,14 @@ fn push_line(
     requires { number < 10000 }
     ensures { OnOk result (out.new.items
         ≡ out.old.items
-        ++ shown number (is_live_status placement.now.status) placement.now.here
-        (field_shown (fault_noted placement.now.status) (is_live_status placement.now.status)
+        ++ shown number (is_active_status placement.now.status) placement.now.here
+        (field_shown (fault_noted placement.now.status) (is_active_status placement.now.status)
         (body_of (reading_in kept.now)) placement.now.here placement.now.value placement.now.size
         bytes.now)
         (more_shown (fault_noted placement.now.status) placement.now.size) kept.now.text) }
 {
     let [a, b, c, d] = number_text(number);
-    let [e, f, g, h] = address_text(placement.is_live(), placement.here);
+    let [e, f, g, h] = address_text(placement.is_active(), placement.here);
     out.extend_from_slice(&[a, b, c, d, b' ', e, f, g, h, b' '])?;
     push_field(out, placement, kept.line(), bytes)?;
     out.extend_from_slice(kept.text())?;

@@ -29,8 +29,8 @@ pub(crate) struct Pass {
     pub(crate) here: usize,
     pub(crate) aligning: bool,
     pub(crate) ended: bool,
-    /// Whether a line other than ELSE or ENDIF is live here.
-    pub(crate) live: bool,
+    /// Whether a line other than ELSE or ENDIF is active here.
+    pub(crate) active: bool,
     pub(crate) blocks: Vec<Block>,
     pub(crate) names: Table,
     ghost within: { here ≤ MEMORY_BYTES },
@@ -80,15 +80,15 @@ pub(crate) fn is_data(body: &Body) -> bool
 
 impl Pass {
     ghost use Rattle.chip_asm.specs.Layout.{Placed, has_ended};
-    ghost use Rattle.chip_asm.specs.computed.Walk.{address, is_aligning, enclosing, is_live, is_misplaced, first_fault, symbols, place, placed};
+    ghost use Rattle.chip_asm.specs.computed.Walk.{address, is_aligning, enclosing, is_active, is_misplaced, first_fault, symbols, place, placed};
     ghost use Rattle.chip_asm.specs.inner.Infos.{AreInfos, IsNumberOf};
     ghost use Rattle.chip_asm.specs.declared.placement.Status.TheVariants.{Pending};
     ghost use Rattle.chip_asm.specs.inner.Placements.{found, is_accepted};
     ghost use Rattle.chip_asm.specs.inner.Follows.{Follows, placement_of, next_address, next_aligning};
     ghost use Rattle.chip_asm.specs.inner.Passes.{Change, HasRoom, IsUnderWay};
 
-    /// At an address, after lines that give these names, where no block is open, in the room of other
-    /// blocks.
+    /// At an address, after lines that give these names, where no block is open, in the room of
+    /// other blocks.
     pub(crate) fn resume(here: usize, names: Table, blocks: Vec<Block>) -> Self
         ensures follows { (before : List Placed) → here ≡ address before → here ≤ MEMORY_BYTES
             → is_aligning before ≡ true → has_ended before ≡ false → enclosing before ≡ []
@@ -103,26 +103,26 @@ impl Pass {
             here: here.min(MEMORY_BYTES),
             aligning: true,
             ended: false,
-            live: true,
+            active: true,
             blocks,
             names,
         }
     }
 
-    #[tactic(auto, unfolding(crate::specs::computed::Walk::is_live))]
-    fn is_live(&self, body: &Body) -> bool
+    #[tactic(auto, unfolding(crate::specs::computed::Walk::is_active))]
+    fn is_active(&self, body: &Body) -> bool
         ensures { (before : List Placed) → Follows self.now before
-            → result ≡ is_live before (seen_body body.now) }
+            → result ≡ is_active before (seen_body body.now) }
     {
         if self.ended {
             return false;
         }
         match body {
             Body::Else | Body::Endif => match self.blocks.last() {
-                Some(block) => block.live,
+                Some(block) => block.active,
                 None => true,
             },
-            _ => self.live,
+            _ => self.active,
         }
     }
 
@@ -202,11 +202,11 @@ impl Pass {
         }
     }
 
-    /// The first fault of the line, where it is live, but for an IF without ENDIF.
+    /// The first fault of the line, where it is active, but for an IF without ENDIF.
     #[tactic(auto, unfolding(crate::specs::computed::Walk::first_fault))]
     fn fault_of(
         &self,
-        live: bool,
+        active: bool,
         line: &Line,
         defines: Option<NameId>,
         value: Result<i32, Fault>,
@@ -214,15 +214,15 @@ impl Pass {
         requires { IsNumberOf self.now.names.keys defines (name_defined (seen_line line.now)) }
         ensures fault { (before : List Placed) → Follows self.now before
             → value ≡ value_at (symbols before) (body_of (seen_line line.now))
-            → result ≡ (if live then first_fault before (seen_line line.now) else None) }
-        ensures new_name { live ≡ true → result ≡ None
+            → result ≡ (if active then first_fault before (seen_line line.now) else None) }
+        ensures new_name { active ≡ true → result ≡ None
             → is_redefinition self.now.names.symbols (name_defined (seen_line line.now)) ≡ false }
-        ensures fits { live ≡ true → result ≡ None
+        ensures fits { active ≡ true → result ≡ None
             → fault_of_value self.now.aligning self.now.here (body_of (seen_line line.now)) value
             ≡ None }
     {
         match line {
-            _ if !live => None,
+            _ if !active => None,
             Line::Bad(fault) => Some(*fault),
             Line::Read { body, .. } => {
                 if self.is_misplaced(body) {
@@ -281,11 +281,11 @@ impl Pass {
     {
         let empty = Body::Empty;
         let body = body_or(line, &empty);
-        let live = self.is_live(body);
+        let active = self.is_active(body);
         let read = self.value_at(known, body, numbers);
         let value = or_zero(read);
-        let fault = self.fault_of(live, line, defines, read);
-        let status = Status::first(live, fault);
+        let fault = self.fault_of(active, line, defines, read);
+        let status = Status::first(active, fault);
         let size = self.size_of(status.is_accepted(), body, value);
         Placement {
             value,
@@ -324,36 +324,37 @@ impl Pass {
         let empty = Body::Empty;
         let body = body_or(line, &empty);
         let placement = self.place(known, line, defines, numbers);
-        let (live, accepted) = (placement.is_live(), placement.is_accepted());
+        let (active, accepted) = (placement.is_active(), placement.is_accepted());
         let number = at + 1;
         let opened = Block {
             number,
-            live,
+            active,
             holds: self.condition(body, numbers),
             has_else: false,
         };
         self.define(accepted, number, line, defines, placement.value);
         move_blocks(&mut self.blocks, body, opened);
         let size = placement.size as usize;
-        self.advance(body, live, accepted, placement.value, size);
-        self.note_live();
+        self.advance(body, active, accepted, placement.value, size);
+        self.note_active();
         placement
     }
 
-    /// Notes whether a line other than ELSE or ENDIF is live here.
-    fn note_live(&mut self)
-        ensures live { (nearest : List Block) → self.new.blocks.items ≡ reverse nearest
+    /// Notes whether a line other than ELSE or ENDIF is active here.
+    fn note_active(&mut self)
+        ensures active { (nearest : List Block) → self.new.blocks.items ≡ reverse nearest
             → (self.new.ended ≡ false → AreNested nearest)
-            → self.new.live ≡ (not self.new.ended && list_all (λ b. b.holds) self.new.blocks.items) }
-        ensures rest { self.new ≡ record self.old { live = self.new.live } }
+            → self.new.active ≡ (not self.new.ended && list_all (λ b. b.holds) self.new.blocks.items) }
+        ensures rest { self.new ≡ record self.old { active = self.new.active } }
     {
-        self.live = !self.ended && all_hold(&self.blocks);
+        self.active = !self.ended && all_hold(&self.blocks);
     }
 
-    /// Goes on by the lines from a place on, and notes what holds of them, up to the first one of which
-    /// more is asked than its size and its name, or which has a fault, or where an instruction has no
-    /// room. A line that was accepted and still is takes its code along from the image before;
-    /// another one that is accepted waits for its code. The place behind the last of them.
+    /// Goes on by the lines from a place on, and notes what holds of them, up to the first one of
+    /// which more is asked than its size and its name, or which has a fault, or where an
+    /// instruction has no room. A line that was accepted and still is takes its code along from the
+    /// image before; another one that is accepted waits for its code. The place behind the last of
+    /// them.
     #[inline(never)]
     pub(crate) fn run(
         &mut self,
@@ -372,18 +373,18 @@ impl Pass {
             → IsUnderWay e lines.now self.old placements.old tally.old from.now image.old first
             → IsUnderWay e lines.now self.new placements.new tally.new from.now image.new result }
     {
-        if self.live {
+        if self.active {
             self.run_as(true, lines, placements, tally, from, image, first)
         } else {
             self.run_as(false, lines, placements, tally, from, image, first)
         }
     }
 
-    /// The same, where the caller knows whether lines are live: there is a loop for each.
+    /// The same, where the caller knows whether lines are active: there is a loop for each.
     #[inline(always)]
     fn run_as(
         &mut self,
-        live: bool,
+        active: bool,
         lines: &[BoxedLine],
         placements: &mut [Placement],
         tally: &mut Tally,
@@ -391,7 +392,7 @@ impl Pass {
         image: &mut [u8],
         first: usize,
     ) -> usize
-        requires live { live ≡ self.old.live }
+        requires active { active ≡ self.old.active }
         requires under_way { (e : Change) × IsUnderWay e lines.now self.old placements.old tally.old
             from.now image.old first }
         ensures after { first ≤ result }
@@ -403,7 +404,7 @@ impl Pass {
         let mut here = self.here;
         let mut place = first;
         while place < lines.len() {
-            let Some((size, defines)) = lines[place].info().bare(live) else {
+            let Some((size, defines)) = lines[place].info().bare(active) else {
                 break;
             };
             if here > MEMORY_BYTES - 2 {
@@ -417,7 +418,7 @@ impl Pass {
                 break;
             }
             let was = placements[place];
-            if live && was.is_accepted() {
+            if active && was.is_accepted() {
                 placements[place].here = here as u16;
                 if size == 2 {
                     let at = was.address() - IMAGE_START;
@@ -429,7 +430,7 @@ impl Pass {
                     value: 0,
                     here: here as u16,
                     size: size as u16,
-                    status: Status::bare(live, size == 2),
+                    status: Status::bare(active, size == 2),
                 };
                 tally.put(placements, place, new);
                 here += size;
@@ -496,7 +497,7 @@ impl Pass {
 
     /// Moves past a line of this size.
     #[tactic(auto, unfolding(crate::specs::computed::Walk::fault_of_value))]
-    fn advance(&mut self, body: &Body, live: bool, accepted: bool, value: i32, size: usize)
+    fn advance(&mut self, body: &Body, active: bool, accepted: bool, value: i32, size: usize)
         requires fits { accepted ≡ true
             → fault_of_value self.old.aligning self.old.here (seen_body body.now) (Ok value)
             ≡ None }
@@ -508,7 +509,7 @@ impl Pass {
         ensures aligning { self.new.aligning
             ≡ next_aligning accepted self.old.aligning (seen_body body.now) }
         ensures ended { self.new.ended
-            ≡ ((live && is_end_body (seen_body body.now)) || self.old.ended) }
+            ≡ ((active && is_end_body (seen_body body.now)) || self.old.ended) }
         ensures blocks { self.new.blocks ≡ self.old.blocks }
         ensures names { self.new.names ≡ self.old.names }
     {
@@ -523,7 +524,7 @@ impl Pass {
                     self.aligning = *on;
                 }
             }
-            Body::End => self.ended = self.ended || live,
+            Body::End => self.ended = self.ended || active,
             _ => self.here += size,
         }
     }
@@ -536,7 +537,7 @@ impl Pass {
             here: _,
             aligning: _,
             ended: _,
-            live: _,
+            active: _,
             blocks,
             names,
         } = self;

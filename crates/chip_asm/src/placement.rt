@@ -3,12 +3,12 @@ ghost use Rattle.std.specs.Prelude.{◌≡◌};
 
 use chip_lang::Fault;
 
-/// Whether a line is live and accepted, and what became of its code.
+/// Whether a line is active and accepted, and what became of its code.
 #[derive(Clone, Copy)]
 pub(crate) enum Status {
-    /// The line is not live.
+    /// The line is not active.
     Skipped,
-    /// It is live, and has this fault in the first pass.
+    /// It is active, and has this fault in the first pass.
     Refused(Fault),
     /// It is accepted, and is to be encoded.
     Pending,
@@ -21,22 +21,22 @@ pub(crate) enum Status {
 impl Status {
     ghost use Rattle.chip_asm.specs.inner.Placements.{bare_status, fault_noted, first_status, is_accepted, is_pending, status_coded};
 
-    /// What the first pass finds of a line that is live or not, and of its fault.
-    pub(crate) fn first(live: bool, fault: Option<Fault>) -> Status
-        ensures { result ≡ first_status live fault }
+    /// What the first pass finds of a line that is active or not, and of its fault.
+    pub(crate) fn first(active: bool, fault: Option<Fault>) -> Status
+        ensures { result ≡ first_status active fault }
     {
         match fault {
-            _ if !live => Status::Skipped,
+            _ if !active => Status::Skipped,
             Some(fault) => Status::Refused(fault),
             None => Status::Pending,
         }
     }
 
     /// That of a new instruction or a line without a statement, which has no fault.
-    pub(crate) fn bare(live: bool, is_coded: bool) -> Status
-        ensures { result ≡ bare_status live is_coded }
+    pub(crate) fn bare(active: bool, is_coded: bool) -> Status
+        ensures { result ≡ bare_status active is_coded }
     {
-        match (live, is_coded) {
+        match (active, is_coded) {
             (false, _) => Status::Skipped,
             (true, true) => Status::Pending,
             (true, false) => Status::Done,
@@ -86,7 +86,7 @@ pub(crate) struct Placement {
 }
 
 impl Placement {
-    ghost use Rattle.chip_asm.specs.inner.Placements.{count_of, is_accepted, is_live_status};
+    ghost use Rattle.chip_asm.specs.inner.Placements.{count_of, is_accepted, is_active_status};
 
     /// Stands where nothing is found yet.
     pub(crate) const NOTHING: Placement = Placement {
@@ -103,14 +103,14 @@ impl Placement {
         self.here as usize
     }
 
-    /// Whether the line is live.
-    pub(crate) fn is_live(&self) -> bool
-        ensures { result ≡ is_live_status self.now.status }
+    /// Whether the line is active.
+    pub(crate) fn is_active(&self) -> bool
+        ensures { result ≡ is_active_status self.now.status }
     {
         !matches!(self.status, Status::Skipped)
     }
 
-    /// Whether the line is live and has no fault in the first pass.
+    /// Whether the line is active and has no fault in the first pass.
     pub(crate) fn is_accepted(&self) -> bool
         ensures { result ≡ is_accepted self.now.status }
     {

@@ -7,7 +7,7 @@ use Rattle.chip_asm.specs.Lines.{lines_of, open_fault}
 use Rattle.chip_asm.specs.declared.refusal.OpenError.{OpenError}
 use Rattle.chip_asm.specs.declared.refusal.OpenError.TheVariants as unopened
 use Rattle.chip_session.specs.Tally.{Tally}
-use Rattle.chip_arguments.specs.declared.command_line.CheckWords.{CheckWords}
+use Rattle.chip_arguments.specs.declared.command_line.CheckArguments.{CheckArguments}
 use Rattle.chip_bench.specs.Exploring.{AsksSet, warning_named}
 use Rattle.chip_bench.specs.Doing.{Checks, ChecksEach, ChecksOne, GivesSource, IsBadSet, IsSourceUnread, Outcome, paints, with_ending, worse}
 use Rattle.chip_bench.specs.Printing.{IsPrintedCheck, IsPrintedCheckOf, Prints, PrintsSuch, printed, unopened_check}
@@ -110,14 +110,14 @@ module _ {R W : Type 0} (remaining : R → Option (List ℕ)) (contents : W → 
 
 module _ {R W : Type 0} (remaining : R → Option (List ℕ)) (contents : W → Option (List ℕ)) where
   -- the argument for warnings names none
-  pub checks_bad : (input : Tally R) (output : Tally W) (takes_color : Bool) (words : CheckWords) (ended : Outcome) (why : Failure) → ended ≡ Err why →
-      IsBadSet why → AsksSet warning_named 0 (option_copied words.allowed) None → Checks remaining contents input input output output takes_color words ended
-  checks_bad input output takes_color words ended why e bad asks =
+  pub checks_bad : (input : Tally R) (output : Tally W) (takes_color : Bool) (arguments : CheckArguments) (ended : Outcome) (why : Failure) → ended ≡ Err why →
+      IsBadSet why → AsksSet warning_named 0 (option_copied arguments.allowed) None → Checks remaining contents input input output output takes_color arguments ended
+  checks_bad input output takes_color arguments ended why e bad asks =
       (None, asks, declines remaining input input (output ≡ output) refl IsBadSet ended why e bad refl)
 
-  pub checks : (in_old in_new : Tally R) (out_old out_new : Tally W) (takes_color : Bool) (words : CheckWords) (set : ℕ) (painted alone : Bool)
-      (names : List (Bor (List ℕ))) (ended : Outcome) → AsksSet warning_named 0 (option_copied words.allowed) (Some set) →
-      painted ≡ paints words.color takes_color → alone ≡ (length words.sources.items == 1) → names ≡ words.sources.items →
-      ChecksEach remaining contents words.is_json painted alone names in_old in_new out_old out_new ended →
-      Checks remaining contents in_old in_new out_old out_new takes_color words ended
-  checks in_old in_new out_old out_new takes_color words set painted alone names ended asks p a n did = (Some set, asks, rw (sym p, sym a, sym n) did)
+  pub checks : (in_old in_new : Tally R) (out_old out_new : Tally W) (takes_color : Bool) (arguments : CheckArguments) (set : ℕ) (painted alone : Bool)
+      (names : List (Bor (List ℕ))) (ended : Outcome) → AsksSet warning_named 0 (option_copied arguments.allowed) (Some set) →
+      painted ≡ paints arguments.color takes_color → alone ≡ (length arguments.sources.items == 1) → names ≡ arguments.sources.items →
+      ChecksEach remaining contents arguments.is_json painted alone names in_old in_new out_old out_new ended →
+      Checks remaining contents in_old in_new out_old out_new takes_color arguments ended
+  checks in_old in_new out_old out_new takes_color arguments set painted alone names ended asks p a n did = (Some set, asks, rw (sym p, sym a, sym n) did)

@@ -10,16 +10,16 @@ use Rattle.chip_bench.specs.Doing.{AsSource, Assembles, AssemblesBy, Debugs, Dec
 use Rattle.chip_bench.specs.inner.Reads.{IsAsked, IsGiven, IsImageHindered, IsImageOrFaults, IsKeysUnread, IsNotGiven, IsNotTaken, IsTaken, IsUnasked}
 use Rattle.chip_pages.specs.Pages.{IsExplained}
 use Rattle.chip_bench.specs.Printing.{Printed, Prints, PrintsUnder, printed_picture, printed, printed_of, printed_run}
-use Rattle.chip_arguments.specs.declared.command_line.PictureWords.{PictureWords}
+use Rattle.chip_arguments.specs.declared.command_line.PictureArguments.{PictureArguments}
 use Rattle.chip_session.specs.declared.question.PictureForm.{PictureForm}
 use Rattle.chip_bench.specs.Running.{AnswersScript, IsUnread}
 use Rattle.chip_session.specs.Settings.{SessionSettings}
-use Rattle.chip_bench.specs.SettingWords.{settings_asked}
+use Rattle.chip_bench.specs.SettingArguments.{settings_asked}
 use Rattle.chip_session.specs.Tally.{Tally}
 use Rattle.chip_arguments.specs.declared.command_line.CommandLine.{CommandLine}
-use Rattle.chip_arguments.specs.declared.command_line.RunWords.{RunWords}
-use Rattle.chip_arguments.specs.declared.command_line.SettingWords.{SettingWords}
-use Rattle.chip_arguments.specs.declared.command_line.TraceWords.{TraceWords}
+use Rattle.chip_arguments.specs.declared.command_line.RunArguments.{RunArguments}
+use Rattle.chip_arguments.specs.declared.command_line.SettingArguments.{SettingArguments}
+use Rattle.chip_arguments.specs.declared.command_line.TraceArguments.{TraceArguments}
 use Rattle.chip_bench.specs.declared.ending.Ending.TheVariants.{Done}
 use Rattle.chip_bench.specs.declared.ending.Failure.{Failure}
 use Rattle.chip_bench.specs.declared.ending.Failure.TheVariants as failure
@@ -107,33 +107,33 @@ module _ {R : Type 0} (remaining : R → Option (List ℕ)) (in_old in_new : Tal
   settled_next (Some settings) Did Next f (inl did) = inl (f settings did)
   settled_next (Some settings) Did Next f (inr d) = inr (declined_next IsShort d)
 
-  pub asked_next : (words : RunWords) (Did Next : SessionSettings → List ℕ → List ℕ → Outcome → Type 0) →
+  pub asked_next : (arguments : RunArguments) (Did Next : SessionSettings → List ℕ → List ℕ → Outcome → Type 0) →
       ((settings : SessionSettings) (keys source : List ℕ) → Did settings keys source ended → Next settings keys source other) →
-      WithAsked remaining in_old in_new U words Did ended → WithAsked remaining in_old in_new V words Next other
-  asked_next words Did Next f =
-      settled_next (settings_asked words.settings)
-      (λ settings. FromKeys remaining in_old in_new U words.keys (λ keys. FromGiven remaining in_old in_new U words.is_image words.source (Did settings keys)))
-      (λ settings. FromKeys remaining in_old in_new V words.keys (λ keys. FromGiven remaining in_old in_new V words.is_image words.source (Next settings keys)))
-      (λ settings. keys_next words.keys
-      (λ keys. FromGiven remaining in_old in_new U words.is_image words.source (Did settings keys))
-      (λ keys. FromGiven remaining in_old in_new V words.is_image words.source (Next settings keys))
-      (λ keys. given_next words.is_image words.source (Did settings keys) (Next settings keys) (f settings keys)))
+      WithAsked remaining in_old in_new U arguments Did ended → WithAsked remaining in_old in_new V arguments Next other
+  asked_next arguments Did Next f =
+      settled_next (settings_asked arguments.settings)
+      (λ settings. FromKeys remaining in_old in_new U arguments.keys (λ keys. FromGiven remaining in_old in_new U arguments.is_image arguments.source (Did settings keys)))
+      (λ settings. FromKeys remaining in_old in_new V arguments.keys (λ keys. FromGiven remaining in_old in_new V arguments.is_image arguments.source (Next settings keys)))
+      (λ settings. keys_next arguments.keys
+      (λ keys. FromGiven remaining in_old in_new U arguments.is_image arguments.source (Did settings keys))
+      (λ keys. FromGiven remaining in_old in_new V arguments.is_image arguments.source (Next settings keys))
+      (λ keys. given_next arguments.is_image arguments.source (Did settings keys) (Next settings keys) (f settings keys)))
 
-module _ {R : Type 0} (remaining : R → Option (List ℕ)) (in_old in_new : Tally R) (V : Type 0) (words : RunWords)
+module _ {R : Type 0} (remaining : R → Option (List ℕ)) (in_old in_new : Tally R) (V : Type 0) (arguments : RunArguments)
     (Did : SessionSettings → List ℕ → List ℕ → Outcome → Type 0) (ended : Outcome) where
-  -- a run's words were read, and then this was done
-  pub asked_then : (asked : Asked) → IsAsked remaining in_old in_new words asked →
-      Did asked.settings asked.keys.bytes.items asked.source.items ended → WithAsked remaining in_old in_new V words Did ended
+  -- a run's arguments were read, and then this was done
+  pub asked_then : (asked : Asked) → IsAsked remaining in_old in_new arguments asked →
+      Did asked.settings asked.keys.bytes.items asked.source.items ended → WithAsked remaining in_old in_new V arguments Did ended
   asked_then asked is did =
-      asked_next remaining in_old in_new (Unit {0}) V (Ok Done) ended (λ Why h. absurd h) words
+      asked_next remaining in_old in_new (Unit {0}) V (Ok Done) ended (λ Why h. absurd h) arguments
       (λ settings keys source done. (settings ≡ asked.settings) × (keys ≡ asked.keys.bytes.items) × (source ≡ asked.source.items)) Did
       (λ settings keys source e. rw (e.0, e.1, e.2) did) is.0
 
   -- they weren't
-  pub asked_not : (quiet : V) (why : Failure) → ended ≡ Err why → IsUnasked remaining in_old in_new words why →
-      WithAsked remaining in_old in_new V words Did ended
+  pub asked_not : (quiet : V) (why : Failure) → ended ≡ Err why → IsUnasked remaining in_old in_new arguments why →
+      WithAsked remaining in_old in_new V arguments Did ended
   asked_not quiet why e is =
-      asked_next remaining in_old in_new (Unit {0}) V (Err why) ended (λ Why h. (fails Why ended why e h, quiet)) words
+      asked_next remaining in_old in_new (Unit {0}) V (Err why) ended (λ Why h. (fails Why ended why e h, quiet)) arguments
       (λ settings keys source done. ⊥) Did (λ settings keys source none. absurd none) is
 
 module _ {R : Type 0} (remaining : R → Option (List ℕ)) (in_old in_new : Tally R) (is_image : Bool) (name : Bor (List ℕ)) where
@@ -171,11 +171,11 @@ taken_not name image (Err why) is = inr (is, tt)
 
 module _ {R W : Type 0} (remaining : R → Option (List ℕ)) (contents : W → Option (List ℕ)) (in_old in_new : Tally R) (out_old out_new : Tally W) where
   -- a session on the bytes of a file
-  pub debugs_file : (source : Option (Bor (List ℕ))) (is_image : Bool) (name : Bor (List ℕ)) (words : SettingWords) (settings : SessionSettings)
-      (bytes text : List ℕ) (ended : Outcome) → source ≡ Some name → settings_asked words ≡ Some settings → IsTaken is_image name bytes text →
+  pub debugs_file : (source : Option (Bor (List ℕ))) (is_image : Bool) (name : Bor (List ℕ)) (arguments : SettingArguments) (settings : SessionSettings)
+      (bytes text : List ℕ) (ended : Outcome) → source ≡ Some name → settings_asked arguments ≡ Some settings → IsTaken is_image name bytes text →
       AnswersScript remaining contents settings text in_old in_new out_old out_new ended →
-      Debugs remaining contents in_old in_new out_old out_new source is_image words ended
-  debugs_file source is_image name words settings bytes text ended some asked taken script =
+      Debugs remaining contents in_old in_new out_old out_new source is_image arguments ended
+  debugs_file source is_image name arguments settings bytes text ended some asked taken script =
       rw (some, asked) (inl (inl (bytes, by_kind is_image taken)))
     where
       by_kind : (is_image : Bool) → IsTaken is_image name bytes text →
@@ -186,10 +186,10 @@ module _ {R W : Type 0} (remaining : R → Option (List ℕ)) (contents : W → 
       by_kind true (inr (none, _)) = absurd none
 
   -- on the empty source
-  pub debugs_none : (source : Option (Bor (List ℕ))) (is_image : Bool) (words : SettingWords) (settings : SessionSettings) (ended : Outcome) → source ≡ None →
-      settings_asked words ≡ Some settings → AnswersScript remaining contents settings [] in_old in_new out_old out_new ended →
-      Debugs remaining contents in_old in_new out_old out_new source is_image words ended
-  debugs_none source is_image words settings ended none asked script = rw (none, asked) script
+  pub debugs_none : (source : Option (Bor (List ℕ))) (is_image : Bool) (arguments : SettingArguments) (settings : SessionSettings) (ended : Outcome) → source ≡ None →
+      settings_asked arguments ≡ Some settings → AnswersScript remaining contents settings [] in_old in_new out_old out_new ended →
+      Debugs remaining contents in_old in_new out_old out_new source is_image arguments ended
+  debugs_none source is_image arguments settings ended none asked script = rw (none, asked) script
 
   pub does_it : (takes_color : Bool) (asked other : CommandLine) (ended : Outcome) → asked ≡ other →
       Does remaining contents in_old in_new out_old out_new takes_color other ended → Does remaining contents in_old in_new out_old out_new takes_color asked ended
@@ -235,23 +235,23 @@ module _ {R W : Type 0} (remaining : R → Option (List ℕ)) (contents : W → 
 
 module _ {R W : Type 0} (remaining : R → Option (List ℕ)) (contents : W → Option (List ℕ)) (input : Tally R) (output : Tally W) where
   -- there are no settings for a session
-  pub debugs_unsettled : (source : Option (Bor (List ℕ))) (is_image : Bool) (words : SettingWords) (ended : Outcome) (why : Failure) → ended ≡ Err why →
-      Unsettles (settings_asked words) why → Debugs remaining contents input input output output source is_image words ended
-  debugs_unsettled None is_image words ended why e u = unsettled remaining contents (settings_asked words) why ended input output e u
-  debugs_unsettled (Some name) is_image words ended why e u = unsettles remaining input input (output ≡ output) refl (settings_asked words) _ ended why e refl u
+  pub debugs_unsettled : (source : Option (Bor (List ℕ))) (is_image : Bool) (arguments : SettingArguments) (ended : Outcome) (why : Failure) → ended ≡ Err why →
+      Unsettles (settings_asked arguments) why → Debugs remaining contents input input output output source is_image arguments ended
+  debugs_unsettled None is_image arguments ended why e u = unsettled remaining contents (settings_asked arguments) why ended input output e u
+  debugs_unsettled (Some name) is_image arguments ended why e u = unsettles remaining input input (output ≡ output) refl (settings_asked arguments) _ ended why e refl u
 
   -- the file can't be read
-  pub debugs_unread : (source : Option (Bor (List ℕ))) (is_image : Bool) (name : Bor (List ℕ)) (words : SettingWords) (settings : SessionSettings)
-      (ended : Outcome) (why : Failure) → ended ≡ Err why → source ≡ Some name → settings_asked words ≡ Some settings → IsUnread name why →
-      Debugs remaining contents input input output output source is_image words ended
-  debugs_unread source is_image name words settings ended why e some asked w =
+  pub debugs_unread : (source : Option (Bor (List ℕ))) (is_image : Bool) (name : Bor (List ℕ)) (arguments : SettingArguments) (settings : SessionSettings)
+      (ended : Outcome) (why : Failure) → ended ≡ Err why → source ≡ Some name → settings_asked arguments ≡ Some settings → IsUnread name why →
+      Debugs remaining contents input input output output source is_image arguments ended
+  debugs_unread source is_image name arguments settings ended why e some asked w =
       rw (some, asked) (inl (inr (declines remaining input input (output ≡ output) refl (IsUnread name) ended why e w refl)))
 
   -- it is an image that is refused
-  pub debugs_refused : (source : Option (Bor (List ℕ))) (is_image : Bool) (name : Bor (List ℕ)) (words : SettingWords) (settings : SessionSettings)
-      (bytes : List ℕ) (ended : Outcome) (why : Failure) → ended ≡ Err why → source ≡ Some name → settings_asked words ≡ Some settings →
-      IsNotTaken is_image name bytes why → Debugs remaining contents input input output output source is_image words ended
-  debugs_refused source is_image name words settings bytes ended why e some asked refused =
+  pub debugs_refused : (source : Option (Bor (List ℕ))) (is_image : Bool) (name : Bor (List ℕ)) (arguments : SettingArguments) (settings : SessionSettings)
+      (bytes : List ℕ) (ended : Outcome) (why : Failure) → ended ≡ Err why → source ≡ Some name → settings_asked arguments ≡ Some settings →
+      IsNotTaken is_image name bytes why → Debugs remaining contents input input output output source is_image arguments ended
+  debugs_refused source is_image name arguments settings bytes ended why e some asked refused =
       rw (some, asked) (inl (inl (bytes, by_kind is_image refused)))
     where
       by_kind : (is_image : Bool) → IsNotTaken is_image name bytes why →
@@ -301,12 +301,12 @@ module _ {R W : Type 0} (remaining : R → Option (List ℕ)) (contents : W → 
   too_long image bytes because long gives =
       inl (bytes, gives, record { fits = λ short. absurd (omega arith); too_long = λ _. (inr (because, refl), refl) })
 
-  -- a run's words can't be read
-  pub runs_not : (words : RunWords) (ended : Outcome) (why : Failure) → ended ≡ Err why → IsUnasked remaining in_old in_new words why →
-      Runs remaining contents in_old in_new output output words ended
-  runs_not words ended why e is =
-      asked_not remaining in_old in_new (output ≡ output) words
-      (λ settings keys source. PrintsUnder contents output output settings source keys (λ session. printed_run session words.steps)) ended refl why e is
+  -- a run's arguments can't be read
+  pub runs_not : (arguments : RunArguments) (ended : Outcome) (why : Failure) → ended ≡ Err why → IsUnasked remaining in_old in_new arguments why →
+      Runs remaining contents in_old in_new output output arguments ended
+  runs_not arguments ended why e is =
+      asked_not remaining in_old in_new (output ≡ output) arguments
+      (λ settings keys source. PrintsUnder contents output output settings source keys (λ session. printed_run session arguments.steps)) ended refl why e is
 
 module _ {R W : Type 0} (remaining : R → Option (List ℕ)) (contents : W → Option (List ℕ)) (in_old in_new : Tally R) (old new : Tally W) where
   pub tells : (printed_by : List (List ℕ) → Printed) (source : Bor (List ℕ)) (bytes text : List ℕ) (ended : Outcome) → text ≡ bytes →
@@ -329,40 +329,40 @@ module _ {R W : Type 0} (remaining : R → Option (List ℕ)) (contents : W → 
         },
       )
 
-  pub runs : (words : RunWords) (asked : Asked) (settings : SessionSettings) (keys source : List ℕ) (ended : Outcome) →
-      IsAsked remaining in_old in_new words asked → settings ≡ asked.settings → keys ≡ asked.keys.bytes.items → source ≡ asked.source.items →
-      PrintsUnder contents old new settings source keys (λ session. printed_run session words.steps) ended →
-      Runs remaining contents in_old in_new old new words ended
-  runs words asked settings keys source ended is s k t did =
-      asked_then remaining in_old in_new (new ≡ old) words
-      (λ settings keys source. PrintsUnder contents old new settings source keys (λ session. printed_run session words.steps)) ended asked is
+  pub runs : (arguments : RunArguments) (asked : Asked) (settings : SessionSettings) (keys source : List ℕ) (ended : Outcome) →
+      IsAsked remaining in_old in_new arguments asked → settings ≡ asked.settings → keys ≡ asked.keys.bytes.items → source ≡ asked.source.items →
+      PrintsUnder contents old new settings source keys (λ session. printed_run session arguments.steps) ended →
+      Runs remaining contents in_old in_new old new arguments ended
+  runs arguments asked settings keys source ended is s k t did =
+      asked_then remaining in_old in_new (new ≡ old) arguments
+      (λ settings keys source. PrintsUnder contents old new settings source keys (λ session. printed_run session arguments.steps)) ended asked is
       (rw (sym s, sym k, sym t) did)
 
 module _ {R W : Type 0} (remaining : R → Option (List ℕ)) (contents : W → Option (List ℕ)) (in_old in_new : Tally R) (old new : Tally W) where
-  pub traces : (words : TraceWords) (asked : Asked) (ended : Outcome) → IsAsked remaining in_old in_new words.run asked →
-      TracesBy contents old new words words.against asked.settings asked.keys.bytes.items asked.source.items ended →
-      Traces remaining contents in_old in_new old new words ended
-  traces words asked ended is did =
-      asked_then remaining in_old in_new (new ≡ old) words.run (TracesBy contents old new words words.against) ended asked is did
+  pub traces : (arguments : TraceArguments) (asked : Asked) (ended : Outcome) → IsAsked remaining in_old in_new arguments.run asked →
+      TracesBy contents old new arguments arguments.against asked.settings asked.keys.bytes.items asked.source.items ended →
+      Traces remaining contents in_old in_new old new arguments ended
+  traces arguments asked ended is did =
+      asked_then remaining in_old in_new (new ≡ old) arguments.run (TracesBy contents old new arguments arguments.against) ended asked is did
 
-  pub traces_not : (words : TraceWords) (why : Failure) (ended : Outcome) → new ≡ old → ended ≡ Err why → IsUnasked remaining in_old in_new words.run why →
-      Traces remaining contents in_old in_new old new words ended
-  traces_not words why ended same e is =
-      asked_not remaining in_old in_new (new ≡ old) words.run (TracesBy contents old new words words.against) ended same why e is
+  pub traces_not : (arguments : TraceArguments) (why : Failure) (ended : Outcome) → new ≡ old → ended ≡ Err why → IsUnasked remaining in_old in_new arguments.run why →
+      Traces remaining contents in_old in_new old new arguments ended
+  traces_not arguments why ended same e is =
+      asked_not remaining in_old in_new (new ≡ old) arguments.run (TracesBy contents old new arguments arguments.against) ended same why e is
 
-module _ {R : Type 0} (remaining : R → Option (List ℕ)) (in_old in_new : Tally R) (words : RunWords) where
-  -- what a run's words ask for was read
-  pub asked_is : (asked : Asked) → settings_asked words.settings ≡ Some asked.settings → (words.keys ≡ None → asked.keys.bytes.items ≡ []) →
-      IsGiven remaining in_old in_new words.is_image words.source asked.source.items → IsAsked remaining in_old in_new words asked
+module _ {R : Type 0} (remaining : R → Option (List ℕ)) (in_old in_new : Tally R) (arguments : RunArguments) where
+  -- what a run's arguments ask for was read
+  pub asked_is : (asked : Asked) → settings_asked arguments.settings ≡ Some asked.settings → (arguments.keys ≡ None → asked.keys.bytes.items ≡ []) →
+      IsGiven remaining in_old in_new arguments.is_image arguments.source asked.source.items → IsAsked remaining in_old in_new arguments asked
   asked_is asked settled keys given = (
-    settles remaining in_old in_new (Unit {0}) tt (settings_asked words.settings) asked.settings
-        (λ settings. FromKeys remaining in_old in_new (Unit {0}) words.keys (λ keys. FromGiven remaining in_old in_new (Unit {0}) words.is_image words.source
+    settles remaining in_old in_new (Unit {0}) tt (settings_asked arguments.settings) asked.settings
+        (λ settings. FromKeys remaining in_old in_new (Unit {0}) arguments.keys (λ keys. FromGiven remaining in_old in_new (Unit {0}) arguments.is_image arguments.source
         (λ source ended. (settings ≡ asked.settings) × (keys ≡ asked.keys.bytes.items) × (source ≡ asked.source.items))))
         (Ok Done) settled
-        (keys_read remaining in_old in_new (Unit {0}) tt words.keys asked.keys.bytes.items
-        (λ keys. FromGiven remaining in_old in_new (Unit {0}) words.is_image words.source
+        (keys_read remaining in_old in_new (Unit {0}) tt arguments.keys asked.keys.bytes.items
+        (λ keys. FromGiven remaining in_old in_new (Unit {0}) arguments.is_image arguments.source
         (λ source ended. (asked.settings ≡ asked.settings) × (keys ≡ asked.keys.bytes.items) × (source ≡ asked.source.items))) (Ok Done) keys
-        (given_next remaining in_old in_new (Unit {0}) (Unit {0}) (Ok Done) (Ok Done) (λ Why h. (h, tt)) words.is_image words.source
+        (given_next remaining in_old in_new (Unit {0}) (Unit {0}) (Ok Done) (Ok Done) (λ Why h. (h, tt)) arguments.is_image arguments.source
         (λ source ended. source ≡ asked.source.items)
         (λ source ended. (asked.settings ≡ asked.settings) × (asked.keys.bytes.items ≡ asked.keys.bytes.items) × (source ≡ asked.source.items))
         (λ source e. (refl, refl, e)) given)),
@@ -371,15 +371,15 @@ module _ {R : Type 0} (remaining : R → Option (List ℕ)) (in_old in_new : Tal
 
   -- the source wasn't
   pub unasked_source : {T : Type 0} (settings : SessionSettings) (bytes : List ℕ) (result : Result T Failure) (why : Failure) → result ≡ Err why →
-      settings_asked words.settings ≡ Some settings → (words.keys ≡ None → bytes ≡ []) → IsNotGiven remaining in_old in_new words.is_image words.source why →
-      IfErr result (λ y. IsUnasked remaining in_old in_new words y)
+      settings_asked arguments.settings ≡ Some settings → (arguments.keys ≡ None → bytes ≡ []) → IsNotGiven remaining in_old in_new arguments.is_image arguments.source why →
+      IfErr result (λ y. IsUnasked remaining in_old in_new arguments y)
   unasked_source {T} settings bytes result why e settled keys w =
-      subst (λ (r : Result T Failure). IfErr r (λ y. IsUnasked remaining in_old in_new words y)) (sym e)
-      (settles remaining in_old in_new (Unit {0}) tt (settings_asked words.settings) settings
-      (λ settings. FromKeys remaining in_old in_new (Unit {0}) words.keys (λ keys. FromGiven remaining in_old in_new (Unit {0}) words.is_image words.source (λ source ended. ⊥)))
+      subst (λ (r : Result T Failure). IfErr r (λ y. IsUnasked remaining in_old in_new arguments y)) (sym e)
+      (settles remaining in_old in_new (Unit {0}) tt (settings_asked arguments.settings) settings
+      (λ settings. FromKeys remaining in_old in_new (Unit {0}) arguments.keys (λ keys. FromGiven remaining in_old in_new (Unit {0}) arguments.is_image arguments.source (λ source ended. ⊥)))
       (Err why) settled
-      (keys_read remaining in_old in_new (Unit {0}) tt words.keys bytes
-      (λ keys. FromGiven remaining in_old in_new (Unit {0}) words.is_image words.source (λ source ended. ⊥)) (Err why) keys w))
+      (keys_read remaining in_old in_new (Unit {0}) tt arguments.keys bytes
+      (λ keys. FromGiven remaining in_old in_new (Unit {0}) arguments.is_image arguments.source (λ source ended. ⊥)) (Err why) keys w))
 
 module _ {W : Type 0} (contents : W → Option (List ℕ)) (old new : Tally W) where
   -- there are no settings for a picture
@@ -400,20 +400,20 @@ module _ {W : Type 0} (contents : W → Option (List ℕ)) (old new : Tally W) w
   picture_printed asked settings source keys text events step form ended a s k did = rw (a, sym s, sym k) (inl did)
 
 module _ {R W : Type 0} (remaining : R → Option (List ℕ)) (contents : W → Option (List ℕ)) (in_old in_new : Tally R) (old new : Tally W)
-    (words : PictureWords) (ended : Outcome) where
-  -- a picture's words were read, and then this was done
-  pub pictures : (asked : Asked) (bitmap png : Option (Bor (List ℕ))) → IsAsked remaining in_old in_new words.run asked → words.bitmap ≡ bitmap →
-      words.png ≡ png →
-      PicturesBy contents old new (settings_asked words.run.settings) asked.source.items asked.keys.bytes.items words bitmap png ended →
-      Pictures remaining contents in_old in_new old new words ended
+    (arguments : PictureArguments) (ended : Outcome) where
+  -- a picture's arguments were read, and then this was done
+  pub pictures : (asked : Asked) (bitmap png : Option (Bor (List ℕ))) → IsAsked remaining in_old in_new arguments.run asked → arguments.bitmap ≡ bitmap →
+      arguments.png ≡ png →
+      PicturesBy contents old new (settings_asked arguments.run.settings) asked.source.items asked.keys.bytes.items arguments bitmap png ended →
+      Pictures remaining contents in_old in_new old new arguments ended
   pictures asked bitmap png is b p did =
-      asked_then remaining in_old in_new (new ≡ old) words.run
-      (λ settings keys source. PicturesBy contents old new (Some settings) source keys words words.bitmap words.png) ended asked is
+      asked_then remaining in_old in_new (new ≡ old) arguments.run
+      (λ settings keys source. PicturesBy contents old new (Some settings) source keys arguments arguments.bitmap arguments.png) ended asked is
       (rw (sym is.1, b, p) did)
 
   -- they couldn't be
-  pub pictures_not : (why : Failure) → new ≡ old → ended ≡ Err why → IsUnasked remaining in_old in_new words.run why →
-      Pictures remaining contents in_old in_new old new words ended
+  pub pictures_not : (why : Failure) → new ≡ old → ended ≡ Err why → IsUnasked remaining in_old in_new arguments.run why →
+      Pictures remaining contents in_old in_new old new arguments ended
   pictures_not why same e is =
-      asked_not remaining in_old in_new (new ≡ old) words.run
-      (λ settings keys source. PicturesBy contents old new (Some settings) source keys words words.bitmap words.png) ended same why e is
+      asked_not remaining in_old in_new (new ≡ old) arguments.run
+      (λ settings keys source. PicturesBy contents old new (Some settings) source keys arguments arguments.bitmap arguments.png) ended same why e is

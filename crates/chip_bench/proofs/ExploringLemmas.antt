@@ -1,7 +1,7 @@
 -- What `explore` did, from what its steps did.
 use Rattle.std.proofs.Common.{◌≡◌, ◌⊎◌, inl, inr, ℕ, List, ◌++◌, Option, Some, None, Ok, Err, sym, subst}
 use Rattle.std.specs.Prelude.{MatchOption, option_copied}
-use Rattle.chip_arguments.specs.declared.command_line.ExploreWords.{ExploreWords}
+use Rattle.chip_arguments.specs.declared.command_line.ExploreArguments.{ExploreArguments}
 use Rattle.chip_asm.specs.Lines.{lines_of, open_fault}
 use Rattle.chip_asm.specs.Program.{image_of, symbols_of}
 use Rattle.chip_explore.specs.Answers.{Answers, AreExecuted}
@@ -14,7 +14,7 @@ use Rattle.chip_session.specs.Tally.{Tally}
 use Rattle.chip_bench.specs.Doing.{Declined, Explores, Fails, FromGiven, IfSets, IfSettled, IsBadPlace, IsBadSet, IsShort, Outcome, Searches, SearchesFor, SearchesFrom, WithSets, image_in}
 use Rattle.chip_bench.specs.Exploring.{AsksCauses, AsksKeys, covering_text, first_lines, search_ending, target_asked}
 use Rattle.chip_bench.specs.Printing.{Prints, printed, printed_faults}
-use Rattle.chip_bench.specs.SettingWords.{settings_asked}
+use Rattle.chip_bench.specs.SettingArguments.{settings_asked}
 use Rattle.chip_bench.specs.declared.ending.Ending.{Ending}
 use Rattle.chip_bench.specs.declared.ending.Ending.TheVariants.{Done}
 use Rattle.chip_bench.specs.declared.ending.Failure.{Failure}
@@ -27,30 +27,30 @@ some_is_none h = cc
 
 module _ {W : Type 0} (contents : W → Option (List ℕ)) (out_old out_new : Tally W) where
   -- what is printed of a search
-  pub search_printed : (words : ExploreWords) (lines : List (List ℕ)) (rate keys : ℕ) (target : Target) (start : State) (explored : Explored)
+  pub search_printed : (arguments : ExploreArguments) (lines : List (List ℕ)) (rate keys : ℕ) (target : Target) (start : State) (explored : Explored)
       (text others : List ℕ) (ending : Ending) (ended : Outcome) → Answers rate keys target start explored.outcome →
       AreExecuted rate keys explored.executed start explored.outcome →
-      text ≡ first_lines explored.outcome ++ others ++ covering_text words.is_covering explored.executed lines →
+      text ≡ first_lines explored.outcome ++ others ++ covering_text arguments.is_covering explored.executed lines →
       ending ≡ search_ending explored.outcome explored.is_short → Prints contents out_old out_new (printed text ending) ended →
-      SearchesFrom contents out_old out_new words lines rate keys target start ended
-  search_printed words lines rate keys target start explored text others ending ended answers executed is end prints =
+      SearchesFrom contents out_old out_new arguments lines rate keys target start ended
+  search_printed arguments lines rate keys target start explored text others ending ended answers executed is end prints =
       inl (explored, answers, executed, inl (printed text ending, record { others = others; text = is; ending = end }, prints))
 
-  module _ (words : ExploreWords) (settings : SessionSettings) (causes keys : ℕ) (source : List ℕ) (ended : Outcome) where
+  module _ (arguments : ExploreArguments) (settings : SessionSettings) (causes keys : ℕ) (source : List ℕ) (ended : Outcome) where
     abbrev Searched : Option (List ℕ) → Type 0
-    Searched image = Searches contents out_old out_new words settings causes keys image source ended
+    Searched image = Searches contents out_old out_new arguments settings causes keys image source ended
 
     -- what a search of the machine of an image did, for a target that a source of these lines has
     abbrev ByTarget : List (List ℕ) → List ℕ → Option Target → Type 0
     ByTarget lines image target =
         MatchOption target (Fails contents out_old out_new IsBadPlace ended)
-        (λ found. SearchesFrom contents out_old out_new words lines settings.rate keys found (start_of image settings.tape settings.profile) ended)
+        (λ found. SearchesFrom contents out_old out_new arguments lines settings.rate keys found (start_of image settings.tape settings.profile) ended)
 
     -- the same for the image, if such a source has one
     abbrev ByImage : List (List ℕ) → Option (List ℕ) → Type 0
     ByImage lines image =
         MatchOption image (Prints contents out_old out_new (printed_faults lines) ended)
-        (λ found. ByTarget lines found (target_asked causes (option_copied words.place) (symbols_of lines)) ⊎ Fails contents out_old out_new IsShort ended)
+        (λ found. ByTarget lines found (target_asked causes (option_copied arguments.place) (symbols_of lines)) ⊎ Fails contents out_old out_new IsShort ended)
 
     -- the source opens
     pub searches_opened : (lines : List (List ℕ)) → open_fault source ≡ None → lines ≡ lines_of source → ByImage lines (image_of lines) →
@@ -60,36 +60,36 @@ module _ {W : Type 0} (contents : W → Option (List ℕ)) (out_old out_new : Ta
         rw opens (by_image (image_of (lines_of source)) at_lines)
       where
         by_target : (image : List ℕ) (target : Option Target) → ByTarget (lines_of source) image target →
-            SearchesFor contents out_old out_new words settings keys target image source ended
+            SearchesFor contents out_old out_new arguments settings keys target image source ended
         by_target image None did = did
         by_target image (Some target) did = did
 
         by_image : (image : Option (List ℕ)) → ByImage (lines_of source) image → Searched image
         by_image None did = rw opens did
-        by_image (Some image) (inl did) = inl (by_target image (target_asked causes (option_copied words.place) (symbols_of (lines_of source))) did)
+        by_image (Some image) (inl did) = inl (by_target image (target_asked causes (option_copied arguments.place) (symbols_of (lines_of source))) did)
         by_image (Some image) (inr short) = inr short
 
 module _ {R W : Type 0} (remaining : R → Option (List ℕ)) (contents : W → Option (List ℕ)) (in_old in_new : Tally R) (out_old out_new : Tally W)
-    (words : ExploreWords) (ended : Outcome) where
+    (arguments : ExploreArguments) (ended : Outcome) where
   abbrev Did : SessionSettings → ℕ → ℕ → Outcome → Type 0
   Did settings causes keys =
-      FromGiven remaining in_old in_new (out_new ≡ out_old) words.is_image words.source (λ source.
-      Searches contents out_old out_new words settings causes keys (image_in source) source)
+      FromGiven remaining in_old in_new (out_new ≡ out_old) arguments.is_image arguments.source (λ source.
+      Searches contents out_old out_new arguments settings causes keys (image_in source) source)
 
   abbrev WithIts : SessionSettings → Outcome → Type 0
-  WithIts settings = WithSets remaining in_old in_new (out_new ≡ out_old) words (Did settings)
+  WithIts settings = WithSets remaining in_old in_new (out_new ≡ out_old) arguments (Did settings)
 
   -- there are no settings
-  pub explores_unsettled : (why : Failure) → ended ≡ Err why → in_new ≡ in_old → out_new ≡ out_old → Unsettles (settings_asked words.settings) why →
-      Explores remaining contents in_old in_new out_old out_new words ended
+  pub explores_unsettled : (why : Failure) → ended ≡ Err why → in_new ≡ in_old → out_new ≡ out_old → Unsettles (settings_asked arguments.settings) why →
+      Explores remaining contents in_old in_new out_old out_new arguments ended
   explores_unsettled why e same quiet u =
-      unsettles remaining in_old in_new (out_new ≡ out_old) quiet (settings_asked words.settings) WithIts ended why e same u
+      unsettles remaining in_old in_new (out_new ≡ out_old) quiet (settings_asked arguments.settings) WithIts ended why e same u
 
   -- a set is bad
-  pub explores_bad : (settings : SessionSettings) (why : Failure) → settings_asked words.settings ≡ Some settings → ended ≡ Err why → in_new ≡ in_old →
-      out_new ≡ out_old → IsBadSets words why → Explores remaining contents in_old in_new out_old out_new words ended
+  pub explores_bad : (settings : SessionSettings) (why : Failure) → settings_asked arguments.settings ≡ Some settings → ended ≡ Err why → in_new ≡ in_old →
+      out_new ≡ out_old → IsBadSets arguments why → Explores remaining contents in_old in_new out_old out_new arguments ended
   explores_bad settings why settled e same quiet bad =
-      settles remaining in_old in_new (out_new ≡ out_old) quiet (settings_asked words.settings) settings WithIts ended settled
+      settles remaining in_old in_new (out_new ≡ out_old) quiet (settings_asked arguments.settings) settings WithIts ended settled
       (bad.causes, bad.asks_causes, bad.keys, bad.asks_keys, by_sets bad.causes bad.keys bad.none)
     where
       refuses : Declined remaining in_old in_new (out_new ≡ out_old) IsBadSet ended
@@ -101,30 +101,30 @@ module _ {R W : Type 0} (remaining : R → Option (List ℕ)) (contents : W → 
       by_sets (Some causes) (Some keys) (inl none) = absurd (some_is_none none)
       by_sets (Some causes) (Some keys) (inr none) = absurd (some_is_none none)
 
-  module _ (settings : SessionSettings) (causes keys : ℕ) (settled : settings_asked words.settings ≡ Some settings)
-      (asks_causes : AsksCauses words (Some causes)) (asks_keys : AsksKeys words (Some keys)) where
-    with_sets : Did settings causes keys ended → Explores remaining contents in_old in_new out_old out_new words ended
+  module _ (settings : SessionSettings) (causes keys : ℕ) (settled : settings_asked arguments.settings ≡ Some settings)
+      (asks_causes : AsksCauses arguments (Some causes)) (asks_keys : AsksKeys arguments (Some keys)) where
+    with_sets : Did settings causes keys ended → Explores remaining contents in_old in_new out_old out_new arguments ended
     with_sets did =
         subst (λ (o : Option SessionSettings). IfSettled remaining in_old in_new (out_new ≡ out_old) o WithIts ended) (sym settled)
         (inl (Some causes, asks_causes, Some keys, asks_keys, did))
 
     -- the source can't be read
-    pub explores_unread : (why : Failure) → ended ≡ Err why → out_new ≡ out_old → IsNotGiven remaining in_old in_new words.is_image words.source why →
-        Explores remaining contents in_old in_new out_old out_new words ended
+    pub explores_unread : (why : Failure) → ended ≡ Err why → out_new ≡ out_old → IsNotGiven remaining in_old in_new arguments.is_image arguments.source why →
+        Explores remaining contents in_old in_new out_old out_new arguments ended
     explores_unread why e quiet unread =
         with_sets
         (given_next remaining in_old in_new (Unit {0}) (out_new ≡ out_old) (Err why) ended (λ Why h. (fails Why ended why e h, quiet))
-        words.is_image words.source (λ source done. ⊥)
-        (λ source. Searches contents out_old out_new words settings causes keys (image_in source) source)
+        arguments.is_image arguments.source (λ source done. ⊥)
+        (λ source. Searches contents out_old out_new arguments settings causes keys (image_in source) source)
         (λ source none. absurd none) unread)
 
     -- it was searched
-    pub explores_done : (bytes : List ℕ) → IsGiven remaining in_old in_new words.is_image words.source bytes →
-        Searches contents out_old out_new words settings causes keys (image_in bytes) bytes ended →
-        Explores remaining contents in_old in_new out_old out_new words ended
+    pub explores_done : (bytes : List ℕ) → IsGiven remaining in_old in_new arguments.is_image arguments.source bytes →
+        Searches contents out_old out_new arguments settings causes keys (image_in bytes) bytes ended →
+        Explores remaining contents in_old in_new out_old out_new arguments ended
     explores_done bytes given did =
         with_sets
         (given_next remaining in_old in_new (Unit {0}) (out_new ≡ out_old) (Ok Done) ended (λ Why h. absurd h)
-        words.is_image words.source (λ taken done. taken ≡ bytes)
-        (λ source. Searches contents out_old out_new words settings causes keys (image_in source) source)
+        arguments.is_image arguments.source (λ taken done. taken ≡ bytes)
+        (λ source. Searches contents out_old out_new arguments settings causes keys (image_in source) source)
         (λ source e. rw e did) given)

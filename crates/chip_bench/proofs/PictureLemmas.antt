@@ -76,7 +76,7 @@ module _ {V W : Type 0} (held : V → Option (List ℕ)) (contents : W → Optio
         inl (printed_unless (fault_in settings) (wanted_in settings) ending bytes ended other none some drawn did)
     picture_told (Some settings) ending bytes ended other none some (inr drawn) did = absurd drawn.0
 
-    -- there was no memory for it
+    -- memory ran out for it
     pub picture_short : (asked : Option SessionSettings) → new ≡ old → WritesPicture contents old new asked source keys step form name (Err failure.OutOfMemory)
     picture_short None same = (inr refl, same)
     picture_short (Some settings) same = inr (refl, same)

@@ -76,7 +76,7 @@ module _ {R W : Type 0} (remaining : R → Option (List ℕ)) (contents : W → 
       some_is_none : Some settings ≡ None → ⊥
       some_is_none h = cc
 
-  -- the empty source opens unless there is no memory
+  -- the empty source opens unless memory runs out
   declined : (settings : SessionSettings) (in_old in_new : Tally R) (out_old out_mid : Tally W) (e : OpenError) (ended : Result Ending Failure) →
       Declines remaining contents settings [] in_old in_new out_old out_mid e ended →
       (ended ≡ Err failure.OutOfMemory) × Converses remaining contents settings [] in_old in_new out_old out_mid (Err (fault.Source e))

@@ -1,4 +1,4 @@
--- What the program does for each thing that its words can ask for (own).
+-- What the program does for each thing that its arguments can ask for (own).
 --     IsInputUnread, IsSourceUnread  what hinders reading a source
 --     IsUnwritten, IsFileWritten     what hinders writing a file; that it was written
 --     GivesSource                    the bytes of a source of that name
@@ -11,10 +11,10 @@
 --     Debugs, Assembles, Tells, Checks, Disassembles, Runs, Traces, Pictures, Explores, Explains
 --                                    what each command did
 --     Does                           the same, by what was asked
---     Performs, ShowsHelp, ShowsVersion   the same, for the words of the command line
+--     Performs, ShowsHelp, ShowsVersion   the same, for the arguments
 --     Ends                           how the program ended after that
--- No contract says what bytes a file gives or takes: of a file's bytes these words say that there
--- are some.
+-- No contract says what bytes a file gives or takes: of a file's bytes these definitions say that
+-- there are some.
 use Rattle.std.specs.Prelude.{◌≡◌, ◌≢◌, ◌⊎◌, ℕ, ◌<◌, ◌≤◌, ◌==◌, Bool, true, false, List, [], ◌∷◌, codes, length, take, Option, Some, None, option_copied, IfSome, Result, Ok, Err, IsErrAnd, if◌then◌else◌}
 use Rattle.std.specs.Borrow.{Bor}
 use Rattle.std.specs.Io.KnownBytes.{Keeps}
@@ -26,7 +26,7 @@ use Rattle.chip_lang.specs.declared.limits.TheConstants.{IMAGE_BYTES}
 use Rattle.chip_views.specs.Dis.{source_of_image}
 use Rattle.chip_views.specs.declared.picture.Letters.{Letters}
 use Rattle.chip_views.specs.declared.picture.Letters.TheVariants.{Blocks, Plain}
-use Rattle.chip_arguments.specs.CommandWords.{AsksFor}
+use Rattle.chip_arguments.specs.CommandArguments.{AsksFor}
 use Rattle.chip_session.specs.KeyFile.{key_fault, session_under}
 use Rattle.chip_session.specs.Session.{session_of}
 use Rattle.std.specs.Str.{str_to_ascii_lowercase}
@@ -43,7 +43,7 @@ use Rattle.chip_pages.specs.Pages.{IsContents, IsExplained}
 use Rattle.chip_arguments.specs.Version.{version_text}
 use Rattle.chip_bench.specs.Printing.{IsPrintedCheckOf, Printed, PrintsSuch, PrintsSuchUnder, PrintsUnder, Prints, RefusesKeys, StreamsUnder, fault_under, printed_faults, printed_listing, printed_picture, printed, printed_of, printed_run, printed_symbols}
 use Rattle.chip_bench.specs.Running.{AnswersIfAsked, AnswersScript, IsUnread, source_bytes_read, status_of}
-use Rattle.chip_bench.specs.SettingWords.{settings_asked}
+use Rattle.chip_bench.specs.SettingArguments.{settings_asked}
 use Rattle.chip_session.specs.Settings.{SessionSettings}
 use Rattle.chip_session.specs.Tally.{Tally, failures_after_flush}
 use Rattle.chip_bench.specs.Testing.{Tests}
@@ -55,14 +55,14 @@ use Rattle.chip_machine.specs.Start.{start_of}
 use Rattle.chip_machine.specs.State.{State}
 use Rattle.chip_arguments.specs.declared.command_line.CommandLine.{CommandLine}
 use Rattle.chip_arguments.specs.declared.command_line.CommandLine.TheVariants as line
-use Rattle.chip_arguments.specs.declared.command_line.CheckWords.{CheckWords}
+use Rattle.chip_arguments.specs.declared.command_line.CheckArguments.{CheckArguments}
 use Rattle.chip_arguments.specs.declared.command_line.ColorChoice.{ColorChoice}
 use Rattle.chip_arguments.specs.declared.command_line.ColorChoice.TheVariants as color
-use Rattle.chip_arguments.specs.declared.command_line.ExploreWords.{ExploreWords}
-use Rattle.chip_arguments.specs.declared.command_line.PictureWords.{PictureWords}
-use Rattle.chip_arguments.specs.declared.command_line.RunWords.{RunWords}
-use Rattle.chip_arguments.specs.declared.command_line.SettingWords.{SettingWords}
-use Rattle.chip_arguments.specs.declared.command_line.TraceWords.{TraceWords}
+use Rattle.chip_arguments.specs.declared.command_line.ExploreArguments.{ExploreArguments}
+use Rattle.chip_arguments.specs.declared.command_line.PictureArguments.{PictureArguments}
+use Rattle.chip_arguments.specs.declared.command_line.RunArguments.{RunArguments}
+use Rattle.chip_arguments.specs.declared.command_line.SettingArguments.{SettingArguments}
+use Rattle.chip_arguments.specs.declared.command_line.TraceArguments.{TraceArguments}
 use Rattle.chip_bench.specs.declared.ending.Ending.{Ending}
 use Rattle.chip_bench.specs.declared.ending.Ending.TheVariants.{Done}
 use Rattle.chip_bench.specs.declared.ending.Failure.{Failure}
@@ -83,7 +83,8 @@ abbrev pub with_ending : Ending → Outcome → Outcome
 with_ending ending (Ok later) = Ok (worse ending later)
 with_ending ending (Err why) = Err why
 
--- whether what is printed has colours: where the words leave that open, whether the output takes them
+-- whether what is printed has colours: where the arguments leave that open, whether the output
+-- takes them
 abbrev pub paints : ColorChoice → (takes_color : Bool) → Bool
 paints color.Auto takes_color = takes_color
 paints color.Always takes_color = true
@@ -143,7 +144,7 @@ module _ {R : Type 0} (remaining : R → Option (List ℕ)) (in_old in_new : Tal
     pub untouched : name ≢ standard_input → in_new ≡ in_old
 
 module _ {R : Type 0} (in_old in_new : Tally R) where
-  -- what hinders reading standard input: a read failed, or there was no memory and none failed
+  -- what hinders reading standard input: a read failed, or memory ran out and none failed
   abbrev pub IsInputUnread : Failure → Type 0
   IsInputUnread why =
       ((why ≡ failure.Input) × (in_new.failures ≢ in_old.failures))
@@ -160,20 +161,20 @@ abbrev pub form_of : (is_json : Bool) → Form
 form_of is_json = if is_json then Json else Fields
 
 -- the part of a run that a trace with these columns shows
-abbrev pub shown_by : TraceWords → List Column → Shown
-shown_by words columns = record {
+abbrev pub shown_by : TraceArguments → List Column → Shown
+shown_by arguments columns = record {
   columns = columns;
-  form = form_of words.is_json;
-  from = words.from;
-  to = words.run.steps;
+  form = form_of arguments.is_json;
+  from = arguments.from;
+  to = arguments.run.steps;
 }
 
 -- the same of a trace beside another, whose lines have fields
-abbrev pub shown_beside : TraceWords → List Column → Shown
-shown_beside words columns = record (shown_by words columns) { form = Fields }
+abbrev pub shown_beside : TraceArguments → List Column → Shown
+shown_beside arguments columns = record (shown_by arguments columns) { form = Fields }
 
--- what hinders taking an image as the source that `dis` prints of it: it is too long, or there was no
--- memory
+-- what hinders taking an image as the source that `dis` prints of it: it is too long, or there was
+-- no memory
 abbrev pub IsImageRefused : Bor (List ℕ) → List ℕ → Failure → Type 0
 IsImageRefused name image why =
     IsShort why
@@ -206,7 +207,7 @@ module _ {R : Type 0} (remaining : R → Option (List ℕ)) (in_old in_new : Tal
       ((bytes : List ℕ) × GivesSource remaining in_old in_new name.now bytes × Did bytes ended)
       ⊎ (IsErrAnd ended (IsSourceUnread in_old in_new name) × Unwritten)
 
-  -- with the source of that name, which is an image where the words say so
+  -- with the source of that name, which is an image where the arguments say so
   abbrev pub FromGiven : Bool → Bor (List ℕ) → (List ℕ → Outcome → Type 0) → Outcome → Type 0
   FromGiven is_image name Did ended = FromSource name (AsSource is_image name Unwritten Did) ended
 
@@ -219,19 +220,19 @@ module _ {R : Type 0} (remaining : R → Option (List ℕ)) (in_old in_new : Tal
   FromKeys None Did ended = Did [] ended
   FromKeys (Some name) Did ended = FromFile name Did ended
 
-  -- under the settings that the words ask for
+  -- under the settings that the arguments ask for
   abbrev pub IfSettled : Option SessionSettings → (SessionSettings → Outcome → Type 0) → Outcome
       → Type 0
   IfSettled None Did ended = Declined IsUnsettled ended
   IfSettled (Some settings) Did ended = Did settings ended ⊎ Declined IsShort ended
 
   -- under those settings, with the key events and the source
-  abbrev pub WithAsked : RunWords → (SessionSettings → List ℕ → List ℕ → Outcome → Type 0) → Outcome
+  abbrev pub WithAsked : RunArguments → (SessionSettings → List ℕ → List ℕ → Outcome → Type 0) → Outcome
       → Type 0
-  WithAsked words Did ended =
-      IfSettled (settings_asked words.settings)
-      (λ settings. FromKeys words.keys
-      (λ keys. FromGiven words.is_image words.source (Did settings keys))) ended
+  WithAsked arguments Did ended =
+      IfSettled (settings_asked arguments.settings)
+      (λ settings. FromKeys arguments.keys
+      (λ keys. FromGiven arguments.is_image arguments.source (Did settings keys))) ended
 
   -- with the set that an argument asks for
   abbrev pub IfSet : Option ℕ → (ℕ → Outcome → Type 0) → Outcome → Type 0
@@ -244,9 +245,9 @@ module _ {R : Type 0} (remaining : R → Option (List ℕ)) (in_old in_new : Tal
   IfSets (Some causes) None Did ended = Declined IsBadSet ended
   IfSets None keys Did ended = Declined IsBadSet ended
 
-  abbrev pub WithSets : ExploreWords → (ℕ → ℕ → Outcome → Type 0) → Outcome → Type 0
-  WithSets words Did ended =
-      (causes : Option ℕ) × AsksCauses words causes × (keys : Option ℕ) × AsksKeys words keys
+  abbrev pub WithSets : ExploreArguments → (ℕ → ℕ → Outcome → Type 0) → Outcome → Type 0
+  WithSets arguments Did ended =
+      (causes : Option ℕ) × AsksCauses arguments causes × (keys : Option ℕ) × AsksKeys arguments keys
       × IfSets causes keys Did ended
 
 -- What is written.
@@ -298,70 +299,70 @@ module _ {W : Type 0} (contents : W → Option (List ℕ)) (out_old out_new : Ta
       ⊎ Fails IsShort ended
 
   -- both: the second where the first was written
-  abbrev pub PicturesBy : Option SessionSettings → List ℕ → List ℕ → PictureWords
+  abbrev pub PicturesBy : Option SessionSettings → List ℕ → List ℕ → PictureArguments
       → Option (Bor (List ℕ)) → Option (Bor (List ℕ)) → Outcome → Type 0
-  PicturesBy settings source keys words None None ended =
-      PrintsPicture settings source keys words.run.steps (form.Text (letters_of words.ascii)) ended
-  PicturesBy settings source keys words (Some bitmap) None ended =
-      WritesPicture settings source keys words.run.steps form.Bitmap bitmap ended
-  PicturesBy settings source keys words None (Some png) ended =
-      WritesPicture settings source keys words.run.steps form.Png png ended
-  PicturesBy settings source keys words (Some bitmap) (Some png) ended =
-      (WritesPicture settings source keys words.run.steps form.Bitmap bitmap ended
+  PicturesBy settings source keys arguments None None ended =
+      PrintsPicture settings source keys arguments.run.steps (form.Text (letters_of arguments.ascii)) ended
+  PicturesBy settings source keys arguments (Some bitmap) None ended =
+      WritesPicture settings source keys arguments.run.steps form.Bitmap bitmap ended
+  PicturesBy settings source keys arguments None (Some png) ended =
+      WritesPicture settings source keys arguments.run.steps form.Png png ended
+  PicturesBy settings source keys arguments (Some bitmap) (Some png) ended =
+      (WritesPicture settings source keys arguments.run.steps form.Bitmap bitmap ended
       × (ended ≢ Ok Done))
-      ⊎ WritesPicture settings source keys words.run.steps form.Png png ended
+      ⊎ WritesPicture settings source keys arguments.run.steps form.Png png ended
 
   -- `trace` without another trace: the lines of the run
-  abbrev pub TracesAlone : TraceWords → SessionSettings → (keys source : List ℕ) → Outcome → Type 0
-  TracesAlone words settings keys source ended =
+  abbrev pub TracesAlone : TraceArguments → SessionSettings → (keys source : List ℕ) → Outcome → Type 0
+  TracesAlone arguments settings keys source ended =
       StreamsUnder contents out_old out_new settings source keys
-      (λ session. printed_trace session (shown_by words (usual_columns words.sums))) ended
+      (λ session. printed_trace session (shown_by arguments (usual_columns arguments.sums))) ended
 
   -- beside the lines of another trace, whose header names the columns
-  abbrev pub TracesBeside : TraceWords → SessionSettings → (keys source : List ℕ)
+  abbrev pub TracesBeside : TraceArguments → SessionSettings → (keys source : List ℕ)
       → (name : Bor (List ℕ)) → (theirs : List (List ℕ)) → Outcome → Type 0
-  TracesBeside words settings keys source name theirs ended =
+  TracesBeside arguments settings keys source name theirs ended =
       ((columns : List Column) × (header_line columns ≡ str_to_ascii_lowercase (header_of theirs))
       × PrintsSuchUnder contents out_old out_new settings source keys
-      (λ session. IsCompared session (shown_beside words columns) (lines_after theirs)) ended)
+      (λ session. IsCompared session (shown_beside arguments columns) (lines_after theirs)) ended)
       ⊎ ((fault : HeaderError) × (header_fault (header_of theirs) ≡ Some fault)
       × Fails (λ why. why ≡ failure.BadTrace name fault) ended)
       ⊎ Fails IsShort ended
 
   -- `trace`
-  abbrev pub TracesBy : TraceWords → (against : Option (Bor (List ℕ))) → SessionSettings
+  abbrev pub TracesBy : TraceArguments → (against : Option (Bor (List ℕ))) → SessionSettings
       → (keys source : List ℕ) → Outcome → Type 0
-  TracesBy words None settings keys source ended = TracesAlone words settings keys source ended
-  TracesBy words (Some name) settings keys source ended =
-      ((bytes : List ℕ) × TracesBeside words settings keys source name (lines bytes) ended)
+  TracesBy arguments None settings keys source ended = TracesAlone arguments settings keys source ended
+  TracesBy arguments (Some name) settings keys source ended =
+      ((bytes : List ℕ) × TracesBeside arguments settings keys source name (lines bytes) ended)
       ⊎ Fails (IsUnread name) ended
 
   -- what a search over all key scripts of a machine answers is printed, and where it is asked for
   -- the listing of these lines with what is executed
-  abbrev pub SearchesFrom : ExploreWords → (lines : List (List ℕ)) → (rate keys : ℕ) → Target
+  abbrev pub SearchesFrom : ExploreArguments → (lines : List (List ℕ)) → (rate keys : ℕ) → Target
       → State → Outcome → Type 0
-  SearchesFrom words lines rate keys target start ended =
+  SearchesFrom arguments lines rate keys target start ended =
       ((explored : Explored) × Answers rate keys target start explored.outcome
       × AreExecuted rate keys explored.executed start explored.outcome
-      × PrintsSuch contents out_old out_new (IsSearchPrinted words.is_covering lines explored) ended)
-      ⊎ Fails (IsScriptUnwritten words.keys_to) ended
+      × PrintsSuch contents out_old out_new (IsSearchPrinted arguments.is_covering lines explored) ended)
+      ⊎ Fails (IsScriptUnwritten arguments.keys_to) ended
 
   -- if the source has the place that is looked for
-  abbrev pub SearchesFor : ExploreWords → SessionSettings → (keys : ℕ) → Option Target
+  abbrev pub SearchesFor : ExploreArguments → SessionSettings → (keys : ℕ) → Option Target
       → (image source : List ℕ) → Outcome → Type 0
-  SearchesFor words settings keys (Some target) image source ended =
-      SearchesFrom words (lines_of source) settings.rate keys target
+  SearchesFor arguments settings keys (Some target) image source ended =
+      SearchesFrom arguments (lines_of source) settings.rate keys target
       (start_of image settings.tape settings.profile) ended
-  SearchesFor words settings keys None image source ended = Fails IsBadPlace ended
+  SearchesFor arguments settings keys None image source ended = Fails IsBadPlace ended
 
   -- `explore`: where the source has an image, that of its machine; else the faults
-  abbrev pub Searches : ExploreWords → SessionSettings → (causes keys : ℕ) → Option (List ℕ)
+  abbrev pub Searches : ExploreArguments → SessionSettings → (causes keys : ℕ) → Option (List ℕ)
       → (source : List ℕ) → Outcome → Type 0
-  Searches words settings causes keys (Some image) source ended =
-      SearchesFor words settings keys
-      (target_asked causes (option_copied words.place) (symbols_of (lines_of source))) image source
+  Searches arguments settings causes keys (Some image) source ended =
+      SearchesFor arguments settings keys
+      (target_asked causes (option_copied arguments.place) (symbols_of (lines_of source))) image source
       ended ⊎ Fails IsShort ended
-  Searches words settings causes keys None source ended =
+  Searches arguments settings causes keys None source ended =
       Prints contents out_old out_new
       (printed_of (open_fault source) (printed_faults (lines_of source))) ended
 
@@ -419,12 +420,12 @@ module _ {R W : Type 0} (remaining : R → Option (List ℕ)) (contents : W → 
 module _ {R W : Type 0} (remaining : R → Option (List ℕ)) (contents : W → Option (List ℕ))
     (in_old in_new : Tally R) (out_old out_new : Tally W) where
   -- `debug`: without a source, a session on the empty one
-  abbrev pub Debugs : Option (Bor (List ℕ)) → (is_image : Bool) → SettingWords → Outcome → Type 0
-  Debugs None is_image words ended =
+  abbrev pub Debugs : Option (Bor (List ℕ)) → (is_image : Bool) → SettingArguments → Outcome → Type 0
+  Debugs None is_image arguments ended =
       AnswersIfAsked remaining contents [] in_old in_new out_old out_new
-      (settings_asked words) ended
-  Debugs (Some name) is_image words ended =
-      IfSettled remaining in_old in_new (out_new ≡ out_old) (settings_asked words) (λ settings.
+      (settings_asked arguments) ended
+  Debugs (Some name) is_image arguments ended =
+      IfSettled remaining in_old in_new (out_new ≡ out_old) (settings_asked arguments) (λ settings.
       FromFile remaining in_old in_new (out_new ≡ out_old) name
       (AsSource is_image name ((in_new ≡ in_old) × (out_new ≡ out_old)) (λ source.
       AnswersScript remaining contents settings source in_old in_new out_old out_new))) ended
@@ -442,12 +443,12 @@ module _ {R W : Type 0} (remaining : R → Option (List ℕ)) (contents : W → 
       (printed_of (open_fault bytes) (printed_by (lines_of bytes)))) ended
 
   -- `check`: no contract speaks of the warnings, but of which ones the argument names
-  abbrev pub Checks : (takes_color : Bool) → CheckWords → Outcome → Type 0
-  Checks takes_color words ended =
-      (allowed : Option ℕ) × AsksSet warning_named 0 (option_copied words.allowed) allowed
+  abbrev pub Checks : (takes_color : Bool) → CheckArguments → Outcome → Type 0
+  Checks takes_color arguments ended =
+      (allowed : Option ℕ) × AsksSet warning_named 0 (option_copied arguments.allowed) allowed
       × IfSet remaining in_old in_new (out_new ≡ out_old) allowed (λ set.
-      ChecksEach remaining contents words.is_json (paints words.color takes_color)
-      (length words.sources.items == 1) words.sources.items in_old in_new out_old out_new) ended
+      ChecksEach remaining contents arguments.is_json (paints arguments.color takes_color)
+      (length arguments.sources.items == 1) arguments.sources.items in_old in_new out_old out_new) ended
 
   abbrev pub Disassembles : Bor (List ℕ) → Outcome → Type 0
   Disassembles image ended =
@@ -455,54 +456,54 @@ module _ {R W : Type 0} (remaining : R → Option (List ℕ)) (contents : W → 
       (DisassemblesBytes contents out_old out_new image) ended
 
   -- `run`
-  abbrev pub Runs : RunWords → Outcome → Type 0
-  Runs words ended =
-      WithAsked remaining in_old in_new (out_new ≡ out_old) words (λ settings keys source.
+  abbrev pub Runs : RunArguments → Outcome → Type 0
+  Runs arguments ended =
+      WithAsked remaining in_old in_new (out_new ≡ out_old) arguments (λ settings keys source.
       PrintsUnder contents out_old out_new settings source keys
-      (λ session. printed_run session words.steps)) ended
+      (λ session. printed_run session arguments.steps)) ended
 
   -- `trace`
-  abbrev pub Traces : TraceWords → Outcome → Type 0
-  Traces words ended =
-      WithAsked remaining in_old in_new (out_new ≡ out_old) words.run
-      (TracesBy contents out_old out_new words words.against) ended
+  abbrev pub Traces : TraceArguments → Outcome → Type 0
+  Traces arguments ended =
+      WithAsked remaining in_old in_new (out_new ≡ out_old) arguments.run
+      (TracesBy contents out_old out_new arguments arguments.against) ended
 
   -- `picture`
-  abbrev pub Pictures : PictureWords → Outcome → Type 0
-  Pictures words ended =
-      WithAsked remaining in_old in_new (out_new ≡ out_old) words.run (λ settings keys source.
+  abbrev pub Pictures : PictureArguments → Outcome → Type 0
+  Pictures arguments ended =
+      WithAsked remaining in_old in_new (out_new ≡ out_old) arguments.run (λ settings keys source.
       PicturesBy contents out_old out_new
-      (Some settings) source keys words words.bitmap words.png) ended
+      (Some settings) source keys arguments arguments.bitmap arguments.png) ended
 
   -- `explore`
-  abbrev pub Explores : ExploreWords → Outcome → Type 0
-  Explores words ended =
-      IfSettled remaining in_old in_new (out_new ≡ out_old) (settings_asked words.settings)
-      (λ settings. WithSets remaining in_old in_new (out_new ≡ out_old) words (λ causes keys.
-      FromGiven remaining in_old in_new (out_new ≡ out_old) words.is_image words.source (λ source.
-      Searches contents out_old out_new words settings causes keys (image_in source) source))) ended
+  abbrev pub Explores : ExploreArguments → Outcome → Type 0
+  Explores arguments ended =
+      IfSettled remaining in_old in_new (out_new ≡ out_old) (settings_asked arguments.settings)
+      (λ settings. WithSets remaining in_old in_new (out_new ≡ out_old) arguments (λ causes keys.
+      FromGiven remaining in_old in_new (out_new ≡ out_old) arguments.is_image arguments.source (λ source.
+      Searches contents out_old out_new arguments settings causes keys (image_in source) source))) ended
 
   -- what the program did for what it was asked; its output takes colours, or it doesn't
   abbrev pub Does : (takes_color : Bool) → CommandLine → Outcome → Type 0
-  Does takes_color (line.Debug source is_image words) ended = Debugs source is_image words ended
+  Does takes_color (line.Debug source is_image arguments) ended = Debugs source is_image arguments ended
   Does takes_color (line.Asm source image) ended = Assembles source image ended
   Does takes_color (line.List source is_hex) ended = Tells (printed_listing is_hex) source ended
   Does takes_color (line.Syms source is_hex) ended = Tells (printed_symbols is_hex) source ended
-  Does takes_color (line.Check words) ended = Checks takes_color words ended
+  Does takes_color (line.Check arguments) ended = Checks takes_color arguments ended
   Does takes_color (line.Dis image) ended = Disassembles image ended
-  Does takes_color (line.Run words) ended = Runs words ended
-  Does takes_color (line.Trace words) ended = Traces words ended
-  Does takes_color (line.Picture words) ended = Pictures words ended
-  Does takes_color (line.Test words) ended = Tests words ended × (in_new ≡ in_old)
-  Does takes_color (line.Explore words) ended = Explores words ended
+  Does takes_color (line.Run arguments) ended = Runs arguments ended
+  Does takes_color (line.Trace arguments) ended = Traces arguments ended
+  Does takes_color (line.Picture arguments) ended = Pictures arguments ended
+  Does takes_color (line.Test arguments) ended = Tests arguments ended × (in_new ≡ in_old)
+  Does takes_color (line.Explore arguments) ended = Explores arguments ended
   Does takes_color (line.Explain code) ended =
       Explains contents out_old out_new code ended × (in_new ≡ in_old)
 
-  -- what it did for words without a fault: what they ask for, unless there was no memory to read
+  -- what it did for arguments without a fault: what they ask for, unless memory ran out to read
   -- them
   abbrev pub Performs : (takes_color : Bool) → List (List ℕ) → Outcome → Type 0
-  Performs takes_color words ended =
-      ((asked : CommandLine) × AsksFor words asked × Does takes_color asked ended)
+  Performs takes_color arguments ended =
+      ((asked : CommandLine) × AsksFor arguments asked × Does takes_color asked ended)
       ⊎ Declined remaining in_old in_new (out_new ≡ out_old) IsShort ended
 
   -- what it did for the word for help

@@ -9,7 +9,7 @@
 use Rattle.std.specs.Prelude.{◌≡◌, ℕ, ℤ, pos, ◌+◌, ◌-◌, ◌^◌, ◌&&◌, Bool, List, [], ◌∷◌, ◌++◌, codes, fold, length, map, nat_le, nat_lt, bit_or, Option, Some, None, option_copied, option_map, if◌then◌else◌}
 use Rattle.std.specs.Fmt.{decimal}
 use Rattle.memchr.specs.Find.{Nowhere, Passes, is_byte}
-use Rattle.chip_arguments.specs.declared.command_line.ExploreWords.{ExploreWords}
+use Rattle.chip_arguments.specs.declared.command_line.ExploreArguments.{ExploreArguments}
 use Rattle.chip_asm.specs.Listing.{listing_of}
 use Rattle.chip_asm.specs.Names.{Name, lookup_name}
 use Rattle.chip_asm.specs.declared.table.Symbol.{Symbol}
@@ -93,20 +93,20 @@ usual_causes = 252
 abbrev pub usual_keys : ℕ
 usual_keys = 65535
 
--- where a place is looked for, no stop is unless the words name some
+-- where a place is looked for, no stop is unless the arguments name some
 abbrev pub causes_beside : (place : Option (List ℕ)) → ℕ
 causes_beside None = usual_causes
 causes_beside (Some place) = 0
 
 -- the stop causes that a search looks for
-abbrev pub AsksCauses : ExploreWords → Option ℕ → Type 0
-AsksCauses words causes =
-    AsksSet cause_named (causes_beside (option_copied words.place)) (option_copied words.causes)
+abbrev pub AsksCauses : ExploreArguments → Option ℕ → Type 0
+AsksCauses arguments causes =
+    AsksSet cause_named (causes_beside (option_copied arguments.place)) (option_copied arguments.causes)
     causes
 
 -- the keys that a player has
-abbrev pub AsksKeys : ExploreWords → Option ℕ → Type 0
-AsksKeys words keys = AsksSet key_named usual_keys (option_copied words.allowed_keys) keys
+abbrev pub AsksKeys : ExploreArguments → Option ℕ → Type 0
+AsksKeys arguments keys = AsksSet key_named usual_keys (option_copied arguments.allowed_keys) keys
 
 -- a number that is an address, if it is below 4096
 abbrev pub in_memory : ℤ → Option ℕ
@@ -147,9 +147,9 @@ abbrev pub met_word : Met → List ℕ
 met_word (Cause cause) = cause_word cause
 met_word Address = codes "reached "
 
--- what is printed first of what a search found: the cause with its step and how many key events lead
--- there, and where the step may not be the first, up to which one the target is avoided; up to which
--- step it is; or that it is ever
+-- what is printed first of what a search found: the cause with its step and how many key events
+-- lead there, and where the step may not be the first, up to which one the target is avoided; up to
+-- which step it is; or that it is ever
 abbrev pub first_lines : Outcome → List ℕ
 first_lines (Found events step met) =
     number_line (met_word met) step ++ number_line (codes "keys ") (length events.items)
@@ -170,8 +170,8 @@ abbrev pub covering_text : (is_covering : Bool) → (executed : List Bool) → L
 covering_text is_covering executed lines =
     if is_covering then marked_listing executed (listing_of lines) else []
 
--- What is printed of what a search found: those lines, others of which no contract speaks (the other
--- causes that it met, and how many states it kept), and the listing.
+-- What is printed of what a search found: those lines, others of which no contract speaks (the
+-- other causes that it met, and how many states it kept), and the listing.
 pub record IsSearchPrinted (is_covering : Bool) (lines : List (List ℕ)) (explored : Explored)
     (wanted : Printed) : Type 0 where
   pub others : List ℕ

@@ -96,8 +96,8 @@ module _ {R W : Type 0} (remaining : R → Option (List ℕ)) (contents : W → 
   abbrev pub AnswersScript : Result Ending Failure → Type 0
   AnswersScript result = (served : Result Unit ServeError) × AnswersAs result served
 
--- The same where the words ask for these settings. Where they ask for none, the tape is bad; either
--- way memory may be short. Then nothing was read or written.
+-- The same where the arguments ask for these settings. Where they ask for none, the tape is bad;
+-- either way memory may be short. Then nothing was read or written.
 module _ {R W : Type 0} (remaining : R → Option (List ℕ)) (contents : W → Option (List ℕ))
     (source : List ℕ)
     (in_old in_new : Tally R) (out_old out_new : Tally W) where
@@ -108,7 +108,7 @@ module _ {R W : Type 0} (remaining : R → Option (List ℕ)) (contents : W → 
       ((result ≡ Err failure.BadTape) ⊎ (result ≡ Err failure.OutOfMemory)) × (in_new ≡ in_old)
       × (out_new ≡ out_old)
 
--- The program without words: a session on the empty source, which opens unless there is no memory.
+-- The program without arguments: a session on the empty source, which opens unless memory runs out.
 -- `flushed` says whether the flush at the end went well; one that failed is counted.
 module _ {R W : Type 0} (remaining : R → Option (List ℕ)) (contents : W → Option (List ℕ))
     (in_old in_new : Tally R) (out_old out_new : Tally W) where
@@ -134,17 +134,17 @@ abbrev pub no_memory : Failure
 no_memory = failure.OutOfMemory
 
 -- what hinders the program where `clap` answers an error of that kind
-abbrev pub words_failure : ErrorKind → Error → Failure
-words_failure kind.OutOfMemory error = failure.OutOfMemory
-words_failure _ error = failure.Usage error
+abbrev pub arguments_failure : ErrorKind → Error → Failure
+arguments_failure kind.OutOfMemory error = failure.OutOfMemory
+arguments_failure _ error = failure.Usage error
 
--- the status where the system can't give the program's words as text; 4 after any error where there
--- is no memory to say so
-abbrev pub IsWithoutWords : IoErrorKind → ℕ → Type 0
-IsWithoutWords io_kind.OutOfMemory status = status ≡ 4
-IsWithoutWords _ status = (status ≡ 2) ⊎ (status ≡ 4)
+-- the status where the system can't give the program's arguments as text; 4 after any error where
+-- there is no memory to say so
+abbrev pub IsWithoutArguments : IoErrorKind → ℕ → Type 0
+IsWithoutArguments io_kind.OutOfMemory status = status ≡ 4
+IsWithoutArguments _ status = (status ≡ 2) ⊎ (status ≡ 4)
 
--- words with a fault: they are not a request for help, nor in order
+-- arguments with a fault: they are not a request for help, nor in order
 abbrev pub AreFaulty : Kinds → Type 0
 AreFaulty kinds =
     (kinds ≢ []) × (IsAmong kind.DisplayHelp kinds → ⊥) × (IsAmong kind.DisplayVersion kinds → ⊥)

@@ -5,9 +5,9 @@
 --     Tests                  how the program ends
 use Rattle.std.specs.Prelude.{◌≡◌, ◌⊎◌, ℕ, ◌≤◌, ◌==◌, ◌&&◌, Bool, true, false, IsTrue, ◌↔◌, List, [], ◌∷◌, length, map, Option, Some, None, option_copied, Result, Ok, Err, if◌then◌else◌}
 use Rattle.std.specs.Borrow.{Bor}
-use Rattle.chip_arguments.specs.CommandWords.{IsProfile, ReadsNumber, ReadsOr}
-use Rattle.chip_arguments.specs.declared.command_line.SettingWords.{SettingWords}
-use Rattle.chip_arguments.specs.declared.command_line.TestWords.{TestWords}
+use Rattle.chip_arguments.specs.CommandArguments.{IsProfile, ReadsNumber, ReadsOr}
+use Rattle.chip_arguments.specs.declared.command_line.SettingArguments.{SettingArguments}
+use Rattle.chip_arguments.specs.declared.command_line.TestArguments.{TestArguments}
 use Rattle.chip_asm.specs.Lines.{open_fault}
 use Rattle.chip_cases.specs.Cases.{AreCases}
 use Rattle.chip_cases.specs.Matching.{IsAnswered}
@@ -15,14 +15,14 @@ use Rattle.chip_cases.specs.Steps.{Expectation, expectation_of}
 use Rattle.chip_cases.specs.declared.case.Case.{Case}
 use Rattle.chip_cases.specs.declared.case.Placed.{Placed}
 use Rattle.chip_cases.specs.declared.case.Setup.{Setup}
-use Rattle.chip_cases.specs.declared.case.SourceWords.{SourceWords}
-use Rattle.chip_cases.specs.declared.case.SourceWords.TheVariants as words
+use Rattle.chip_cases.specs.declared.case.CaseSource.{CaseSource}
+use Rattle.chip_cases.specs.declared.case.CaseSource.TheVariants as case_source
 use Rattle.chip_lang.specs.declared.limits.TheConstants.{IMAGE_BYTES}
 use Rattle.chip_replay.specs.declared.limits.TheConstants.{LEAST_SPACING}
 use Rattle.chip_session.specs.KeyFile.{key_fault, session_under}
 use Rattle.chip_bench.specs.Running.{failure_status}
 use Rattle.chip_session.specs.Session.{Session, session_of}
-use Rattle.chip_bench.specs.SettingWords.{settings_asked}
+use Rattle.chip_bench.specs.SettingArguments.{settings_asked}
 use Rattle.chip_session.specs.Settings.{SessionSettings}
 use Rattle.chip_session.specs.Transcript.{after, reply}
 use Rattle.chip_views.specs.Dis.{source_of_image}
@@ -62,26 +62,26 @@ abbrev pub text_of : Option Placed → Option (List ℕ)
 text_of None = None
 text_of (Some placed) = Some placed.text.now
 
--- the settings that the lines of a case ask for, as the words of the program ask for them
-pub record SetBy (setup : Setup) (words : SettingWords) : Type 0 where
-  pub rate : ReadsOr 32 (text_of setup.rate) 10 words.rate
-  pub tape : option_copied words.tape ≡ text_of setup.tape
-  pub seed : ReadsNumber 64 (text_of setup.seed) words.seed
-  pub profile : IsProfile (text_of setup.profile) words.profile
-  pub spacing : ReadsOr 32 (text_of setup.every) LEAST_SPACING words.spacing
+-- the settings that the lines of a case ask for, as the arguments of the program ask for them
+pub record SetBy (setup : Setup) (arguments : SettingArguments) : Type 0 where
+  pub rate : ReadsOr 32 (text_of setup.rate) 10 arguments.rate
+  pub tape : option_copied arguments.tape ≡ text_of setup.tape
+  pub seed : ReadsNumber 64 (text_of setup.seed) arguments.seed
+  pub profile : IsProfile (text_of setup.profile) arguments.profile
+  pub spacing : ReadsOr 32 (text_of setup.every) LEAST_SPACING arguments.spacing
 
 -- what `dis` prints of some image, of whose bytes no contract speaks
 abbrev pub IsSourceOfImage : List ℕ → Type 0
 IsSourceOfImage source =
     (image : List ℕ) × ((length image ≤ IMAGE_BYTES) × (source ≡ source_of_image image))
 
--- the source of a case: nothing, its lines, the bytes of a file, of which no contract speaks, or what
--- `dis` prints of an image
-abbrev pub IsCaseSource : SourceWords → List ℕ → Type 0
-IsCaseSource words.Empty source = source ≡ []
-IsCaseSource (words.Lines lines) source = source ≡ lines.now
-IsCaseSource (words.File name) source = Unit {0}
-IsCaseSource (words.Image name) source = IsSourceOfImage source
+-- the source of a case: nothing, its lines, the bytes of a file, of which no contract speaks, or
+-- what `dis` prints of an image
+abbrev pub IsCaseSource : CaseSource → List ℕ → Type 0
+IsCaseSource case_source.Empty source = source ≡ []
+IsCaseSource (case_source.Lines lines) source = source ≡ lines.now
+IsCaseSource (case_source.File name) source = Unit {0}
+IsCaseSource (case_source.Image name) source = IsSourceOfImage source
 
 -- its key events: none, or those of a file
 abbrev pub IsCaseKeys : Option Placed → List ℕ → Type 0
@@ -90,12 +90,12 @@ IsCaseKeys (Some name) keys = Unit {0}
 
 -- whether a case passes, on the source, the key events and the settings that its lines ask for
 pub record JudgesCase (case : Case) (passes : Bool) : Type 0 where
-  pub words : SettingWords
+  pub arguments : SettingArguments
   pub settings : SessionSettings
   pub source : List ℕ
   pub keys : List ℕ
-  pub set_by : SetBy case.setup words
-  pub settings_are : settings_asked words ≡ Some settings
+  pub set_by : SetBy case.setup arguments
+  pub settings_are : settings_asked arguments ≡ Some settings
   pub source_is : IsCaseSource case.setup.source source
   pub keys_are : IsCaseKeys case.setup.keys keys
   pub judged : IsTrue passes
@@ -120,8 +120,8 @@ abbrev pub IsHindrance : Failure → Type 0
 IsHindrance why = (failure_status why ≡ 3) ⊎ (failure_status why ≡ 4)
 
 -- `test`: the status is 0 where all cases of all files pass, and 1 where one doesn't
-abbrev pub Tests : TestWords → Result Ending Failure → Type 0
-Tests words (Ok ending) =
-    (passes : Bool) × JudgesAll JudgesFile words.files.items passes
+abbrev pub Tests : TestArguments → Result Ending Failure → Type 0
+Tests arguments (Ok ending) =
+    (passes : Bool) × JudgesAll JudgesFile arguments.files.items passes
     × (ending ≡ (if passes then Done else Faulty))
-Tests words (Err why) = IsHindrance why
+Tests arguments (Err why) = IsHindrance why

@@ -1,15 +1,15 @@
 //! The settings, the source and the key events that the lines of a case ask for.
 ghost use Rattle.std.specs.Prelude.{◌≡◌, ◌≤◌, IfOk, IfErr, Some, length, option_copied};
-ghost use Rattle.chip_arguments.specs.CommandWords.{IsProfile, ReadsNumber, ReadsOr};
-ghost use Rattle.chip_bench.specs.SettingWords.{settings_asked};
+ghost use Rattle.chip_arguments.specs.CommandArguments.{IsProfile, ReadsNumber, ReadsOr};
+ghost use Rattle.chip_bench.specs.SettingArguments.{settings_asked};
 ghost use Rattle.chip_bench.specs.Testing.{IsCaseKeys, IsCaseSource, IsHindrance, IsSourceOfImage, SetBy, text_of};
 
 use crate::ending::{Failure, TestFault};
 use crate::file_access::FileAccess;
 use crate::limits::KEY_FILE_BYTES;
 use crate::reading::{MOST_SOURCE, settings_of};
-use chip_arguments::{SettingWords, number, seed};
-use chip_cases::{Placed, Setup, SourceWords};
+use chip_arguments::{SettingArguments, number, seed};
+use chip_cases::{CaseSource, Placed, Setup};
 use chip_machine::Profile;
 use chip_machine::limits::IMAGE_BYTES;
 use chip_replay::{LEAST_SPACING, MOST_RATE, MOST_SPACING};
@@ -32,15 +32,15 @@ pub(crate) fn case_settings<'a>(
     name: &'a str,
     setup: &Setup<'_>,
 ) -> Result<Settings, Failure<'a>>
-    ensures ok { IfOk result (λ settings. (words : SettingWords) × SetBy setup.now words
-        × (settings_asked words ≡ Some settings)) }
+    ensures ok { IfOk result (λ settings. (arguments : SettingArguments) × SetBy setup.now arguments
+        × (settings_asked arguments ≡ Some settings)) }
     ensures err { IfErr result IsHindrance }
 {
-    let words = match setting_words(setup) {
-        Ok(words) => words,
+    let arguments = match setting_arguments(setup) {
+        Ok(arguments) => arguments,
         Err(bad) => return Err(Failure::BadTest(name, bad.line, bad.why)),
     };
-    match settings_of(alloc, &words) {
+    match settings_of(alloc, &arguments) {
         Ok(settings) => Ok(settings),
         Err(Failure::OutOfMemory) => Err(Failure::OutOfMemory),
         Err(_) => {
@@ -50,11 +50,11 @@ pub(crate) fn case_settings<'a>(
     }
 }
 
-fn setting_words<'t>(setup: &Setup<'t>) -> Result<SettingWords<'t>, BadLine>
+fn setting_arguments<'t>(setup: &Setup<'t>) -> Result<SettingArguments<'t>, BadLine>
     ensures { IfOk result (SetBy setup.now) }
 {
-    Ok(SettingWords {
-        rate: number_of(setup.rate, SettingWords::DEFAULT.rate, 1, MOST_RATE)?,
+    Ok(SettingArguments {
+        rate: number_of(setup.rate, SettingArguments::DEFAULT.rate, 1, MOST_RATE)?,
         tape: text_of(setup.tape)?,
         seed: seed_of(setup.seed)?,
         profile: profile_of(setup.profile)?,
@@ -134,16 +134,16 @@ pub(crate) fn case_source<'a, F: FileAccess>(
     alloc: Global,
     files: &F,
     name: &'a str,
-    source: SourceWords<'_>,
+    source: CaseSource<'_>,
 ) -> Result<Vec<u8>, Failure<'a>>
     ensures ok { IfOk result (λ bytes. IsCaseSource source.entry bytes.items) }
     ensures err { IfErr result IsHindrance }
 {
     match source {
-        SourceWords::Empty => Ok(Vec::new(alloc)),
-        SourceWords::Lines(lines) => Ok(Vec::from_slice(alloc, lines)?),
-        SourceWords::File(placed) => read_named(alloc, files, name, placed, MOST_SOURCE),
-        SourceWords::Image(placed) => read_image(alloc, files, name, placed),
+        CaseSource::Empty => Ok(Vec::new(alloc)),
+        CaseSource::Lines(lines) => Ok(Vec::from_slice(alloc, lines)?),
+        CaseSource::File(placed) => read_named(alloc, files, name, placed, MOST_SOURCE),
+        CaseSource::Image(placed) => read_image(alloc, files, name, placed),
     }
 }
 

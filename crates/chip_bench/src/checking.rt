@@ -12,7 +12,7 @@ use crate::output::{print, unopened_text};
 use crate::progress::Progress;
 use crate::reading::read_source;
 use crate::sets::warnings_of;
-use chip_arguments::{CheckWords, ColorChoice};
+use chip_arguments::{CheckArguments, ColorChoice};
 use chip_asm::{OpenError, Source};
 use chip_check::{check_json, check_text, unopened_json};
 use chip_explore::Watcher;
@@ -44,23 +44,23 @@ pub(crate) fn check<'a, F: FileAccess, I: Read, O: Write, E: Write>(
     alloc: Global,
     files: &F,
     host: Host,
-    words: &CheckWords<'a>,
+    arguments: &CheckArguments<'a>,
     input: &mut Counted<I>,
     output: &mut Counted<O>,
     errors: &mut E,
 ) -> Result<Ending, Failure<'a>>
     ensures { Checks I.remaining O.contents input.old input.new output.old output.new
-        host.takes_color words.now result }
+        host.takes_color arguments.now result }
 {
-    let allowed = warnings_of(words.allowed)?;
-    let names: &[&'a str] = &words.sources;
+    let allowed = warnings_of(arguments.allowed)?;
+    let names: &[&'a str] = &arguments.sources;
     let checker = Checker {
         allowed,
-        profile: words.profile,
-        is_json: words.is_json,
-        is_painted: paints(words.color, host.takes_color),
+        profile: arguments.profile,
+        is_json: arguments.is_json,
+        is_painted: paints(arguments.color, host.takes_color),
         is_alone: names.len() == 1,
-        is_covering: words.is_covering,
+        is_covering: arguments.is_covering,
     };
     let mut progress = Progress {
         errors,

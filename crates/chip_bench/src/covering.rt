@@ -1,13 +1,13 @@
 //! `check --cover`: which addresses of a source's image key scripts execute.
 ghost use Rattle.std.specs.Prelude.{◌≡◌, ◌∷◌, [], IfOk};
-ghost use Rattle.chip_arguments.specs.SettingWords.{default_words};
+ghost use Rattle.chip_arguments.specs.SettingArguments.{default_arguments};
 ghost use Rattle.chip_machine.specs.Start.{start_of};
 ghost use Rattle.chip_bench.specs.Exploring.{usual_keys};
 ghost use Rattle.chip_bench.specs.inner.Covering.{IsCoverage, covered_step};
 
 use crate::exploring::machine_of;
 use crate::sets::ALL_KEYS;
-use chip_arguments::{SettingWords, USUAL_STATES};
+use chip_arguments::{SettingArguments, USUAL_STATES};
 use chip_explore::{Bounds, Causes, END, Executed, Outcome, Question, Target, Watcher, explore};
 use chip_machine::Profile;
 use chip_warnings::Coverage;
@@ -25,20 +25,20 @@ pub(crate) struct Covered {
 }
 
 impl Covered {
-    /// What a search over the key scripts of all keys saw, which had the tape, the rate and the bounds
-    /// that `explore` has where no word gives others.
+    /// What a search over the key scripts of all keys saw, which had the tape, the rate and the
+    /// bounds that `explore` has where no word gives others.
     pub(crate) fn of<W: Watcher>(
         alloc: Global,
         image: &[u8],
         profile: Profile,
         watcher: &mut W,
     ) -> Result<Covered, AllocError>
-        ensures { IfOk result (λ covered. IsCoverage default_words.rate usual_keys covered.executed
+        ensures { IfOk result (λ covered. IsCoverage default_arguments.rate usual_keys covered.executed
             (start_of image.now (0 ∷ []) profile) covered.within) }
     {
         let start = machine_of(alloc, image, USUAL_TAPE, profile)?;
         let question = Question {
-            rate: SettingWords::DEFAULT.rate,
+            rate: SettingArguments::DEFAULT.rate,
             allowed: ALL_KEYS,
             target: Target {
                 causes: Causes::none(),

@@ -1,7 +1,7 @@
 //! How the program ends.
 ghost use Rattle.std.specs.Prelude.{◌≡◌};
 ghost use Rattle.clap.specs.Words.{kind_of};
-ghost use Rattle.chip_bench.specs.Running.{ending_status, failure_status, no_memory, settings_failure, words_failure};
+ghost use Rattle.chip_bench.specs.Running.{ending_status, failure_status, no_memory, settings_failure, arguments_failure};
 
 use chip_cases::CaseFault;
 use chip_session::SetError;
@@ -155,7 +155,7 @@ impl<'a> From<SetError> for Failure<'a> {
 }
 
 impl<'a> From<clap::Error> for Failure<'a> {
-    ghost from_gives = { λ error failure. failure ≡ words_failure (kind_of error) error };
+    ghost from_gives = { λ error failure. failure ≡ arguments_failure (kind_of error) error };
 
     fn from(error: clap::Error) -> Failure<'a> {
         match error.kind() {

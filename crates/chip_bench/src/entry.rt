@@ -5,10 +5,10 @@ ghost use Rattle.clap.specs.Words.{kind_of};
 ghost use Rattle.chip_arguments.specs.Version.{version_text};
 ghost use Rattle.chip_bench.specs.Printing.{Prints, printed, printed_listing, printed_symbols};
 ghost use Rattle.chip_session.specs.Settings.{default_settings};
-ghost use Rattle.chip_bench.specs.Running.{AnswersScript, RunsSession, status_of, failure_status, AreFaulty, IsWithoutWords};
+ghost use Rattle.chip_bench.specs.Running.{AnswersScript, RunsSession, status_of, failure_status, AreFaulty, IsWithoutArguments};
 ghost use Rattle.chip_bench.specs.inner.Reads.{IsUsage};
 ghost use Rattle.chip_bench.specs.Doing.{Assembles, Debugs, Disassembles, Does, Ends, IsFileWritten, Performs, PrintsText, Runs, ShowsHelp, ShowsVersion, Tells, Traces, TracesAlone, TracesBeside, form_of};
-ghost use Rattle.chip_arguments.specs.CommandWords.{word_faults};
+ghost use Rattle.chip_arguments.specs.CommandArguments.{argument_faults};
 ghost use Rattle.std.specs.Io.KnownBytes.{Keeps};
 ghost use Rattle.std.specs.IoError.{error_kind};
 
@@ -28,7 +28,9 @@ use crate::reading::{
 };
 use crate::testing::test_files;
 use crate::tracing::{Shown, compare_source, trace_source};
-use chip_arguments::{CommandLine, RunWords, SettingWords, TraceWords, not_text, parse_words};
+use chip_arguments::{
+    CommandLine, RunArguments, SettingArguments, TraceArguments, not_text, parse_arguments,
+};
 use chip_files::first_line;
 use chip_machine::limits::IMAGE_BYTES;
 use chip_session::Counted;
@@ -51,54 +53,54 @@ pub struct Host {
     pub has_reader: bool,
 }
 
-/// The program, with the words after its name. The answer is its status: 0 where it did what it was
-/// asked, 1 where the source has faults or doesn't open, 2 for words that it doesn't take, 3 where
-/// a file, input or output failed or there was too much input, and 4 where memory ran out.
+/// The program, with the arguments after its name. The answer is its status: 0 where it did what it
+/// was asked, 1 where the source has faults or doesn't open, 2 for arguments that it doesn't take,
+/// 3 where a file, input or output failed or there was too much input, and 4 where memory ran out.
 ///
 /// `asm` writes the whole image to its file, or leaves what was there. Only what is written in
 /// place, such as a pipe or a file of several names, may have taken some bytes before a failure.
 ///
-/// Without words it carries out the script that `input` gives, on the empty source, and writes the
-/// answers to `output`. What hinders it is said on `errors`; a failure there is ignored.
+/// Without arguments it carries out the script that `input` gives, on the empty source, and writes
+/// the answers to `output`. What hinders it is said on `errors`; a failure there is ignored.
 pub fn program<F: Files, S: AsStr, I: Read, O: Write, E: Write>(
     alloc: Global,
     files: &F,
     host: Host,
-    words: &[S],
+    arguments: &[S],
     input: &mut Counted<I>,
     output: &mut Counted<O>,
     errors: &mut E,
 ) -> u8
-    ensures session { words.now ≡ [] → RunsSession I.remaining O.contents input.old input.new
+    ensures session { arguments.now ≡ [] → RunsSession I.remaining O.contents input.old input.new
         output.old output.new result }
     // Words with a fault are refused, and nothing is read or written.
-    ensures usage { AreFaulty (word_faults (map S.text words.now)) → ((result ≡ 2) ⊎ (result ≡ 4))
+    ensures usage { AreFaulty (argument_faults (map S.text arguments.now)) → ((result ≡ 2) ⊎ (result ≡ 4))
         × (input.new ≡ input.old)
         × Keeps (O.contents output.old.inner) (O.contents output.new.inner) }
     // Words without a fault ask for something, and that is done.
-    ensures good { word_faults (map S.text words.now) ≡ [] → Ends O.contents (λ written ended.
+    ensures good { argument_faults (map S.text arguments.now) ≡ [] → Ends O.contents (λ written ended.
         Performs I.remaining O.contents input.old input.new output.old written host.takes_color
-        (map S.text words.now) ended)
+        (map S.text arguments.now) ended)
         output.new result }
     // The word for help has help printed: of its text, which `clap` makes, no contract speaks.
-    ensures help { word_faults (map S.text words.now) ≡ ErrorKind.DisplayHelp ∷ []
+    ensures help { argument_faults (map S.text arguments.now) ≡ ErrorKind.DisplayHelp ∷ []
         → Ends O.contents (λ written ended.
         ShowsHelp I.remaining O.contents input.old input.new output.old written ended)
         output.new result }
     // The version's word has the version printed.
-    ensures version { word_faults (map S.text words.now) ≡ ErrorKind.DisplayVersion ∷ []
+    ensures version { argument_faults (map S.text arguments.now) ≡ ErrorKind.DisplayVersion ∷ []
         → Ends O.contents (λ written ended.
         ShowsVersion I.remaining O.contents input.old input.new output.old written ended)
         output.new result }
 {
-    let ended = carry_out(alloc, files, host, words, input, output, errors);
+    let ended = carry_out(alloc, files, host, arguments, input, output, errors);
     let flushed = output.flush();
     finish(ended, flushed.is_ok(), errors)
 }
 
-/// The program's answer where the system can't give its words as text.
-pub fn refuse_words<E: Write>(alloc: Global, error: &io::Error, errors: &mut E) -> u8
-    ensures { IsWithoutWords (error_kind error.now) result }
+/// The program's answer where the system can't give its arguments as text.
+pub fn refuse_arguments<E: Write>(alloc: Global, error: &io::Error, errors: &mut E) -> u8
+    ensures { IsWithoutArguments (error_kind error.now) result }
 {
     if error.kind() == io::ErrorKind::OutOfMemory {
         return report(Failure::OutOfMemory, errors);
@@ -133,25 +135,25 @@ fn carry_out<'a, F: FileAccess, S: AsStr, I: Read, O: Write, E: Write>(
     alloc: Global,
     files: &F,
     host: Host,
-    words: &'a [S],
+    arguments: &'a [S],
     input: &mut Counted<I>,
     output: &mut Counted<O>,
     errors: &mut E,
 ) -> Result<Ending, Failure<'a>>
-    ensures session { words.entry.now ≡ []
+    ensures session { arguments.entry.now ≡ []
         → AnswersScript I.remaining O.contents default_settings []
         input.old input.new output.old output.new result }
-    ensures usage { AreFaulty (word_faults (map S.text words.entry.now)) → IsUsage result
+    ensures usage { AreFaulty (argument_faults (map S.text arguments.entry.now)) → IsUsage result
         × (input.new ≡ input.old) × (output.new ≡ output.old) }
-    ensures good { word_faults (map S.text words.entry.now) ≡ [] → Performs I.remaining O.contents
-        input.old input.new output.old output.new host.takes_color (map S.text words.entry.now)
+    ensures good { argument_faults (map S.text arguments.entry.now) ≡ [] → Performs I.remaining O.contents
+        input.old input.new output.old output.new host.takes_color (map S.text arguments.entry.now)
         result }
-    ensures help { word_faults (map S.text words.entry.now) ≡ ErrorKind.DisplayHelp ∷ []
+    ensures help { argument_faults (map S.text arguments.entry.now) ≡ ErrorKind.DisplayHelp ∷ []
         → ShowsHelp I.remaining O.contents input.old input.new output.old output.new result }
-    ensures version { word_faults (map S.text words.entry.now) ≡ ErrorKind.DisplayVersion ∷ []
+    ensures version { argument_faults (map S.text arguments.entry.now) ≡ ErrorKind.DisplayVersion ∷ []
         → ShowsVersion I.remaining O.contents input.old input.new output.old output.new result }
 {
-    match parse_words(alloc, words) {
+    match parse_arguments(alloc, arguments) {
         Ok(line) => {
             let ended = perform(alloc, files, host, &line, input, output, errors);
             // The program ends here, and its memory goes back at once.
@@ -163,7 +165,8 @@ fn carry_out<'a, F: FileAccess, S: AsStr, I: Read, O: Write, E: Write>(
     }
 }
 
-// The words are looked at behind a reference, since the arms would else each let go of what they took.
+// The arguments are looked at behind a reference, since the arms would else each let go of what
+// they took.
 fn perform<'a, F: FileAccess, I: Read, O: Write, E: Write>(
     alloc: Global,
     files: &F,
@@ -204,14 +207,24 @@ fn perform<'a, F: FileAccess, I: Read, O: Write, E: Write>(
         CommandLine::Syms { source, is_hex } => {
             syms(alloc, files, *source, *is_hex, input, output)
         }
-        CommandLine::Check(words) => check(alloc, files, host, words, input, output, errors),
+        CommandLine::Check(arguments) => check(
+            alloc, files, host, arguments, input, output, errors,
+        ),
         CommandLine::Dis { image } => dis(alloc, files, *image, input, output),
-        CommandLine::Run(words) => run(alloc, files, words, input, output, errors),
-        CommandLine::Trace(words) => trace(alloc, files, words, input, output, errors),
-        CommandLine::Picture(words) => picture(alloc, files, words, input, output, errors),
-        CommandLine::Test(words) => test_files(alloc, files, words, output),
-        CommandLine::Explore(words) => {
-            explore(alloc, files, host.has_reader, words, input, output, errors)
+        CommandLine::Run(arguments) => run(alloc, files, arguments, input, output, errors),
+        CommandLine::Trace(arguments) => trace(alloc, files, arguments, input, output, errors),
+        CommandLine::Picture(arguments) => picture(alloc, files, arguments, input, output, errors),
+        CommandLine::Test(arguments) => test_files(alloc, files, arguments, output),
+        CommandLine::Explore(arguments) => {
+            explore(
+                alloc,
+                files,
+                host.has_reader,
+                arguments,
+                input,
+                output,
+                errors,
+            )
         }
         CommandLine::Explain { code } => explain(alloc, *code, output),
     }
@@ -250,15 +263,15 @@ fn debug<'a, F: FileAccess, I: Read, O: Write, E: Write>(
     files: &F,
     name_seed: u64,
     given: Given<'a>,
-    words: &SettingWords<'_>,
+    arguments: &SettingArguments<'_>,
     input: &mut Counted<I>,
     output: &mut Counted<O>,
     errors: &mut E,
 ) -> Result<Ending, Failure<'a>>
     ensures { Debugs I.remaining O.contents input.old input.new output.old output.new
-        given.entry.source given.entry.is_image words.now result }
+        given.entry.source given.entry.is_image arguments.now result }
 {
-    let settings = settings_of(alloc, words)?;
+    let settings = settings_of(alloc, arguments)?;
     let seeded = settings.with_name_seed(name_seed);
     match given.source {
         Some(name) => {
@@ -318,7 +331,7 @@ fn syms<'a, F: FileAccess, I: Read, O: Write>(
     print_symbols(alloc, bytes, is_hex, output)
 }
 
-// Writes a file whole, or leaves what was there. A file of the names that are taken stays.
+// Writes a file atomically. A file of the names that are taken stays.
 pub(crate) fn write_image<'a, F: FileAccess>(
     alloc: Global,
     files: &F,
@@ -356,36 +369,36 @@ fn dis<'a, F: FileAccess, I: Read, O: Write>(
 fn run<'a, F: FileAccess, I: Read, O: Write, E: Write>(
     alloc: Global,
     files: &F,
-    words: &RunWords<'a>,
+    arguments: &RunArguments<'a>,
     input: &mut Counted<I>,
     output: &mut Counted<O>,
     errors: &mut E,
 ) -> Result<Ending, Failure<'a>>
     ensures { Runs I.remaining O.contents input.old input.new output.old output.new
-        words.entry.now result }
+        arguments.entry.now result }
 {
     let Asked {
         source,
         keys,
         settings,
-    } = read_asked(alloc, files, words, input, errors)?;
-    run_source(alloc, &source, &keys, words.steps, settings, output)
+    } = read_asked(alloc, files, arguments, input, errors)?;
+    run_source(alloc, &source, &keys, arguments.steps, settings, output)
 }
 
 fn trace<'a, F: FileAccess, I: Read, O: Write, E: Write>(
     alloc: Global,
     files: &F,
-    words: &TraceWords<'a>,
+    arguments: &TraceArguments<'a>,
     input: &mut Counted<I>,
     output: &mut Counted<O>,
     errors: &mut E,
 ) -> Result<Ending, Failure<'a>>
     ensures { Traces I.remaining O.contents input.old input.new output.old output.new
-        words.entry.now result }
+        arguments.entry.now result }
 {
-    let asked = read_asked(alloc, files, &words.run, input, errors)?;
-    match words.against {
-        None => trace_alone(alloc, words, asked, output),
+    let asked = read_asked(alloc, files, &arguments.run, input, errors)?;
+    match arguments.against {
+        None => trace_alone(alloc, arguments, asked, output),
         Some(name) => {
             let theirs = read_bounded(
                 alloc,
@@ -394,25 +407,25 @@ fn trace<'a, F: FileAccess, I: Read, O: Write, E: Write>(
                 TRACE_FILE_BYTES,
                 "it has over 250000000 bytes",
             )?;
-            trace_beside(alloc, words, asked, name, &theirs, output)
+            trace_beside(alloc, arguments, asked, name, &theirs, output)
         }
     }
 }
 
 fn trace_alone<'a, O: Write>(
     alloc: Global,
-    words: &TraceWords<'a>,
+    arguments: &TraceArguments<'a>,
     asked: Asked<'a>,
     output: &mut Counted<O>,
 ) -> Result<Ending, Failure<'a>>
-    ensures { TracesAlone O.contents output.old output.new words.entry.now asked.entry.settings
+    ensures { TracesAlone O.contents output.old output.new arguments.entry.now asked.entry.settings
         asked.entry.keys.bytes.items asked.entry.source.items result }
 {
     let shown = Shown {
-        columns: Columns::usual(alloc, words.sums)?,
-        form: form_of(words.is_json),
-        from: words.from,
-        to: words.run.steps,
+        columns: Columns::usual(alloc, arguments.sums)?,
+        form: form_of(arguments.is_json),
+        from: arguments.from,
+        to: arguments.run.steps,
     };
     let Asked {
         source,
@@ -432,13 +445,13 @@ fn form_of(is_json: bool) -> Form
 // The first line of a trace names its columns.
 fn trace_beside<'a, O: Write>(
     alloc: Global,
-    words: &TraceWords<'a>,
+    arguments: &TraceArguments<'a>,
     asked: Asked<'a>,
     name: &'a str,
     trace: &[u8],
     output: &mut Counted<O>,
 ) -> Result<Ending, Failure<'a>>
-    ensures { TracesBeside O.contents output.old output.new words.entry.now asked.entry.settings
+    ensures { TracesBeside O.contents output.old output.new arguments.entry.now asked.entry.settings
         asked.entry.keys.bytes.items asked.entry.source.items name.entry (lines trace.now) result }
 {
     let (header, theirs) = if trace.is_empty() {
@@ -454,8 +467,8 @@ fn trace_beside<'a, O: Write>(
     let shown = Shown {
         columns,
         form: Form::Fields,
-        from: words.from,
-        to: words.run.steps,
+        from: arguments.from,
+        to: arguments.run.steps,
     };
     let Asked {
         source,

@@ -13,7 +13,7 @@ use crate::output::{print, print_faults, refuse_source};
 use crate::progress::Progress;
 use crate::reading::{file_name, read_given, settings_of};
 use crate::sets::{Sets, sets_of};
-use chip_arguments::ExploreWords;
+use chip_arguments::ExploreArguments;
 use chip_asm::Source;
 use chip_cover::marked_listing;
 use chip_explore::{
@@ -33,25 +33,32 @@ pub(crate) fn explore<'a, F: FileAccess, I: Read, O: Write, E: Write>(
     alloc: Global,
     files: &F,
     has_reader: bool,
-    words: &ExploreWords<'a>,
+    arguments: &ExploreArguments<'a>,
     input: &mut Counted<I>,
     output: &mut Counted<O>,
     errors: &mut E,
 ) -> Result<Ending, Failure<'a>>
     ensures { Explores I.remaining O.contents input.old input.new output.old output.new
-        words.entry.now result }
+        arguments.entry.now result }
 {
-    let settings = settings_of(alloc, &words.settings)?;
-    let sets = sets_of(words)?;
-    let source = read_given(alloc, files, words.source, words.is_image, input, errors)?;
+    let settings = settings_of(alloc, &arguments.settings)?;
+    let sets = sets_of(arguments)?;
+    let source = read_given(
+        alloc,
+        files,
+        arguments.source,
+        arguments.is_image,
+        input,
+        errors,
+    )?;
     let mut progress = Progress {
         errors,
-        is_shown: has_reader || words.is_progress_shown,
+        is_shown: has_reader || arguments.is_progress_shown,
     };
     search_source(
         alloc,
         files,
-        words,
+        arguments,
         source,
         &settings,
         sets,
@@ -63,20 +70,20 @@ pub(crate) fn explore<'a, F: FileAccess, I: Read, O: Write, E: Write>(
 fn search_source<'a, F: FileAccess, O: Write, W: Watcher>(
     alloc: Global,
     files: &F,
-    words: &ExploreWords<'a>,
+    arguments: &ExploreArguments<'a>,
     source: Vec<u8>,
     settings: &Settings,
     sets: Sets,
     output: &mut Counted<O>,
     watcher: &mut W,
 ) -> Result<Ending, Failure<'a>>
-    ensures { Searches O.contents output.old output.new words.entry.now settings.now sets.causes
+    ensures { Searches O.contents output.old output.new arguments.entry.now settings.now sets.causes
         sets.keys (image_in source.items) source.items result }
 {
     match Source::open_bytes(alloc, source) {
         Ok(opened) => {
             let ended = search_opened(
-                alloc, files, words, &opened, settings, sets, output, watcher,
+                alloc, files, arguments, &opened, settings, sets, output, watcher,
             );
             // The program ends here, and its memory goes back at once.
             mem::forget(opened);
@@ -89,7 +96,7 @@ fn search_source<'a, F: FileAccess, O: Write, W: Watcher>(
 fn search_opened<'a, F: FileAccess, O: Write, W: Watcher>(
     alloc: Global,
     files: &F,
-    words: &ExploreWords<'a>,
+    arguments: &ExploreArguments<'a>,
     source: &Source,
     settings: &Settings,
     sets: Sets,
@@ -98,9 +105,9 @@ fn search_opened<'a, F: FileAccess, O: Write, W: Watcher>(
 ) -> Result<Ending, Failure<'a>>
     ensures { MatchOption (image_of source.now.lines)
         (Prints O.contents output.old output.new (printed_faults source.now.lines) result)
-        (λ image. MatchOption (target_asked sets.causes (option_copied words.entry.now.place)
+        (λ image. MatchOption (target_asked sets.causes (option_copied arguments.entry.now.place)
         (symbols_of source.now.lines)) (Fails O.contents output.old output.new IsBadPlace result)
-        (λ target. SearchesFrom O.contents output.old output.new words.entry.now source.now.lines
+        (λ target. SearchesFrom O.contents output.old output.new arguments.entry.now source.now.lines
         settings.now.rate sets.keys target
         (start_of image settings.now.tape settings.now.profile) result)
         ⊎ Fails O.contents output.old output.new IsShort result) }
@@ -108,8 +115,8 @@ fn search_opened<'a, F: FileAccess, O: Write, W: Watcher>(
     let Some(image) = source.image() else {
         return print_faults(alloc, source, output);
     };
-    let Some(target) = target_of(words, sets.causes, source) else {
-        return Err(Failure::BadPlace(words.place.unwrap_or("")));
+    let Some(target) = target_of(arguments, sets.causes, source) else {
+        return Err(Failure::BadPlace(arguments.place.unwrap_or("")));
     };
     let start = machine_of(alloc, image, settings.tape(), settings.profile())?;
     let question = Question {
@@ -118,12 +125,12 @@ fn search_opened<'a, F: FileAccess, O: Write, W: Watcher>(
         target,
     };
     search(
-        alloc, files, words, source, &start, &question, output, watcher,
+        alloc, files, arguments, source, &start, &question, output, watcher,
     )
 }
 
-// The machine of a source's image before its first step. The image is within its bounds, and the tape
-// is to be, so memory alone can be missing.
+// The machine of a source's image before its first step. The image is within its bounds, and the
+// tape is to be, so memory alone can be missing.
 pub(crate) fn machine_of(
     alloc: Global,
     image: &[u8],
@@ -139,11 +146,11 @@ pub(crate) fn machine_of(
 }
 
 // What a search looks for, if the source has the place.
-fn target_of(words: &ExploreWords<'_>, causes: Causes, source: &Source) -> Option<Target>
-    ensures { result ≡ target_asked causes (option_copied words.now.place)
+fn target_of(arguments: &ExploreArguments<'_>, causes: Causes, source: &Source) -> Option<Target>
+    ensures { result ≡ target_asked causes (option_copied arguments.now.place)
         (symbols_of source.now.lines) }
 {
-    let address = match words.place {
+    let address = match arguments.place {
         Some(place) => Some(address_of(place.as_bytes(), source)?),
         None => None,
     };
@@ -174,7 +181,7 @@ fn in_memory(number: i64) -> Option<u16>
 fn search<'a, F: FileAccess, O: Write, W: Watcher>(
     alloc: Global,
     files: &F,
-    words: &ExploreWords<'a>,
+    arguments: &ExploreArguments<'a>,
     source: &Source,
     start: &Machine,
     question: &Question,
@@ -183,20 +190,20 @@ fn search<'a, F: FileAccess, O: Write, W: Watcher>(
 ) -> Result<Ending, Failure<'a>>
     requires rate { 0 < question.now.rate }
     requires fresh { start.now.core.draws ≡ 0 }
-    ensures { SearchesFrom O.contents output.old output.new words.entry.now source.now.lines
+    ensures { SearchesFrom O.contents output.old output.new arguments.entry.now source.now.lines
         question.now.rate question.now.allowed question.now.target start.now result }
 {
     let bounds = Bounds {
-        steps: match words.steps {
+        steps: match arguments.steps {
             Some(steps) => u64::from(steps) + 1,
             None => END,
         },
-        states: words.states as usize,
-        is_deep: words.is_deep,
+        states: arguments.states as usize,
+        is_deep: arguments.is_deep,
     };
     let explored = chip_explore::explore(alloc, start, question, &bounds, watcher);
-    let text = search_text(alloc, words.is_covering, source, &explored)?;
-    write_script(alloc, files, words, &explored.outcome)?;
+    let text = search_text(alloc, arguments.is_covering, source, &explored)?;
+    write_script(alloc, files, arguments, &explored.outcome)?;
     print(&text, search_ending(&explored), output)
 }
 
@@ -204,19 +211,19 @@ fn search<'a, F: FileAccess, O: Write, W: Watcher>(
 fn write_script<'a, F: FileAccess>(
     alloc: Global,
     files: &F,
-    words: &ExploreWords<'a>,
+    arguments: &ExploreArguments<'a>,
     outcome: &Outcome,
 ) -> Result<Ending, Failure<'a>>
-    ensures { IfErr result (IsScriptUnwritten words.entry.now.keys_to) }
+    ensures { IfErr result (IsScriptUnwritten arguments.entry.now.keys_to) }
 {
     let (Outcome::Found { events, .. } | Outcome::Later { events, .. }) = outcome else {
         return Ok(Ending::Done);
     };
-    let Some(name) = words.keys_to else {
+    let Some(name) = arguments.keys_to else {
         return Ok(Ending::Done);
     };
     let text = script_text(alloc, events)?;
-    write_image(alloc, files, &[file_name(words.source)], name, &text)
+    write_image(alloc, files, &[file_name(arguments.source)], name, &text)
 }
 
 // Key events as lines of a key file.

@@ -10,7 +10,7 @@ pub(crate) trait FileAccess {
     /// What the file of a name has, up to `most` bytes.
     fn read(&self, alloc: Global, name: &str, most: u32) -> io::Result<Vec<u8>>;
 
-    /// Writes the file of a name whole, or leaves what was there. A file of the names in `taken`
+    /// Writes the file of a name atomically. A file of the names in `taken`
     /// isn't written.
     fn write(
         &self,

@@ -21,11 +21,11 @@ mod testing;
 mod tracing;
 
 pub use chip_arguments::{
-    CommandLine, ExploreWords, PictureWords, RunWords, SettingWords, TestWords, TraceWords,
-    parse_words,
+    CommandLine, ExploreArguments, PictureArguments, RunArguments, SettingArguments, TestArguments,
+    TraceArguments, parse_arguments,
 };
 pub use chip_session::{
     Bench, Change, Command, CommandFault, Counted, Letters, OpenError, PictureForm, Question,
     Refusal, ServeError, SetError, Settings, StateQuestion, read_command, serve, tape_of,
 };
-pub use entry::{Host, program, refuse_words};
+pub use entry::{Host, program, refuse_arguments};

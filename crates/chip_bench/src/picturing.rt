@@ -1,6 +1,6 @@
 //! `picture`: the screen after some steps, printed or written to files.
 ghost use Rattle.std.specs.Prelude.{◌≡◌, Some};
-ghost use Rattle.chip_bench.specs.SettingWords.{settings_asked};
+ghost use Rattle.chip_bench.specs.SettingArguments.{settings_asked};
 ghost use Rattle.chip_bench.specs.Doing.{Pictures, PicturesBy, PrintsPicture, WritesPicture, letters_of};
 
 use crate::ending::{Ending, Failure};
@@ -8,7 +8,7 @@ use crate::entry::write_image;
 use crate::file_access::FileAccess;
 use crate::output::{picture_source, print};
 use crate::reading::{Asked, file_name, read_asked, settings_of};
-use chip_arguments::PictureWords;
+use chip_arguments::PictureArguments;
 use chip_session::{Counted, PictureForm};
 use chip_views::Letters;
 use std::alloc::Global;
@@ -18,17 +18,17 @@ use std::io::{Read, Write};
 pub(crate) fn picture<'a, F: FileAccess, I: Read, O: Write, E: Write>(
     alloc: Global,
     files: &F,
-    words: &PictureWords<'a>,
+    arguments: &PictureArguments<'a>,
     input: &mut Counted<I>,
     output: &mut Counted<O>,
     errors: &mut E,
 ) -> Result<Ending, Failure<'a>>
     ensures { Pictures I.remaining O.contents input.old input.new output.old output.new
-        words.now result }
+        arguments.now result }
 {
-    let asked = read_asked(alloc, files, &words.run, input, errors)?;
+    let asked = read_asked(alloc, files, &arguments.run, input, errors)?;
     let shot = Shot {
-        words: *words,
+        arguments: *arguments,
         asked,
     };
     shot.show(alloc, files, output)
@@ -48,12 +48,12 @@ fn letters_of(ascii: bool) -> Letters
 // The screen of a source's image after some steps.
 #[derive(Drop)]
 struct Shot<'a> {
-    words: PictureWords<'a>,
+    arguments: PictureArguments<'a>,
     asked: Asked<'a>,
 }
 
 impl<'a> Shot<'a> {
-    // Prints the picture, or writes it to the files that the words name.
+    // Prints the picture, or writes it to the files that the arguments name.
     fn show<F: FileAccess, O: Write>(
         &self,
         alloc: Global,
@@ -61,13 +61,13 @@ impl<'a> Shot<'a> {
         output: &mut Counted<O>,
     ) -> Result<Ending, Failure<'a>>
         ensures { PicturesBy O.contents output.old output.new
-            (settings_asked self.now.words.run.settings) self.now.asked.source.items
-            self.now.asked.keys.bytes.items self.now.words self.now.words.bitmap
-            self.now.words.png result }
+            (settings_asked self.now.arguments.run.settings) self.now.asked.source.items
+            self.now.asked.keys.bytes.items self.now.arguments self.now.arguments.bitmap
+            self.now.arguments.png result }
     {
-        match (self.words.bitmap, self.words.png) {
+        match (self.arguments.bitmap, self.arguments.png) {
             (None, None) => {
-                let form = PictureForm::Text(letters_of(self.words.ascii));
+                let form = PictureForm::Text(letters_of(self.arguments.ascii));
                 self.print(alloc, form, output)
             }
             (Some(name), None) => self.write(alloc, files, PictureForm::Bitmap, name, output),
@@ -83,11 +83,11 @@ impl<'a> Shot<'a> {
         output: &mut Counted<O>,
     ) -> Result<Ending, Failure<'a>>
         ensures { PrintsPicture O.contents output.old output.new
-            (settings_asked self.now.words.run.settings) self.now.asked.source.items
-            self.now.asked.keys.bytes.items self.now.words.run.steps form result }
+            (settings_asked self.now.arguments.run.settings) self.now.asked.source.items
+            self.now.asked.keys.bytes.items self.now.arguments.run.steps form result }
     {
-        let settings = settings_of(alloc, &self.words.run.settings)?;
-        let steps = self.words.run.steps;
+        let settings = settings_of(alloc, &self.arguments.run.settings)?;
+        let steps = self.arguments.run.steps;
         let asked = &self.asked;
         picture_source(
             alloc,
@@ -111,16 +111,16 @@ impl<'a> Shot<'a> {
         output: &mut Counted<O>,
     ) -> Result<Ending, Failure<'a>>
         ensures { WritesPicture O.contents output.old output.new
-            (settings_asked self.now.words.run.settings) self.now.asked.source.items
-            self.now.asked.keys.bytes.items self.now.words.run.steps form name.entry result }
+            (settings_asked self.now.arguments.run.settings) self.now.asked.source.items
+            self.now.asked.keys.bytes.items self.now.arguments.run.steps form name.entry result }
     {
         let mut picture = Counted::new(Vec::new(alloc));
         match self.print(alloc, form, &mut picture) {
             Ok(Ending::Done) => {
-                let source = file_name(self.words.run.source);
+                let source = file_name(self.arguments.run.source);
                 // Of two pictures the bitmap is written first.
-                let bitmap = self.words.bitmap.filter(|_| form == PictureForm::Png);
-                let taken = [source, self.words.run.keys, bitmap];
+                let bitmap = self.arguments.bitmap.filter(|_| form == PictureForm::Png);
+                let taken = [source, self.arguments.run.keys, bitmap];
                 write_image(alloc, files, &taken, name, picture.get())
             }
             Ok(ending) => print(picture.get(), ending, output),
@@ -140,8 +140,8 @@ impl<'a> Shot<'a> {
         output: &mut Counted<O>,
     ) -> Result<Ending, Failure<'a>>
         ensures { PicturesBy O.contents output.old output.new
-            (settings_asked self.now.words.run.settings) self.now.asked.source.items
-            self.now.asked.keys.bytes.items self.now.words (Some bitmap.entry) (Some png.entry)
+            (settings_asked self.now.arguments.run.settings) self.now.asked.source.items
+            self.now.asked.keys.bytes.items self.now.arguments (Some bitmap.entry) (Some png.entry)
             result }
     {
         match self.write(alloc, files, PictureForm::Bitmap, bitmap, output) {

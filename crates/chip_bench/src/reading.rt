@@ -3,7 +3,7 @@ ghost use Rattle.std.specs.Prelude.{◌≡◌, ◌≤◌, ◌⊎◌, [], Ok, Non
 ghost use Rattle.hex.specs.Hex.{decode_of};
 ghost use Rattle.chip_lang.specs.declared.limits.TheConstants.{IMAGE_BYTES};
 ghost use Rattle.chip_views.specs.Dis.{source_of_image};
-ghost use Rattle.chip_bench.specs.SettingWords.{settings_asked, tape_asked};
+ghost use Rattle.chip_bench.specs.SettingArguments.{settings_asked, tape_asked};
 ghost use Rattle.chip_bench.specs.Running.{IsUnread, source_bytes_read};
 ghost use Rattle.chip_bench.specs.inner.Reads.{IsAsked, IsGiven, IsKeysUnread, IsNotGiven, IsNotTaken, IsTaken, IsUnasked};
 ghost use Rattle.chip_bench.specs.Doing.{GivesSource, IsImageRefused, IsInputUnread, IsSourceUnread};
@@ -12,7 +12,7 @@ use crate::ending::Failure;
 use crate::file_access::FileAccess;
 use crate::limits::KEY_FILE_BYTES;
 use crate::output::KeyFile;
-use chip_arguments::{RunWords, SettingWords};
+use chip_arguments::{RunArguments, SettingArguments};
 use chip_asm::limits::SOURCE_BYTES;
 use chip_files::read_most;
 use chip_machine::limits::IMAGE_BYTES;
@@ -37,27 +37,27 @@ pub(crate) fn file_name(source: &str) -> Option<&str> {
     (source != INPUT).then_some(source)
 }
 
-// The settings that the words ask for.
+// The settings that the arguments ask for.
 pub(crate) fn settings_of<'a>(
     alloc: Global,
-    words: &SettingWords<'_>,
+    arguments: &SettingArguments<'_>,
 ) -> Result<Settings, Failure<'a>>
-    ensures ok { IfOk result (λ settings. settings_asked words.now ≡ Some settings) }
+    ensures ok { IfOk result (λ settings. settings_asked arguments.now ≡ Some settings) }
     ensures err { IfErr result (λ failure. (failure ≡ Failure.OutOfMemory)
-        ⊎ ((failure ≡ Failure.BadTape) × (settings_asked words.now ≡ None))) }
+        ⊎ ((failure ≡ Failure.BadTape) × (settings_asked arguments.now ≡ None))) }
 {
-    let tape = tape_bytes(alloc, words)?;
-    let settings = Settings::new(alloc, words.rate, &tape)?.with_profile(words.profile);
-    Ok(settings.with_spacing(words.spacing)?)
+    let tape = tape_bytes(alloc, arguments)?;
+    let settings = Settings::new(alloc, arguments.rate, &tape)?.with_profile(arguments.profile);
+    Ok(settings.with_spacing(arguments.spacing)?)
 }
 
-// The tape that the words ask for. A tape and a seed don't go together.
-fn tape_bytes<'a>(alloc: Global, words: &SettingWords<'_>) -> Result<Vec<u8>, Failure<'a>>
-    ensures ok { IfOk result (λ tape. tape_asked words.now ≡ Some tape.items) }
+// The tape that the arguments ask for. A tape and a seed don't go together.
+fn tape_bytes<'a>(alloc: Global, arguments: &SettingArguments<'_>) -> Result<Vec<u8>, Failure<'a>>
+    ensures ok { IfOk result (λ tape. tape_asked arguments.now ≡ Some tape.items) }
     ensures err { IfErr result (λ failure. (failure ≡ Failure.OutOfMemory)
-        ⊎ ((failure ≡ Failure.BadTape) × (tape_asked words.now ≡ None))) }
+        ⊎ ((failure ≡ Failure.BadTape) × (tape_asked arguments.now ≡ None))) }
 {
-    match (words.tape, words.seed) {
+    match (arguments.tape, arguments.seed) {
         (Some(_), Some(_)) => Err(Failure::BadTape),
         (Some(digits), None) => tape_from_hex(alloc, digits),
         (None, Some(seed)) => Ok(tape_of(alloc, seed)?),
@@ -89,18 +89,25 @@ pub(crate) struct Asked<'a> {
 pub(crate) fn read_asked<'a, F: FileAccess, I: Read, E: Write>(
     alloc: Global,
     files: &F,
-    words: &RunWords<'a>,
+    arguments: &RunArguments<'a>,
     input: &mut Counted<I>,
     errors: &mut E,
 ) -> Result<Asked<'a>, Failure<'a>>
-    ensures ok { IfOk result (λ asked. IsAsked I.remaining input.old input.new words.entry.now
+    ensures ok { IfOk result (λ asked. IsAsked I.remaining input.old input.new arguments.entry.now
         asked) }
-    ensures err { IfErr result (λ why. IsUnasked I.remaining input.old input.new words.entry.now
+    ensures err { IfErr result (λ why. IsUnasked I.remaining input.old input.new arguments.entry.now
         why) }
 {
-    let settings = settings_of(alloc, &words.settings)?;
-    let keys = read_keys(alloc, files, words.keys)?;
-    let source = read_given(alloc, files, words.source, words.is_image, input, errors)?;
+    let settings = settings_of(alloc, &arguments.settings)?;
+    let keys = read_keys(alloc, files, arguments.keys)?;
+    let source = read_given(
+        alloc,
+        files,
+        arguments.source,
+        arguments.is_image,
+        input,
+        errors,
+    )?;
     Ok(Asked {
         source,
         keys,
@@ -249,7 +256,7 @@ fn read_input<'a, I: Read>(alloc: Global, input: &mut Counted<I>) -> Result<Vec<
     let mut bytes = Vec::new(alloc);
     match read_most(&mut *input, &mut bytes, MOST_SOURCE) {
         Ok(()) => Ok(bytes),
-        // Where no read failed there was no memory for the bytes.
+        // Where no read failed memory ran out for the bytes.
         Err(_) if input.failures() == failures => Err(Failure::OutOfMemory),
         Err(_) => Err(Failure::Input),
     }

@@ -5,7 +5,7 @@ ghost use Rattle.chip_bench.specs.Exploring.{AsksCauses, AsksKeys, AsksSet, IsFi
 ghost use Rattle.chip_bench.specs.inner.Sets.{IsBadSets, number_by};
 
 use crate::ending::Failure;
-use chip_arguments::ExploreWords;
+use chip_arguments::ExploreArguments;
 use chip_explore::Causes;
 use memchr::memchr;
 
@@ -72,7 +72,7 @@ fn set_of(item: Item, text: &[u8]) -> Option<u16>
     }
 }
 
-/// The sets that the words of `explore` ask for.
+/// The sets that the arguments of `explore` ask for.
 #[derive(Clone, Copy)]
 pub(crate) struct Sets {
     /// The stop causes that are looked for.
@@ -81,28 +81,29 @@ pub(crate) struct Sets {
     pub(crate) keys: u16,
 }
 
-/// The sets that the words ask for. Where a place is looked for, no stop is unless they name some.
-pub(crate) fn sets_of<'a>(words: &ExploreWords<'a>) -> Result<Sets, Failure<'a>>
-    ensures ok { IfOk result (λ sets. AsksCauses words.entry.now (Some sets.causes)
-        × AsksKeys words.entry.now (Some sets.keys)) }
-    ensures err { IfErr result (IsBadSets words.entry.now) }
+/// The sets that the arguments ask for. Where a place is looked for, no stop is unless they name
+/// some.
+pub(crate) fn sets_of<'a>(arguments: &ExploreArguments<'a>) -> Result<Sets, Failure<'a>>
+    ensures ok { IfOk result (λ sets. AsksCauses arguments.entry.now (Some sets.causes)
+        × AsksKeys arguments.entry.now (Some sets.keys)) }
+    ensures err { IfErr result (IsBadSets arguments.entry.now) }
 {
-    let usual = match words.place {
+    let usual = match arguments.place {
         Some(_) => Causes::none(),
         None => Causes::faults(),
     };
-    let causes = match words.causes {
+    let causes = match arguments.causes {
         Some(text) => set_of(Item::Cause, text.as_bytes()).map(Causes::of_mask),
         None => Some(usual),
     };
-    let keys = match words.allowed_keys {
+    let keys = match arguments.allowed_keys {
         Some(text) => set_of(Item::Key, text.as_bytes()),
         None => Some(ALL_KEYS),
     };
     match (causes, keys) {
         (Some(causes), Some(keys)) => Ok(Sets { causes, keys }),
-        (None, _) => Err(Failure::BadCauses(words.causes.unwrap_or(""))),
-        (Some(_), None) => Err(Failure::BadPlayerKeys(words.allowed_keys.unwrap_or(""))),
+        (None, _) => Err(Failure::BadCauses(arguments.causes.unwrap_or(""))),
+        (Some(_), None) => Err(Failure::BadPlayerKeys(arguments.allowed_keys.unwrap_or(""))),
     }
 }
 

@@ -11,7 +11,7 @@ use crate::file_access::FileAccess;
 use crate::limits::TEST_FILE_BYTES;
 use crate::output::print;
 use crate::reading::read_bounded;
-use chip_arguments::TestWords;
+use chip_arguments::TestArguments;
 use chip_cases::{Case, FileFault, Given, misplaced_refusal, read_cases, updated_text};
 use chip_session::Counted;
 use std::alloc::{AllocError, Global};
@@ -21,17 +21,17 @@ use std::io::Write;
 pub(crate) fn test_files<'a, F: FileAccess, O: Write>(
     alloc: Global,
     files: &F,
-    words: &TestWords<'a>,
+    arguments: &TestArguments<'a>,
     output: &mut Counted<O>,
 ) -> Result<Ending, Failure<'a>>
-    ensures { Tests words.now result }
+    ensures { Tests arguments.now result }
 {
-    let mut report = Report::new(alloc, words.is_tap);
+    let mut report = Report::new(alloc, arguments.is_tap);
     let has_passed = report_files(
         alloc,
         files,
-        &words.files,
-        words.is_update,
+        &arguments.files,
+        arguments.is_update,
         &mut report,
         output,
     )?;

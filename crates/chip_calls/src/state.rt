@@ -3,13 +3,13 @@
 //!
 //! - `state`: V0 to V3, VF, pc, I and the number of the stop cause, or 0. `registers`: V0 to V3 and
 //!   VF. `pc`, `stop`, `delay`: one of them. `timers`: the delay timer and the sound timer. `draws`:
-//!   how many random bytes were drawn. `idle KEYS`, `idle any`: whether each step with these keys
+//!   how many random bytes were used. `idle KEYS`, `idle any`: whether each step with these keys
 //!   down, or with any, leaves the state as it is.
 //! - `bytes ADDRESS COUNT`: so many bytes, `--` past the end of the memory.
 //! - `frames`, `frame PLACE`, `depth`: the addresses that open calls return to, and how many they
 //!   are. `flags`, `flag PLACE`: the flag registers.
 //! - `high`: whether the screen has its high size. `row ROW`: the points of a row, the leftmost the
-//!   highest bit. `screen`: each row with a lit pixel. `rows`: whether the rows that are lent have
+//!   highest bit. `screen`: each row with a lit pixel. `rows`: whether the rows that are borrowed have
 //!   the same points, and none is lit past the last one.
 //! - `profiles`, `profile NAME`: the profiles' names, and the name of the one that is found by one.
 //!   `start-error NUMBER`: what an error of a start says.
@@ -157,7 +157,8 @@ fn push_screen(out: &mut Reply, machine: &Machine) {
     }
 }
 
-/// Whether each row that is lent has the points of the screen, and past the last one there are none.
+/// Whether each row that is borrowed has the pixels of the screen, and past the last one there are
+/// none.
 fn are_rows_lit(machine: &Machine) -> bool {
     for row in 0..64 {
         if machine.row(row) != row_bits(machine, row) {

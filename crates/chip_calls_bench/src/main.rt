@@ -24,7 +24,7 @@ mod streams;
 use crate::session::Session;
 use crate::streams::{Feed, Plan, Sink, each, talk};
 use anyhow::{Error, bail};
-use chip_bench::{Counted, Host, Settings, program, refuse_words, tape_of};
+use chip_bench::{Counted, Host, Settings, program, refuse_arguments, tape_of};
 use std::alloc::Global;
 use std::io;
 use std::io::{BufRead, BufReader, Read, Write};
@@ -157,7 +157,7 @@ fn refuse(alloc: Global, reason: &str) -> Result<String, Error> {
         _ => bail!("no such reason"),
     };
     let mut errors = Vec::new(alloc);
-    let status = refuse_words(alloc, &io::Error::from(kind), &mut errors);
+    let status = refuse_arguments(alloc, &io::Error::from(kind), &mut errors);
     told(alloc, status, b"", &errors)
 }
 

@@ -9,7 +9,7 @@ pub struct Placed<'a> {
 
 /// What a case begins with.
 #[derive(Clone, Copy)]
-pub enum SourceWords<'a> {
+pub enum CaseSource<'a> {
     /// The empty source.
     Empty,
     /// The lines between `source` and `end`.
@@ -20,11 +20,11 @@ pub enum SourceWords<'a> {
     Image(Placed<'a>),
 }
 
-/// The source, the key events and the settings of a case, as its lines give them. What no line gives
-/// is as where the program is asked for nothing else.
+/// The source, the key events and the settings of a case, as its lines give them. What no line
+/// gives is as where the program is asked for nothing else.
 #[derive(Clone, Copy)]
 pub struct Setup<'a> {
-    pub source: SourceWords<'a>,
+    pub source: CaseSource<'a>,
     /// The name of the file of key events.
     pub keys: Option<Placed<'a>>,
     pub profile: Option<Placed<'a>>,
@@ -37,7 +37,7 @@ pub struct Setup<'a> {
 impl Setup<'static> {
     /// The empty source without key events.
     pub(crate) const NONE: Setup<'static> = Setup {
-        source: SourceWords::Empty,
+        source: CaseSource::Empty,
         keys: None,
         profile: None,
         rate: None,

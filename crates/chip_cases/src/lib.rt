@@ -10,7 +10,7 @@ mod place;
 mod reading;
 mod update;
 
-pub use case::{Case, Placed, Setup, SourceWords, Step};
+pub use case::{Case, CaseSource, Placed, Setup, Step};
 pub use difference::difference_text;
 pub use fault::{CaseFault, FileFault};
 pub use matching::{is_answered, is_refusal};

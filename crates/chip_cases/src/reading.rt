@@ -6,7 +6,7 @@ ghost use Rattle.chip_cases.specs.Cases.{AreCases, behind_setup, behind_steps};
 ghost use Rattle.chip_cases.specs.Matching.{texts};
 ghost use Rattle.chip_cases.specs.Steps.{expectation, expectation_of, expected_below, steps_below};
 
-use crate::case::{Case, Placed, Setup, SourceWords, Step};
+use crate::case::{Case, CaseSource, Placed, Setup, Step};
 use crate::fault::{CaseFault, FileFault};
 use crate::line::{begins_part, is_case, is_command, is_refused, is_skipped, split_word};
 use crate::place::Place;
@@ -106,7 +106,7 @@ fn read_setup<'a>(begun: Place<'a>, common: Setup<'a>) -> Result<(Setup<'a>, Pla
             place = next;
         } else if line == b"source".as_slice() {
             let (source, after) = read_source(next)?;
-            setup.source = SourceWords::Lines(source);
+            setup.source = CaseSource::Lines(source);
             place = after;
         } else {
             setup = with_line(setup, line, next.number)?;
@@ -144,9 +144,9 @@ fn with_line<'a>(setup: Setup<'a>, text: &'a [u8], line: usize) -> Result<Setup<
     }
     let mut with = setup;
     if word == b"source".as_slice() {
-        with.source = SourceWords::File(Placed { line, text: value });
+        with.source = CaseSource::File(Placed { line, text: value });
     } else if word == b"image".as_slice() {
-        with.source = SourceWords::Image(Placed { line, text: value });
+        with.source = CaseSource::Image(Placed { line, text: value });
     } else if word == b"keys".as_slice() {
         with.keys = given;
     } else if word == b"profile".as_slice() {

@@ -13,7 +13,7 @@ use std::rc::Rc;
 /// How many rows a screen has.
 pub(crate) const ROWS: usize = 64;
 
-/// A machine, and the rows of points of its screen.
+/// A machine, and the rows of pixels of its screen.
 pub(crate) struct Base {
     pub(crate) machine: Machine,
     pub(crate) rows: Vec<u128>,

@@ -2,7 +2,7 @@
 
 use chip_replay::MOST_EVENTS;
 
-/// The step below which a search speaks of: the count of the draws is exact up to it.
+/// The step below which a search speaks of: the count of random bytes used is exact up to it.
 pub const END: u64 = u64::MAX;
 
 /// How many steps that don't tell keys apart are made in a row before their state is kept.

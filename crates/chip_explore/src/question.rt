@@ -149,7 +149,8 @@ impl Explored {
         }
     }
 
-    /// What this search, which covered the steps up to one, says with what a deep one behind it found.
+    /// What this search, which covered the steps up to one, says with what a deep one behind it
+    /// found.
     fn deepened_by(self, deep: Explored, covered: u64) -> Explored
         ensures outcome { result.outcome ≡ later_of covered deep.outcome }
         ensures executed { result.executed ≡ self.executed }
@@ -269,8 +270,8 @@ fn deepened<W: Watcher>(
     }
 }
 
-/// A search in an order, with the causes that were met before it. A step that refutes what it took for
-/// granted makes it begin anew.
+/// A search in an order, with the causes that were met before it. A step that refutes what it took
+/// for granted makes it begin anew.
 fn search<W: Watcher>(
     alloc: Global,
     start: &Machine,
@@ -324,7 +325,7 @@ fn base_for(alloc: Global, start: &Machine, setting: &Setting) -> Result<Base, A
     Base::of(alloc, &runner.machine)
 }
 
-/// One search: an error where there was no memory to begin it.
+/// One search: an error where memory ran out at its start.
 fn search_once<W: Watcher>(
     alloc: Global,
     start: &Machine,
@@ -435,8 +436,8 @@ fn explored_by(
     }
 }
 
-/// What the search found at the step after those that are covered, or, where a script may be answered
-/// that isn't a first one, at a later step.
+/// What the search found at the step after those that are covered, or, where a script may be
+/// answered that isn't a first one, at a later step.
 fn found_after(
     alloc: Global,
     setting: &Setting,

@@ -1,4 +1,4 @@
-//! A file that is written whole, or left as it was.
+//! A file that is written atomically.
 ghost use Rattle.std.specs.Prelude.{OnOk};
 ghost use Rattle.std.specs.Io.KnownBytes.{Appends};
 
@@ -13,8 +13,8 @@ use std::{fs, io};
 // How many links are followed, one after another: as many as Linux follows.
 const MOST_LINKS: u32 = 40;
 
-/// Writes the file of a name whole. On an error it is as it was, or there is none, as before. A file
-/// of the names in `taken`, which the command reads or has written, isn't written.
+/// Writes the file of a name whole. On an error it is as it was, or there is none, as before. A
+/// file of the names in `taken`, which the command reads or has written, isn't written.
 ///
 /// The bytes go to a new file in the same folder, `chipbench.part1`, say, which gets the name once
 /// they are on the disk, and which is taken away on an error. A file of that name is replaced if it
@@ -22,8 +22,8 @@ const MOST_LINKS: u32 = 40;
 /// replaced or made.
 ///
 /// What a new file can't stand for is written in place, and some bytes may have gone there before
-/// an error: a file of several names or of another owner, and what is not a file, such as a terminal
-/// or a pipe.
+/// an error: a file of several names or of another owner, and what is not a file, such as a
+/// terminal or a pipe.
 pub fn write_file<F: Files>(
     alloc: Global,
     files: &F,

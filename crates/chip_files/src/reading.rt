@@ -21,7 +21,7 @@ fn read_whole<F: OpenFile + Read + Drop>(alloc: Global, file: F, most: u32) -> i
         Ok(metadata) => metadata.len().min(u64::from(most)),
         Err(_) => 0,
     };
-    // One byte more, so that its end is found without a growth.
+    // One byte more, so that its end is found without another allocation.
     let mut bytes = Vec::with_capacity(alloc, length as usize + 1)?;
     read_most(file, &mut bytes, most)?;
     Ok(bytes)

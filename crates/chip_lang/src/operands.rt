@@ -77,7 +77,7 @@ pub(crate) fn values_of(alloc: Global, tokens: &[Lexeme]) -> Result<Option<Vec<E
     Ok(Some(values))
 }
 
-/// The operands between commas, if each of them is one. No tokens are no operands.
+/// The operands between commas, if each of them is one. Without tokens there are none.
 #[tactic(auto, using(crate::proofs::Pieces::value_steps))]
 pub(crate) fn operands_of(
     alloc: Global,

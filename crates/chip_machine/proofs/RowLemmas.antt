@@ -1,4 +1,4 @@
--- 64 rows of bits as the points of the screen, and the bits that a sprite covers.
+-- 64 rows of bits as the pixels of the screen, and the bits that a sprite covers.
 use Rattle.std.proofs.Common.{◌≡◌, ℕ, ◌+◌, ◌-◌, ◌*◌, ◌/◌, ◌%◌, ◌^◌, ◌<◌, ◌≤◌, Bool, true, false, ◌&&◌, ◌==◌, nat_eq, nat_le, length, List, get_or, refl, sym, ap, subst, ◌∙◌, arith, add-zero, bit_or, set, get_or-set_same, get_or-set_other, ⊎_elim}
 use Rattle.std.specs.Int.{bit_at}
 use Rattle.std.specs.Prelude.{bit_xor}

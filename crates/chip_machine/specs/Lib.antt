@@ -1,6 +1,6 @@
 -- What the machine is and does:
 --   Points    the screen as the set of its lit pixels
---   Sprite    the points that a sprite covers
+--   Sprite    the pixels that a sprite covers
 --   Scroll    the lit pixels moved down, right or left
 --   Digits    the shapes of the digits
 --   Profile   the two machines: their names and their quirks

@@ -38,7 +38,7 @@ rectangle width height =
     set.from_list (flat_map (λ row. map (λ column. (column, row)) (range_with_len 0 width))
     (range_with_len 0 height))
 
--- the points of the screen at which a test of column and row passes
+-- the pixels of the screen at which a test of column and row passes
 unfoldable pub points_where : (ℕ → ℕ → Bool) → Points
 points_where test = set.retain (rectangle 128 64) (λ p. test p.0 p.1)
 

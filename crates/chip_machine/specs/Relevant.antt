@@ -15,7 +15,7 @@ use Rattle.chip_machine.specs.Forgotten.{has_part, index_part, screen_part, regi
 use Rattle.chip_machine.specs.State.{Core, State, IsProper}
 use Rattle.chip_machine.specs.Step.{reg, step_of}
 
--- all but the parts that may be forgotten, the sound timer and the draws
+-- all but the parts that may be forgotten, the sound timer and the random bytes used
 abbrev pub others : Core → Core
 others c = record c { registers = []; index = 0; lit = set.empty; sound = 0; draws = 0 }
 

@@ -1,4 +1,4 @@
--- A sprite drawn on the screen. In the high size a point is a stored point, and in the low size it
+-- A sprite drawn on the screen. In the high size a pixel is a stored pixel, and in the low size it
 -- is two by two of them.
 -- Source: COSMAC VIP manual (8 wide, the highest bit at the left, exclusive or, collisions);
 -- SUPER-CHIP 1.1 documentation (the high size, sprites of 16 by 16); own: 8 by 16 in the low size,
@@ -12,7 +12,7 @@ use Rattle.chip_machine.specs.Points.{Points, points_where}
 abbrev pub sprite_bytes : Bool → ℕ → ℕ
 sprite_bytes high n = if n == 0 then (if high then SPRITE_BYTES else 16) else n
 
--- how many stored points wide and high a point is
+-- how many stored pixels wide and high a pixel is
 abbrev pub scale : Bool → ℕ
 scale true = 1
 scale false = 2
@@ -22,14 +22,14 @@ scale false = 2
 unfoldable pub row_bytes : Bool → ℕ → ℕ
 row_bytes high n = if high && (n == 0) then 2 else 1
 
--- whether the point in column i and row j of a sprite with w bytes a row is set: the highest bit is
+-- whether the pixel in column i and row j of a sprite with w bytes a row is set: the highest bit is
 -- at the left
 unfoldable pub is_set : ℕ → List ℕ → ℕ → ℕ → Bool
 is_set w sprite i j =
     nat_lt i (8 * w) && (bit_at (slice_index sprite (w * j + i / 8)) (7 - i % 8) == 1)
 
--- whether a sprite with w bytes a row, drawn at x and y, each modulo the size, has a set point over
--- this stored point
+-- whether a sprite with w bytes a row, drawn at x and y, each modulo the size, has a set pixel over
+-- this stored pixel
 unfoldable pub draws_over : Bool → ℕ → ℕ → ℕ → List ℕ → ℕ → ℕ → Bool
 draws_over high x y w sprite column row =
     let left = x % (128 / scale high) in
@@ -38,6 +38,6 @@ draws_over high x y w sprite column row =
     let down = row / scale high in
     nat_le left across && nat_le top down && is_set w sprite (across - left) (down - top)
 
--- the stored points under the set points of a sprite of n rows, as far as they are on the screen
+-- the stored pixels under the set pixels of a sprite of n rows, as far as they are on the screen
 abbrev pub covered : Bool → ℕ → ℕ → ℕ → List ℕ → Points
 covered high x y n sprite = points_where (draws_over high x y (row_bytes high n) sprite)

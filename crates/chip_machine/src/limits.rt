@@ -15,7 +15,7 @@ pub const FRAMES: usize = 16;
 /// How many flag registers there are.
 pub const FLAGS: usize = 8;
 
-/// How many bytes the largest sprite has, one of 16 by 16 points.
+/// How many bytes the largest sprite has, one of 16 by 16 pixels.
 pub const SPRITE_BYTES: usize = 32;
 
 /// How many addresses a step touches at most: those of its word, and those of a sprite.

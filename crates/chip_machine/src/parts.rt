@@ -14,7 +14,7 @@ pub struct Parts {
     pub depth: u8,
     pub delay: u8,
     pub flags: [u8; FLAGS],
-    /// How many random bytes were drawn.
+    /// How many random bytes were used.
     pub draws: u16,
     pub high: bool,
 }

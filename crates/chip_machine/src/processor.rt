@@ -183,7 +183,7 @@ impl Processor {
         self.stopped = None;
     }
 
-    /// Has these rows of points on the screen.
+    /// Has these rows of pixels on the screen.
     pub(crate) fn set_rows(&mut self, rows: &[u128])
         requires { length rows.now ≡ 64 }
         ensures { self.new ≡ with_lit (in_rows rows.now) self.old }
@@ -476,7 +476,7 @@ impl Processor {
         self.registers[..bytes.len()].copy_from_slice(bytes);
     }
 
-    /// Whether a point of the screen is lit.
+    /// Whether a pixel of the screen is lit.
     pub(crate) fn lit(&self, column: usize, row: usize) -> bool
         ensures member { result ≡ is_lit self.now.lit column row }
         ensures on_screen { IsOnScreen self.now.lit }
@@ -484,7 +484,7 @@ impl Processor {
         self.screen.lit(column, row)
     }
 
-    /// The points of a row of the screen, the leftmost the highest bit.
+    /// The pixels of a row of the screen, the leftmost the highest bit.
     pub(crate) fn row(&self, row: usize) -> u128
         ensures points { (column : ℕ) → column < 128
             → lights result column ≡ is_lit self.now.lit column row }
@@ -508,28 +508,28 @@ impl Processor {
         self.high = high;
     }
 
-    /// Makes every point dark.
+    /// Makes every pixel dark.
     pub(crate) fn clear(&mut self)
         ensures { self.new ≡ with_lit set.empty self.old }
     {
         self.screen.clear();
     }
 
-    /// Moves every point down by so many rows.
+    /// Moves every pixel down by so many rows.
     pub(crate) fn scroll_down(&mut self, rows: u8)
         ensures { self.new ≡ with_lit (scrolled_down rows self.old.lit) self.old }
     {
         self.screen.scroll_down(rows);
     }
 
-    /// Moves every point right by four columns.
+    /// Moves every pixel right by four columns.
     pub(crate) fn scroll_right(&mut self)
         ensures { self.new ≡ with_lit (scrolled_right 4 self.old.lit) self.old }
     {
         self.screen.scroll_right();
     }
 
-    /// Moves every point left by four columns.
+    /// Moves every pixel left by four columns.
     pub(crate) fn scroll_left(&mut self)
         ensures { self.new ≡ with_lit (scrolled_left 4 self.old.lit) self.old }
     {
@@ -543,7 +543,7 @@ impl Processor {
         self.registers[15] = 0;
     }
 
-    /// Draws a sprite of as many rows as its bytes tell, and sets VF where it covers a point that
+    /// Draws a sprite of as many rows as its bytes tell, and sets VF where it covers a pixel that
     /// was lit.
     #[inline(never)]
     pub(crate) fn draw(&mut self, x: u8, y: u8, sprite: &[u8])
@@ -598,7 +598,7 @@ impl Processor {
         &self.flags
     }
 
-    /// How many random bytes were drawn.
+    /// How many random bytes were used.
     pub(crate) fn draws(&self) -> u64
         ensures { result ≡ self.now.draws }
     {

@@ -300,7 +300,7 @@ impl Processor {
         Ok(())
     }
 
-    /// `00E0`, `CLS`: makes all points dark.
+    /// `00E0`, `CLS`: makes all pixels dark.
     #[tactic(auto, unfolding(crate::specs::Step::effect))]
     pub(crate) fn row_clear_screen(&mut self)
         requires { self.old.pc ≤ LAST_WORD }

@@ -38,7 +38,7 @@ impl Screen {
         Ok(Screen { rows })
     }
 
-    /// Whether a point is lit: outside the screen none is.
+    /// Whether a pixel is lit: outside the screen none is.
     pub(crate) fn lit(&self, column: usize, row: usize) -> bool
         ensures member { result ≡ is_lit self.now column row }
         ensures on_screen { IsOnScreen self.now }
@@ -50,7 +50,7 @@ impl Screen {
         }
     }
 
-    /// The points of a row, the leftmost the highest bit: past the last row none is lit.
+    /// The pixels of a row, the leftmost the highest bit: past the last row none is lit.
     pub(crate) fn row(&self, row: usize) -> u128
         ensures points { (column : ℕ) → column < 128
             → lights result column ≡ is_lit self.now column row }
@@ -60,35 +60,35 @@ impl Screen {
         if row < HEIGHT { self.rows[row] } else { 0 }
     }
 
-    /// Makes every point dark.
+    /// Makes every pixel dark.
     pub(crate) fn clear(&mut self)
         ensures { self.new ≡ set.empty }
     {
         darken(&mut self.rows);
     }
 
-    /// Moves every point down, and loses those that leave.
+    /// Moves every pixel down, and loses those that leave.
     pub(crate) fn scroll_down(&mut self, rows: u8)
         ensures { self.new ≡ scrolled_down rows self.old }
     {
         lower(&mut self.rows, rows as usize);
     }
 
-    /// Moves every point right by four columns, and loses those that leave.
+    /// Moves every pixel right by four columns, and loses those that leave.
     pub(crate) fn scroll_right(&mut self)
         ensures { self.new ≡ scrolled_right 4 self.old }
     {
         to_the_right(&mut self.rows);
     }
 
-    /// Moves every point left by four columns, and loses those that leave.
+    /// Moves every pixel left by four columns, and loses those that leave.
     pub(crate) fn scroll_left(&mut self)
         ensures { self.new ≡ scrolled_left 4 self.old }
     {
         to_the_left(&mut self.rows);
     }
 
-    /// Another screen with the same points.
+    /// Another screen with the same pixels.
     pub(crate) fn copy_of(&self) -> Result<Self, AllocError>
         ensures { IfOk result (λ screen. screen ≡ self.now) }
     {
@@ -96,14 +96,14 @@ impl Screen {
         Ok(Screen { rows })
     }
 
-    /// Takes the points of another screen.
+    /// Takes the pixels of another screen.
     pub(crate) fn copy_from(&mut self, other: &Screen)
         ensures { self.new ≡ other.now }
     {
         self.rows.copy_from_slice(&other.rows);
     }
 
-    /// Has these rows of points, the leftmost point the highest bit.
+    /// Has these rows of pixels, the leftmost pixel the highest bit.
     pub(crate) fn set_rows(&mut self, rows: &[u128])
         requires { length rows.now ≡ 64 }
         ensures { self.new ≡ in_rows rows.now }
@@ -111,14 +111,14 @@ impl Screen {
         self.rows.copy_from_slice(rows);
     }
 
-    /// Whether another screen has the same points: true only where it has.
+    /// Whether another screen has the same pixels: true only where it has.
     pub(crate) fn is_same(&self, other: &Screen) -> bool
         ensures { IsTrue result → self.now ≡ other.now }
     {
         self.rows == other.rows
     }
 
-    /// Draws a sprite, and answers whether it covers a point that was lit.
+    /// Draws a sprite, and answers whether it covers a pixel that was lit.
     #[inline(always)]
     pub(crate) fn draw(&mut self, high: bool, x: u8, y: u8, sprite: &[u8]) -> bool
         ensures lit { self.new
@@ -181,7 +181,7 @@ fn to_the_left(rows: &mut [u128])
     }
 }
 
-/// Turns the points of a stripe of columns in so many rows, and gives the columns in which one of
+/// Turns the pixels of a stripe of columns in so many rows, and gives the columns in which one of
 /// them was lit.
 fn turn(rows: &mut [u128], from: usize, count: usize, stripe: u128) -> u128
     requires { from + count ≤ length rows.old }
@@ -206,8 +206,8 @@ fn turn(rows: &mut [u128], from: usize, count: usize, stripe: u128) -> u128
     met
 }
 
-/// Turns each point that a sprite covers, and says whether one of them was lit. The same call stands
-/// twice, since each is compiled for its own width.
+/// Turns each pixel that a sprite covers, and says whether one of them was lit. The same call
+/// stands twice, since each is compiled for its own width.
 #[inline(always)]
 fn toggle(rows: &mut [u128], high: bool, x: u8, y: u8, sprite: &[u8]) -> bool
     requires { length rows.old ≡ 64 }

@@ -1,4 +1,4 @@
-//! The stored points that a sprite covers, as bits of the screen's rows.
+//! The stored pixels that a sprite covers, as bits of the screen's rows.
 
 ghost use Rattle.std.specs.Prelude.{◌≡◌, ℕ, ◌+◌, ◌-◌, ◌*◌, ◌/◌, ◌%◌, ◌<◌, ◌≤◌, false, ◌==◌, slice_index, ◌^◌, length};
 ghost use Rattle.std.specs.Int.{bit_at};
@@ -28,7 +28,7 @@ pub(crate) fn sprite_bytes(high: bool, n: Nibble) -> usize
     }
 }
 
-/// How many stored points wide and high a point is.
+/// How many stored pixels wide and high a pixel is.
 pub(crate) fn scale_of(high: bool) -> usize
     ensures value { result ≡ scale high }
     ensures some { 1 ≤ result }
@@ -57,7 +57,7 @@ fn rows_of(high: bool, sprite: &[u8]) -> usize
 }
 
 /// The lines that a sprite may cover: the first of them, and how many they are. A line is a row of
-/// points of the size.
+/// pixels of the size.
 pub(crate) fn lines_under(high: bool, y: u8, sprite: &[u8]) -> (usize, usize)
     ensures first { result.0 ≡ y % (64 / scale high) }
     ensures on_screen { scale high * (result.0 + result.1) ≤ 64 }

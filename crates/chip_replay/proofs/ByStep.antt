@@ -162,7 +162,7 @@ was_down-same : (events later : Events) (from t k : ℕ) → t ≤ from → ((s 
 was_down-same events later from zero k l same = refl
 was_down-same events later from (suc t) k l same = same t (omega arith) k
 
--- what is known of the keys at the lent state's step, under events that are alike in the steps
+-- what is known of the keys at the current state's step, under events that are alike in the steps
 -- below from
 pub holding_cut : (events later : Events) (m from : ℕ) (h : Holding) (step step' : Option ℕ) → m ≤ from → IsHolding events step h → ((s : ℕ) → s < from → (k : ℕ) → is_down later k s ≡ is_down events k s) → IfSome step' (λ t. (t ≤ m) × (step ≡ Some t)) → IsHolding later step' (record h { until = min h.until from })
 holding_cut events later m from h step None within known same kept = tt

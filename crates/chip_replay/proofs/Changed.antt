@@ -16,7 +16,7 @@ use Rattle.chip_machine.specs.Block.{ticks}
 use Rattle.chip_replay.specs.Run.{run, first_below, IsStill}
 use Rattle.chip_replay.specs.Image.{affected, touches_change, patched}
 use Rattle.chip_machine.specs.State.{differs}
-use Rattle.chip_replay.specs.inner.Kept.{IsFirst, AreFirst, IsSound, IsLent, IsCutBack}
+use Rattle.chip_replay.specs.inner.Kept.{IsFirst, AreFirst, IsSound, IsCurrent, IsCutBack}
 use Rattle.chip_replay.proofs.Patched.{AllUntouched, run-patched, run-proper, patched-proper, after-patched, same_touches}
 use Rattle.chip_replay.specs.Limits.{image_room, image_start, memory_size, never}
 
@@ -146,18 +146,18 @@ sound_changed p proper touches state later change cs first reach sound start sam
           });
     }
 
--- the lent state's step after a cut
-pub step_kept : {M : Type 0} (state : ℕ → M) (reach m : ℕ) (lent : M) (step step' : Option ℕ) → IsLent state reach lent step → IsCutBack reach m step step' → IfSome step' (λ t. (t ≤ m) × (step ≡ Some t))
-step_kept state reach m lent step None known kept = tt
-step_kept state reach m lent step (Some t) known kept =
-    let before : (t ≤ reach) × (lent ≡ state t) = subst (λ o. IsLent state reach lent o) kept.0 known in
+-- the current state's step after a cut
+pub step_kept : {M : Type 0} (state : ℕ → M) (reach m : ℕ) (current : M) (step step' : Option ℕ) → IsCurrent state reach current step → IsCutBack reach m step step' → IfSome step' (λ t. (t ≤ m) × (step ≡ Some t))
+step_kept state reach m current step None known kept = tt
+step_kept state reach m current step (Some t) known kept =
+    let before : (t ≤ reach) × (current ≡ state t) = subst (λ o. IsCurrent state reach current o) kept.0 known in
     (kept.1 before.0, kept.0)
 
--- likewise the lent state
-pub lent_cut : {M : Type 0} (state later : ℕ → M) (change : M → M) (reach m : ℕ) (lent : M) (step step' : Option ℕ) → IsLent state reach lent step → ((t : ℕ) → t ≤ m → later t ≡ change (state t)) → IfSome step' (λ t. (t ≤ m) × (step ≡ Some t)) → IsLent later m (change lent) step'
-lent_cut state later change reach m lent step None known same kept = tt
-lent_cut state later change reach m lent step (Some t) known same kept =
-    let before : (t ≤ reach) × (lent ≡ state t) = subst (λ o. IsLent state reach lent o) kept.1 known in
+-- likewise the current state
+pub current_cut : {M : Type 0} (state later : ℕ → M) (change : M → M) (reach m : ℕ) (current : M) (step step' : Option ℕ) → IsCurrent state reach current step → ((t : ℕ) → t ≤ m → later t ≡ change (state t)) → IfSome step' (λ t. (t ≤ m) × (step ≡ Some t)) → IsCurrent later m (change current) step'
+current_cut state later change reach m current step None known same kept = tt
+current_cut state later change reach m current step (Some t) known same kept =
+    let before : (t ≤ reach) × (current ≡ state t) = subst (λ o. IsCurrent state reach current o) kept.1 known in
     (kept.0, ap change before.1 ∙ sym (same t kept.0))
 
 -- no step below m touches a byte that no step below it is the first to touch
@@ -203,8 +203,8 @@ module _ {S : Type 0} (p : ℕ) (memory : S → List ℕ) (with_memory : S → L
         ∙ ap (patched memory with_memory old new) (ends few keys tick)
         ∙ sym (later_is place (omega arith)))
 
-    pub lent_patched : (before : ℕ) (lent : S) (step step' : Option ℕ) → IsLent (run after rate held start) before lent step → IfSome step' (λ t. (t ≤ reach) × (step ≡ Some t)) → IsLent (run after rate held (patched memory with_memory old new start)) reach (patched memory with_memory old new lent) step'
-    lent_patched before lent step step' known kept = lent_cut (run after rate held start) (run after rate held (patched memory with_memory old new start)) (patched memory with_memory old new) before reach lent step step' known later_is kept
+    pub current_patched : (before : ℕ) (current : S) (step step' : Option ℕ) → IsCurrent (run after rate held start) before current step → IfSome step' (λ t. (t ≤ reach) × (step ≡ Some t)) → IsCurrent (run after rate held (patched memory with_memory old new start)) reach (patched memory with_memory old new current) step'
+    current_patched before current step step' known kept = current_cut (run after rate held start) (run after rate held (patched memory with_memory old new start)) (patched memory with_memory old new) before reach current step step' known later_is kept
 
 -- a run under keys that are alike in the steps below m
 run-same : {S : Type 0} (after : S → ℕ → Bool → S) (rate : ℕ) (held later : ℕ → ℕ) (start : S) (t : ℕ) → ((s : ℕ) → s < t → later s ≡ held s) → run after rate later start t ≡ run after rate held start t
@@ -228,5 +228,5 @@ module _ {S : Type 0} (after : S → ℕ → Bool → S) (rate : ℕ) (held late
       let early : length cs * p ≤ m = omega (arith, multiple_within (length cs) m p fewer, suc-mul (length cs) p) in
       subst (IsStill after) (sym (alike (length cs * p) early)) (ends fewer)
 
-  pub lent_keys : (reach : ℕ) (lent : S) (step step' : Option ℕ) → IsLent (run after rate held start) reach lent step → IfSome step' (λ t. (t ≤ m) × (step ≡ Some t)) → IsLent (run after rate later start) m lent step'
-  lent_keys reach lent step step' known kept = lent_cut (run after rate held start) (run after rate later start) (λ x. x) reach m lent step step' known alike kept
+  pub current_keys : (reach : ℕ) (current : S) (step step' : Option ℕ) → IsCurrent (run after rate held start) reach current step → IfSome step' (λ t. (t ≤ m) × (step ≡ Some t)) → IsCurrent (run after rate later start) m current step'
+  current_keys reach current step step' known kept = current_cut (run after rate held start) (run after rate later start) (λ x. x) reach m current step step' known alike kept

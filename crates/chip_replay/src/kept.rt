@@ -8,7 +8,7 @@ ghost use Rattle.chip_replay.specs.Keys.{Events, held};
 ghost use Rattle.chip_replay.specs.inner.Changes.{KnowsKeys};
 ghost use Rattle.chip_replay.specs.Image.{AgreeOutside, patched};
 ghost use Rattle.chip_machine.specs.State.{differs};
-ghost use Rattle.chip_replay.specs.inner.Kept.{AreFirst, IsTouched, IsSound, IsLent, EndsStill, IsAt, IsCutBack, IsRight, is_due};
+ghost use Rattle.chip_replay.specs.inner.Kept.{AreFirst, IsTouched, IsSound, IsCurrent, EndsStill, IsAt, IsCutBack, IsRight, is_due};
 
 use crate::keys::{Cursor, Holding, Keys};
 use crate::limits::{IMAGE_START, LAST_STEP, MEMORY_BYTES, NEVER};
@@ -31,10 +31,10 @@ pub(crate) struct Kept<M: Traced> {
     pub(crate) first_touch: Vec<u32>,
     /// How many steps of the run are known.
     pub(crate) reach: u32,
-    /// The state that was last lent.
-    pub(crate) lent: M,
+    /// The current state: the one that the last question reached.
+    pub(crate) current: M,
     /// Its step, unless it is void.
-    pub(crate) lent_step: Option<u32>,
+    pub(crate) current_step: Option<u32>,
     /// The keys that are held from that step on.
     pub(crate) holding: Holding,
     /// How many steps were made.
@@ -44,7 +44,7 @@ pub(crate) struct Kept<M: Traced> {
 impl<M: Traced> Kept<M> {
     /// Nothing but the start state, of which `start` is a copy.
     pub(crate) fn new(alloc: Global, start: M, spacing: u32) -> Result<Kept<M>, AllocError>
-        ensures lent { IfOk result (λ kept. (kept.lent ≡ start) × (kept.lent_step ≡ Some 0)) }
+        ensures current { IfOk result (λ kept. (kept.current ≡ start) × (kept.current_step ≡ Some 0)) }
         ensures checkpoints { IfOk result (λ kept. kept.checkpoints.items ≡ []) }
         ensures table { IfOk result (λ kept. length kept.first_touch.items ≡ MEMORY_BYTES) }
         ensures never { IfOk result (λ kept. (at : ℕ) → at < MEMORY_BYTES
@@ -61,15 +61,15 @@ impl<M: Traced> Kept<M> {
             spare: Vec::new(alloc),
             first_touch,
             reach: 0,
-            lent: start,
-            lent_step: Some(0),
+            current: start,
+            current_step: Some(0),
             holding: Holding::NONE,
             ran: 0,
         })
     }
 
-    /// Brings the lent state to a step, by the steps from the nearest state that is kept, and keeps
-    /// what is due on the way. After an error the lent state may be void.
+    /// Brings the current state to a step, by the steps from the nearest state that is kept, and
+    /// keeps what is due on the way. After an error the current state may be void.
     pub(crate) fn go_to(
         &mut self,
         start: &M,
@@ -83,7 +83,7 @@ impl<M: Traced> Kept<M> {
         requires right { IsRight M.is_proper M.touches M.step_of rate start.now keys.now self.old }
         ensures spacing { self.new.spacing ≡ self.old.spacing }
         ensures right { IsRight M.is_proper M.touches M.step_of rate start.now keys.now self.new }
-        ensures state { OnOk result (self.new.lent
+        ensures state { OnOk result (self.new.current
             ≡ run M.step_of rate (held keys.now) start.now step) }
         ensures reached { OnOk result (step ≤ self.new.reach) }
         ensures reach_kept { self.old.reach ≤ self.new.reach }
@@ -93,7 +93,7 @@ impl<M: Traced> Kept<M> {
     {
         let mut at = self.set_out(start, keys, step)?;
         while at < step {
-            if self.lent.stays(None, &self.first_touch, at) {
+            if self.current.stays(None, &self.first_touch, at) {
                 return self.stay(at, step);
             }
             let to_checkpoint = self.spacing - at % self.spacing;
@@ -101,7 +101,7 @@ impl<M: Traced> Kept<M> {
             let made = self.go_on(keys, rate, at, count);
             self.ran = self.ran.saturating_add(u64::from(made));
             at += count;
-            self.lent_step = Some(at);
+            self.current_step = Some(at);
             if at > self.reach {
                 self.extend(at, at)?;
             }
@@ -109,16 +109,16 @@ impl<M: Traced> Kept<M> {
         Ok(())
     }
 
-    /// The run is known up to a step, since the lent state, that of a step before it, stays as it is
-    /// with any keys, and what it touches is noted. After an error it is known as far as before, and
-    /// the lent state is void.
+    /// The run is known up to a step, since the current state, that of a step before it, stays as
+    /// it is with any keys, and what it touches is noted. After an error it is known as far as
+    /// before, and the current state is void.
     fn stay(&mut self, at: u32, step: u32) -> Result<(), AllocError>
         requires spaced { 0 < self.old.spacing }
         requires in_range { step ≤ LAST_STEP }
         requires order { at ≤ step }
         requires few { length self.old.checkpoints.items ≤ LAST_STEP }
-        requires still { IsStill M.step_of self.old.lent }
-        requires noted { (address : ℕ) → is_among (M.touches self.old.lent) address ≡ true
+        requires still { IsStill M.step_of self.old.current }
+        requires noted { (address : ℕ) → is_among (M.touches self.old.current) address ≡ true
             → slice_index self.old.first_touch.items address < at }
         ensures right { (rate : ℕ) (start : M) (events : Events)
             → IsRight M.is_proper M.touches M.step_of rate start events self.old
@@ -131,7 +131,7 @@ impl<M: Traced> Kept<M> {
           spare = self.new.spare;
           first_touch = self.new.first_touch;
           reach = self.new.reach;
-          lent_step = self.new.lent_step;
+          current_step = self.new.current_step;
         } }
     {
         if step > self.reach {
@@ -140,18 +140,18 @@ impl<M: Traced> Kept<M> {
         Ok(())
     }
 
-    /// Goes on by some steps, of which the lent state is before the first, and answers how many it
-    /// made: none where they change nothing.
+    /// Goes on by some steps, of which the current state is before the first, and answers how many
+    /// it made: none where they change nothing.
     fn go_on(&mut self, keys: &Keys, rate: u32, at: u32, count: u32) -> u32
         requires rate { 0 < rate }
         requires in_range { at + count ≤ LAST_STEP }
         requires table { length self.old.first_touch.items ≡ MEMORY_BYTES }
         requires holding { KnowsKeys keys.now at self.old.holding }
         ensures state { (start : M)
-            → self.old.lent ≡ run M.step_of rate (held keys.now) start at
-            → self.new.lent ≡ run M.step_of rate (held keys.now) start (at + count) }
+            → self.old.current ≡ run M.step_of rate (held keys.now) start at
+            → self.new.current ≡ run M.step_of rate (held keys.now) start (at + count) }
         ensures first { (start : M) (reach : ℕ)
-            → self.old.lent ≡ run M.step_of rate (held keys.now) start at
+            → self.old.current ≡ run M.step_of rate (held keys.now) start at
             → at ≤ reach
             → AreFirst (touched M.touches)
             (run M.step_of rate (held keys.now) start) reach self.old.first_touch.items
@@ -162,7 +162,7 @@ impl<M: Traced> Kept<M> {
         ensures made { result ≤ count }
         ensures others { self.new
             ≡ record self.old {
-              lent = self.new.lent;
+              current = self.new.current;
               holding = self.new.holding;
               first_touch = self.new.first_touch;
             } }
@@ -176,21 +176,21 @@ impl<M: Traced> Kept<M> {
             holding: self.holding,
         };
         let table = &mut self.first_touch;
-        self.lent.steps(&mut cursor, rate, at, count, table);
+        self.current.steps(&mut cursor, rate, at, count, table);
         self.holding = cursor.holding;
         count
     }
 
-    /// What is known of the keys after some steps, of which the lent state is before the first, where
-    /// these change nothing, and touch nothing for the first time.
+    /// What is known of the keys after some steps, of which the current state is before the first,
+    /// where these change nothing, and touch nothing for the first time.
     fn idle_until(&self, keys: &Keys, at: u32, count: u32) -> Option<Holding>
         requires in_range { at + count ≤ LAST_STEP }
         requires holding { KnowsKeys keys.now at self.now.holding }
         ensures state { IsSome result → (rate : ℕ) (start : M)
-            → self.now.lent ≡ run M.step_of rate (held keys.now) start at
-            → self.now.lent ≡ run M.step_of rate (held keys.now) start (at + count) }
+            → self.now.current ≡ run M.step_of rate (held keys.now) start at
+            → self.now.current ≡ run M.step_of rate (held keys.now) start (at + count) }
         ensures first { IsSome result → (rate : ℕ) (start : M) (reach : ℕ)
-            → self.now.lent ≡ run M.step_of rate (held keys.now) start at
+            → self.now.current ≡ run M.step_of rate (held keys.now) start at
             → at ≤ reach
             → AreFirst (touched M.touches)
             (run M.step_of rate (held keys.now) start) reach self.now.first_touch.items
@@ -207,21 +207,24 @@ impl<M: Traced> Kept<M> {
         if at + count > holding.until {
             return None;
         }
-        if !self.lent.stays(Some(holding.keys), &self.first_touch, at) {
+        if !self
+            .current
+            .stays(Some(holding.keys), &self.first_touch, at)
+        {
             return None;
         }
         Some(holding)
     }
 
-    /// The run is known up to a later step, whose state and those from `at` on are the lent one, and
-    /// the first touches are noted: a checkpoint is kept if the next one is of one of these steps.
-    /// After an error it is known as far as before, and the lent state is void.
+    /// The run is known up to a later step, whose state and those from `at` on are the current one,
+    /// and the first touches are noted: a checkpoint is kept if the next one is of one of these
+    /// steps. After an error it is known as far as before, and the current state is void.
     #[inline(always)]
     fn extend(&mut self, at: u32, reach: u32) -> Result<(), AllocError>
         requires few { length self.old.checkpoints.items ≤ LAST_STEP }
         ensures kept { OnOk result (self.new.checkpoints.items
             ≡ (if is_due self.old.spacing (length self.old.checkpoints.items) at reach
-            then self.old.checkpoints.items ++ self.old.lent ∷ []
+            then self.old.checkpoints.items ++ self.old.current ∷ []
             else self.old.checkpoints.items)) }
         ensures others { OnOk result (self.new
             ≡ record self.old {
@@ -238,14 +241,14 @@ impl<M: Traced> Kept<M> {
           checkpoints = self.new.checkpoints;
           spare = self.new.spare;
           first_touch = self.new.first_touch;
-          lent_step = None;
+          current_step = None;
         }) }
     {
         if self.is_due(at, reach)
             && let Err(error) = self.keep()
         {
             cut(&mut self.first_touch, self.reach);
-            self.lent_step = None;
+            self.current_step = None;
             return Err(error);
         }
         self.reach = reach;
@@ -263,33 +266,33 @@ impl<M: Traced> Kept<M> {
         u64::from(at) <= next && next <= u64::from(last) && next < u64::from(at) + spacing
     }
 
-    /// Keeps the lent state as a checkpoint.
+    /// Keeps the current state as a checkpoint.
     #[cold]
     #[inline(never)]
     fn keep(&mut self) -> Result<(), AllocError>
         ensures kept { OnOk result (self.new.checkpoints.items
-            ≡ self.old.checkpoints.items ++ self.old.lent ∷ []) }
+            ≡ self.old.checkpoints.items ++ self.old.current ∷ []) }
         ensures err { OnErr result (self.new.checkpoints.items ≡ self.old.checkpoints.items) }
         ensures others { self.new
             ≡ record self.old { checkpoints = self.new.checkpoints; spare = self.new.spare } }
     {
         let state = match self.spare.pop() {
             Some(mut state) => {
-                state.copy_from(&self.lent)?;
+                state.copy_from(&self.current)?;
                 state
             }
             None => {
                 self.spare.reserve(self.checkpoints.len() + 1)?;
-                self.lent.copy_of()?
+                self.current.copy_of()?
             }
         };
         self.checkpoints.push(state)?;
         Ok(())
     }
 
-    /// Makes the lent state one from which the run can go on to a step, and answers a step that it
-    /// is of: it stays where no checkpoint up to that step is nearer, and where it is the state of
-    /// each later step. An error changes nothing.
+    /// Makes the current state one from which the run can go on to a step, and answers a step that
+    /// it is of: it stays where no checkpoint up to that step is nearer, and where it is the state
+    /// of each later step. An error changes nothing.
     fn set_out(&mut self, start: &M, keys: &Keys, step: u32) -> Result<u32, AllocError>
         requires spaced { 0 < self.old.spacing }
         ensures within { IfOk result (λ from. from ≤ step) }
@@ -303,30 +306,33 @@ impl<M: Traced> Kept<M> {
             → IsRight M.is_proper M.touches M.step_of rate start.now keys.now self.new }
         ensures others { self.new
             ≡ record self.old {
-              lent = self.new.lent;
-              lent_step = self.new.lent_step;
+              current = self.new.current;
+              current_step = self.new.current_step;
               holding = self.new.holding;
             } }
         ensures err { OnErr result (self.new ≡ self.old) }
     {
         let known = self.reach.min(step);
-        match self.lent_step {
+        match self.current_step {
             // Where the run has come no further: a division would take longer than a step.
-            Some(lent_step) if known <= lent_step && lent_step <= step => return Ok(lent_step),
-            Some(lent_step)
-                if lent_step <= step && self.lent.stays(None, &self.first_touch, lent_step) => {
+            Some(current_step) if known <= current_step && current_step <= step => return Ok(
+                current_step,
+            ),
+            Some(current_step)
+                if current_step <= step
+                    && self.current.stays(None, &self.first_touch, current_step) => {
                 return Ok(known);
             }
             _ => {}
         }
         let place = known / self.spacing;
         let from = place * self.spacing;
-        match self.lent_step {
-            Some(lent_step) if from <= lent_step && lent_step <= step => Ok(lent_step),
+        match self.current_step {
+            Some(current_step) if from <= current_step && current_step <= step => Ok(current_step),
             _ => {
                 let from_state = nearest(start, &self.checkpoints, place as usize);
-                self.lent.copy_from(from_state)?;
-                self.lent_step = Some(from);
+                self.current.copy_from(from_state)?;
+                self.current_step = Some(from);
                 self.holding = keys.before(from);
                 Ok(from)
             }
@@ -345,8 +351,8 @@ impl<M: Traced> Kept<M> {
             → EndsStill step_of state self.old.spacing self.old.checkpoints.items self.old.reach
             → EndsStill step_of state self.old.spacing self.new.checkpoints.items self.new.reach }
         ensures reach { self.new.reach ≡ min self.old.reach from }
-        ensures lent_step { IsCutBack self.old.reach self.new.reach self.old.lent_step
-            self.new.lent_step }
+        ensures current_step { IsCutBack self.old.reach self.new.reach self.old.current_step
+            self.new.current_step }
         ensures holding { self.new.holding
             ≡ record self.old.holding { until = min self.old.holding.until from } }
         ensures others { self.new ≡ record self.old {
@@ -354,7 +360,7 @@ impl<M: Traced> Kept<M> {
           spare = self.new.spare;
           first_touch = self.new.first_touch;
           reach = self.new.reach;
-          lent_step = self.new.lent_step;
+          current_step = self.new.current_step;
           holding = self.new.holding;
         } }
     {
@@ -374,38 +380,38 @@ impl<M: Traced> Kept<M> {
             → reach ≤ self.old.reach
             → IsTouched (touched M.touches) (run M.step_of rate (held events) start) reach
             self.new.first_touch.items }
-        ensures lent_step { IfSome self.new.lent_step (λ t. (t ≤ reach)
-            × (self.old.lent_step ≡ Some t)) }
+        ensures current_step { IfSome self.new.current_step (λ t. (t ≤ reach)
+            × (self.old.current_step ≡ Some t)) }
         ensures others { self.new ≡ record self.old {
           checkpoints = self.new.checkpoints;
           spare = self.new.spare;
           first_touch = self.new.first_touch;
           reach = reach;
-          lent_step = self.new.lent_step;
+          current_step = self.new.current_step;
         } }
     {
         let count = (reach / self.spacing) as usize;
         set_apart(&mut self.checkpoints, &mut self.spare, count);
-        self.lent_step = if_within(self.lent_step, reach);
+        self.current_step = if_within(self.current_step, reach);
         self.cut_touches(reach);
         self.reach = reach;
     }
 
-    /// Changes the first touches from a step on to none: there is none where the lent state, that of
-    /// an earlier step, stays as it is.
+    /// Changes the first touches from a step on to none: there is none where the current state,
+    /// that of an earlier step, stays as it is.
     fn cut_touches(&mut self, reach: u32)
-        requires within { IfSome self.old.lent_step (λ t. t ≤ reach) }
+        requires within { IfSome self.old.current_step (λ t. t ≤ reach) }
         ensures table { (rate : ℕ) (start : M) (events : Events) (known : ℕ)
             → IsTouched (touched M.touches) (run M.step_of rate (held events) start) known
             self.old.first_touch.items
-            → IsLent (run M.step_of rate (held events) start) known self.old.lent
-            self.old.lent_step
+            → IsCurrent (run M.step_of rate (held events) start) known self.old.current
+            self.old.current_step
             → reach ≤ known
             → IsTouched (touched M.touches) (run M.step_of rate (held events) start) reach
             self.new.first_touch.items }
         ensures others { self.new ≡ record self.old { first_touch = self.new.first_touch } }
     {
-        if self.lent_step.is_some() && self.lent.is_still() {
+        if self.current_step.is_some() && self.current.is_still() {
             return;
         }
         cut(&mut self.first_touch, reach);
@@ -419,13 +425,13 @@ impl<M: Traced> Kept<M> {
         requires alike { AgreeOutside first end old.now new.now }
         ensures checkpoints { self.new.checkpoints.items
             ≡ map (patched M.memory M.with_memory old.now new.now) self.old.checkpoints.items }
-        ensures lent { self.new.lent
-            ≡ patched M.memory M.with_memory old.now new.now self.old.lent }
+        ensures current { self.new.current
+            ≡ patched M.memory M.with_memory old.now new.now self.old.current }
         ensures others { self.new
-            ≡ record self.old { checkpoints = self.new.checkpoints; lent = self.new.lent } }
+            ≡ record self.old { checkpoints = self.new.checkpoints; current = self.new.current } }
     {
         patch_all(&mut self.checkpoints, first, end, old, new);
-        patch(&mut self.lent, first, end, old, new);
+        patch(&mut self.current, first, end, old, new);
     }
 }
 

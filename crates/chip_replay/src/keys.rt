@@ -275,7 +275,7 @@ impl Keys {
         Ok(())
     }
 
-    /// Takes an event out, and takes no memory. Errors as `replace`.
+    /// Deletes an event, and takes no memory. Errors as `replace`.
     pub fn delete(&mut self, step: u32, key: u32) -> Result<(), KeyFault>
         ensures fault { MatchOption (edit_fault self.old step key) (result ≡ Ok tt)
             (λ fault. result ≡ Err fault) }

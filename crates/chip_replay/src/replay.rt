@@ -133,7 +133,7 @@ impl<M: Traced> Replay<M> {
     }
 
     /// The state at a step: that after the steps 0 to `step - 1`, under the events as they are. It
-    /// is made from the nearest checkpoint, or from the state that was lent last where that is
+    /// is made from the nearest checkpoint, or from the current state where that is
     /// nearer. Errors, the first that holds: the step is above the last one, memory ran out; later
     /// answers are then as if the question had not been asked.
     pub fn at(&mut self, step: u32) -> Result<&M, AtError>
@@ -146,7 +146,7 @@ impl<M: Traced> Replay<M> {
             return Err(AtError::StepTooLarge);
         }
         match self.kept.go_to(&self.start, &self.keys, self.rate, step) {
-            Ok(()) => Ok(&self.kept.lent),
+            Ok(()) => Ok(&self.kept.current),
             Err(_) => Err(AtError::OutOfMemory),
         }
     }
@@ -187,7 +187,7 @@ impl<M: Traced> Replay<M> {
         Ok(())
     }
 
-    /// Takes a key event out, as `Keys::delete`. What is kept of the run up to its step stays. An
+    /// Deletes a key event, as `Keys::delete`. What is kept of the run up to its step stays. An
     /// error changes nothing.
     pub fn delete_key(&mut self, step: u32, key: u32) -> Result<(), KeyFault>
         ensures fault { MatchOption (edit_fault self.old.keys step key)

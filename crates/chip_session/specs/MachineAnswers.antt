@@ -33,13 +33,13 @@ place_part c = codes "pc " ++ hex_word c.pc ++ codes " i " ++ hex_word c.index
 abbrev pub timer_part : Core → List ℕ
 timer_part c = codes " dt " ++ hex_byte c.delay ++ codes " st " ++ hex_byte c.sound
 
--- the draws, the size of the screen, and why the machine stopped
+-- the random bytes used, the size of the screen, and why the machine stopped
 abbrev pub condition_part : Core → List ℕ
 condition_part c =
     codes " draws " ++ decimal c.draws ++ codes " " ++ size_name c.high ++ codes " "
     ++ state_name c.stopped ++ 10 ∷ []
 
--- pc, I, the timers, the draws, the size of the screen, and why the machine stopped
+-- pc, I, the timers, the random bytes used, the size of the screen, and why the machine stopped
 abbrev pub state_line : Core → List ℕ
 state_line c = place_part c ++ timer_part c ++ condition_part c
 

@@ -71,7 +71,7 @@ edited session (delete_event step key) =
     with_events session (edit_fault session.keys step key)
     (map.remove session.keys (moment step key))
 
--- an edit that may want memory: all but those that change or take out an event
+-- an edit that may need memory: all but those that change or delete an event
 abbrev pub TakesMemory : Change → Type 0
 TakesMemory (replace_event step key down) = ⊥
 TakesMemory (delete_event step key) = ⊥

@@ -7,7 +7,7 @@ pub enum Change<'a> {
     Insert { line: u32, text: &'a [u8] },
     /// Puts the text in the place of that line.
     Replace { line: u32, text: &'a [u8] },
-    /// Takes that line out.
+    /// Deletes that line.
     Delete { line: u32 },
     /// Adds an event: from that step on the key is down, or up.
     InsertKey { step: u32, key: u32, down: bool },

@@ -77,8 +77,8 @@ fn is_same_block(old: &[u8], new: &[u8], start: usize) -> bool
     same
 }
 
-/// The places outside of which two images agree, and `None` where they are the same. Only those that
-/// were written are compared, if they are known and both images have one length.
+/// The places outside of which two images agree, and `None` where they are the same. Only those
+/// that were written are compared, if they are known and both images have one length.
 fn changed_places(written: Option<Range<usize>>, old: &[u8], new: &[u8]) -> Option<Range<usize>>
     requires { IfSome written (λ places. AgreeOutside places.start places.end old.now new.now) }
     ensures places { MatchOption result (old.now ≡ new.now)
@@ -211,7 +211,7 @@ impl ImageRun {
         self.replay.replace_key(step, key, down)
     }
 
-    /// Takes a key event out, as `Replay::delete_key`.
+    /// Deletes a key event, as `Replay::delete_key`.
     pub(crate) fn delete_key(&mut self, step: u32, key: u32) -> Result<(), KeyFault>
         ensures fault { MatchOption (edit_fault self.old.keys step key)
             (result ≡ Ok tt) (λ fault. result ≡ Err fault) }

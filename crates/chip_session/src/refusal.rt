@@ -35,7 +35,7 @@ pub enum Refusal {
     /// N9: there are 10,000 events already.
     #[error("too many events")]
     TooManyEvents,
-    /// N10: there was no memory for the edit.
+    /// N10: memory ran out for the edit.
     #[error("out of memory")]
     EditMemory,
     /// Q1: there is no image, since some line has a fault.
@@ -47,7 +47,7 @@ pub enum Refusal {
     /// Q3: the bytes pass the end of the memory.
     #[error("past the end of the memory")]
     AddressPastEnd,
-    /// Q4: there was no memory for the answer.
+    /// Q4: memory for the answer ran out.
     #[error("out of memory")]
     AnswerMemory,
 }

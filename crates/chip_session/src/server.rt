@@ -39,7 +39,7 @@ pub enum ServeError {
     /// E2: a write failed, or took none of some bytes.
     #[error("output fault")]
     WriterFailed,
-    /// E3: there was no memory.
+    /// E3: memory ran out.
     #[error("out of memory")]
     OutOfMemory,
     /// E4: there is more input than `SCRIPT_BYTES` bytes or `SCRIPT_LINES` lines.
@@ -85,7 +85,7 @@ impl From<Stop> for ServeError {
 /// # Errors
 ///
 /// The source doesn't open, and nothing was read or written; the reader or the writer failed, which
-/// is never tried again; there was no memory; or the script has over `SCRIPT_BYTES` bytes or
+/// is never tried again; memory ran out; or the script has over `SCRIPT_BYTES` bytes or
 /// `SCRIPT_LINES` lines.
 pub fn serve<R: Read, W: Write>(
     alloc: Global,

@@ -21,7 +21,7 @@ pub enum SetError {
     /// G2: the tape has not 1 to `TAPE_BYTES` bytes.
     #[error("tape not 1 to {most} bytes", most = TAPE_BYTES)]
     TapeLength,
-    /// G3: there was no memory for the tape.
+    /// G3: memory for the tape ran out.
     #[error("out of memory")]
     OutOfMemory,
     /// G4: the spacing of the checkpoints is not `LEAST_SPACING` to `MOST_SPACING`.

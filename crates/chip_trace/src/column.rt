@@ -27,7 +27,7 @@ pub enum Column {
     Sound,
     /// How many calls are open, in decimal.
     Depth,
-    /// How many random bytes were drawn, in decimal.
+    /// How many random bytes were used, in decimal.
     Draws,
     /// The FNV-1a sum of the screen's points, in sixteen hexadecimal digits.
     Screen,

@@ -30,7 +30,7 @@ pub struct Difference {
 
 /// The first difference between the lines of a trace that remain and those of another trace, which
 /// follow its header. Letters' case is ignored. A line ends with a newline, which the last may
-/// lack, and a carriage return before the newline is no part of it.
+/// lack, and a carriage return before the newline does not belong to it.
 ///
 /// # Errors
 ///

@@ -103,7 +103,7 @@ impl Model for SummedRows {
 }
 
 impl SummedRows {
-    /// Rows with no lit point.
+    /// Rows with no lit pixel.
     pub(crate) fn new() -> Self {
         let rows = [0; HEIGHT];
         let sum = sum_of_rows(&rows);

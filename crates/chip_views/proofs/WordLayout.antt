@@ -20,15 +20,15 @@ use Rattle.chip_lang.specs.Code.{own_bytes}
 use Rattle.chip_asm.specs.declared.table.Symbol.{Symbol}
 use Rattle.chip_asm.specs.Names.{Name, values_of}
 use Rattle.chip_asm.specs.Layout.{Placed, body_of, is_if, is_if_body, is_end_body, is_org_body, is_side_or_end, is_origin, is_align_body, symbol_of, has_ended, value_at, full_size}
-use Rattle.chip_asm.specs.computed.Walk.{symbols, with_between, encloses, enclosing, is_live, address, is_aligning, is_misplaced, fault_of_value, first_fault, place, placed}
+use Rattle.chip_asm.specs.computed.Walk.{symbols, with_between, encloses, enclosing, is_active, address, is_aligning, is_misplaced, fault_of_value, first_fault, place, placed}
 use Rattle.chip_asm.specs.Program.{covers, byte_at, bytes_in_code, fault_in_code, numbered_fault, fault_of, unless_faulty, bytes_of_lines, image_of_lines}
 
 -- ---- lines that open no block, end nothing and give no name
 
 pub record Good (p : Placed) : Type 0 where
-  pub live : p.live ≡ true
+  pub active : p.active ≡ true
   pub no_if : is_if p ≡ false
-  pub no_end : (p.live && is_end_body (body_of p.line)) ≡ false
+  pub no_end : (p.active && is_end_body (body_of p.line)) ≡ false
   pub no_origin : is_origin p ≡ false
   pub no_name : symbol_of p ≡ None
   pub no_fault : p.fault ≡ None
@@ -126,40 +126,40 @@ nothing_built = record { good = tt; aligns = refl; sum = refl; byte = λ i lt. a
 -- what holds of the next line
 record Next (all : List Placed) (p : Placed) (body : Body) (here size : ℕ) : Type 0 where
   line : p.line ≡ read None body
-  live : p.live ≡ true
+  active : p.active ≡ true
   here_is : p.here ≡ here
   no_fault : p.fault ≡ None
   size_is : p.size ≡ size
 
 next_line : (aligning : Bool) (all : List Placed) (bytes more : List ℕ) (body : Body) → Built aligning all bytes → Steady aligning body more →
     length bytes + length more ≤ IMAGE_BYTES → Next all (place all (read None body)) body (IMAGE_START + length bytes) (length more)
-unfolding place is_live first_fault
+unfolding place is_active first_fault
 next_line aligning all bytes more body built steady fits =
     let here : address all ≡ IMAGE_START + length bytes = address_is all (length bytes) built.good built.sum in
     let names : symbols all ≡ [] = no_names all built.good in
     let ended : has_ended all ≡ false = not_ended all built.good in
     let open_blocks : enclosing all ≡ [] = nothing_encloses all built.good in
     let room : IMAGE_START + length bytes + length more ≤ MEMORY_BYTES = omega arith in
-    let live : is_live all body ≡ true = rw (ended, steady.no_side, open_blocks) refl in
+    let active : is_active all body ≡ true = rw (ended, steady.no_side, open_blocks) refl in
     let fault : fault_of_value aligning (IMAGE_START + length bytes) body (Ok (pos 0)) ≡ None = steady.fits (IMAGE_START + length bytes) room in
     let found : first_fault all (read None body) ≡ None =
     rw (steady.placed_well all, names, here, built.aligns, steady.value) fault in
     record {
       line = refl;
-      live = live;
+      active = active;
       here_is = here;
-      no_fault = rw live found;
-      size_is = rw (live, steady.placed_well all, names, here, built.aligns, steady.value, fault) (steady.size (IMAGE_START + length bytes));
+      no_fault = rw active found;
+      size_is = rw (active, steady.placed_well all, names, here, built.aligns, steady.value, fault) (steady.size (IMAGE_START + length bytes));
     }
 
 good_line : (aligning : Bool) (all : List Placed) (p : Placed) (body : Body) (here size : ℕ) (bytes : List ℕ) → Next all p body here size → Steady aligning body bytes → Good p
 good_line aligning all p body here size bytes next steady =
     record {
-      live = next.live;
+      active = next.active;
       no_if = rw next.line steady.no_if;
-      no_end = rw (next.live, next.line) steady.no_end;
-      no_origin = rw (next.live, next.no_fault, next.line) steady.no_origin;
-      no_name = rw (next.live, next.no_fault, next.line) refl;
+      no_end = rw (next.active, next.line) steady.no_end;
+      no_origin = rw (next.active, next.no_fault, next.line) steady.no_origin;
+      no_name = rw (next.active, next.no_fault, next.line) refl;
       no_fault = next.no_fault;
       code = rw (next.line, steady.code) refl;
     }
@@ -214,7 +214,7 @@ no_faults all (p ∷ sub) names each =
   where
     no_fault_at : (all : List Placed) (p : Placed) → symbols all ≡ [] → Good p → filter_map (numbered_fault all) (p ∷ []) ≡ []
     no_fault_at all p names good =
-        let none : fault_of all p ≡ None = rw (good.live, good.no_if, good.no_fault, names, good.code) refl in
+        let none : fault_of all p ≡ None = rw (good.active, good.no_if, good.no_fault, names, good.code) refl in
         rw none refl
 
 byte_is : (all : List Placed) (at : ℕ) → symbols all ≡ [] → byte_at all at ≡ byte_in all at
@@ -339,11 +339,11 @@ steady_align false on =
 
 aligning_after : (all : List Placed) (p : Placed) (body : Body) (here size : ℕ) (a : Bool) → Next all p body here size → is_align_body body ≡ false → is_aligning all ≡ a → is_aligning (p ∷ all) ≡ a
 unfolding is_aligning
-aligning_after all p body here size a next other aligns = rw (next.live, next.no_fault, next.line, other) aligns
+aligning_after all p body here size a next other aligns = rw (next.active, next.no_fault, next.line, other) aligns
 
 aligning_off : (all : List Placed) (p : Placed) (here size : ℕ) → Next all p (align false) here size → is_aligning (p ∷ all) ≡ false
 unfolding is_aligning
-aligning_off all p here size next = rw (next.live, next.no_fault, next.line) refl
+aligning_off all p here size next = rw (next.active, next.no_fault, next.line) refl
 
 -- a line that aligns nothing, and ALIGN OFF
 pub built_line : (a : Bool) (all : List Placed) (bytes more : List ℕ) (body : Body) (line : Reading) → line ≡ read None body → Built a all bytes → Steady a body more → is_align_body body ≡ false →

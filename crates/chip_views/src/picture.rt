@@ -6,16 +6,16 @@ ghost use Rattle.chip_views.specs.Picture.{width, lines_high, is_seen, cell, cel
 use chip_machine::Machine;
 use std::alloc::{AllocError, Global};
 
-/// Which characters stand for two points, one above the other.
+/// Which characters stand for two pixels, one above the other.
 #[derive(Clone, Copy, PartialEq, Eq)]
 pub enum Letters {
     /// The half blocks of Unicode, in UTF-8.
     Blocks,
-    /// A quote for the upper point, a full stop for the lower one, a colon for both.
+    /// A quote for the upper pixel, a full stop for the lower one, a colon for both.
     Plain,
 }
 
-/// The screen of a machine as text: a line for two rows of points, each character two points, 64
+/// The screen of a machine as text: a line for two rows of pixels, each character two pixels, 64
 /// characters and 16 lines in the low size, 128 and 32 in the high one.
 ///
 /// # Errors
@@ -67,7 +67,7 @@ fn cell_at(machine: &Machine, letters: Letters, line: usize, column: usize) -> &
     cell(letters, above, below)
 }
 
-/// Whether a point of the machine's size is lit.
+/// Whether a pixel of the machine's size is lit.
 pub(crate) fn is_seen(machine: &Machine, column: usize, row: usize) -> bool
     requires { (column < 128) × (row < 64) }
     ensures { result ≡ is_seen machine.now.core.high machine.now.core.lit column row }
@@ -79,7 +79,7 @@ pub(crate) fn is_seen(machine: &Machine, column: usize, row: usize) -> bool
     }
 }
 
-// The character for a point and the one below it.
+// The character for a pixel and the one below it.
 #[tactic(auto, unfolding(crate::specs::Picture::cell))]
 fn cell(letters: Letters, above: bool, below: bool) -> &'static [u8]
     ensures { result.now ≡ cell letters above below }

@@ -1,7 +1,7 @@
 //! An assembler and replay debugger for SUPER-CHIP 1.1.
 #![tactic(auto)]
 
-use chip_bench::{Counted, Host, program, refuse_words};
+use chip_bench::{Counted, Host, program, refuse_arguments};
 use std::fs::Files;
 use std::io::{BufWriter, IsTerminal};
 use std::process::ExitCode;
@@ -12,13 +12,13 @@ use std::{env, io};
 fn main(rt: HostRuntime) -> ExitCode {
     let alloc = rt.alloc();
     let mut errors = rt.stderr();
-    let words = match words(&rt) {
-        Ok(words) => words,
-        Err(error) => return ExitCode::from(refuse_words(alloc, &error, &mut errors)),
+    let arguments = match arguments(&rt) {
+        Ok(arguments) => arguments,
+        Err(error) => return ExitCode::from(refuse_arguments(alloc, &error, &mut errors)),
     };
     let output = match BufWriter::with_capacity(alloc, held_bytes(&rt), rt.stdout()) {
         Ok(output) => output,
-        Err(error) => return ExitCode::from(refuse_words(alloc, &error, &mut errors)),
+        Err(error) => return ExitCode::from(refuse_arguments(alloc, &error, &mut errors)),
     };
     let mut input = Counted::new(rt.stdin());
     let mut output = Counted::new(output);
@@ -31,7 +31,7 @@ fn main(rt: HostRuntime) -> ExitCode {
         alloc,
         &rt,
         host,
-        &words,
+        &arguments,
         &mut input,
         &mut output,
         &mut errors,
@@ -67,8 +67,8 @@ fn wants_color(rt: &impl Env) -> bool {
     }
 }
 
-// The words after the program's name.
-fn words(rt: &(impl Env + AllocGlobal)) -> io::Result<Vec<String>> {
-    let words = env::args(rt)?.skip(1).collect(rt.alloc())?;
-    Ok(words)
+// The arguments after the program's name.
+fn arguments(rt: &(impl Env + AllocGlobal)) -> io::Result<Vec<String>> {
+    let arguments = env::args(rt)?.skip(1).collect(rt.alloc())?;
+    Ok(arguments)
 }

@@ -80,8 +80,8 @@ pub record IsRowOf (rows : List CommandRow) (name : List ℕ) (row : CommandRow)
   pub place : Contains rows row
   pub named : row.name.now ≡ name
 
--- a program that judges these words as the one with all its commands does
-pub record JudgesAsAll (words : List (List ℕ)) (app : App) : Type 0 where
+-- a program that judges these arguments as the one with all its commands does
+pub record JudgesAsAll (arguments : List (List ℕ)) (app : App) : Type 0 where
   pub exact : is_simple_and_free app ≡ true
-  pub fault : fault_of app words ≡ fault_of line.chipbench words
-  pub command : subcommand_of app words ≡ subcommand_of line.chipbench words
+  pub fault : fault_of app arguments ≡ fault_of line.chipbench arguments
+  pub command : subcommand_of app arguments ≡ subcommand_of line.chipbench arguments

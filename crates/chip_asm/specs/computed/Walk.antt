@@ -35,11 +35,11 @@ encloses s = is_if s.1 && closes_no_more s.0
 unfoldable pub enclosing : List Placed → List Placed
 enclosing before = map (λ s. s.1) (filter encloses (with_between before))
 
-unfoldable pub is_live : List Placed → Body → Bool
-is_live before body =
+unfoldable pub is_active : List Placed → Body → Bool
+is_active before body =
     not (has_ended before)
     && (if is_side_or_end body
-    then option_map_or (λ opener. opener.live) (first_of (enclosing before)) true
+    then option_map_or (λ opener. opener.active) (first_of (enclosing before)) true
     else list_all (holds before) (enclosing before))
 
 -- the value of the last ORG that takes effect, or where the image stands, and the sizes since
@@ -66,7 +66,7 @@ fault_of_value aligning here body (Ok value) =
     else (if is_backwards here body value then Some OrgBelowHere
     else (if is_past_end aligning here body value then Some PastMemory else None))
 
--- the first fault of a live line, but for an IF without ENDIF
+-- the first fault of an active line, but for an IF without ENDIF
 unfoldable pub first_fault : List Placed → Reading → Option Fault
 first_fault before (bad fault) = Some fault
 first_fault before (read label body) =
@@ -78,20 +78,20 @@ first_fault before (read label body) =
 unfoldable pub place : List Placed → Reading → Placed
 place before line =
     let body = body_of line in
-    let live = is_live before body in
+    let active = is_active before body in
     let number_value = value_or_zero (value_at (symbols before) body) in
-    let fault = if live then first_fault before line else None in
+    let fault = if active then first_fault before line else None in
     record {
       number = length before + 1;
       line = line;
       block = option_map (λ opener. opener.number) (first_of (enclosing before));
       condition = condition_of (symbols before) body;
-      live = live;
+      active = active;
       here = address before;
       value = number_value;
       fault = fault;
       size =
-          if live && is_none fault
+          if active && is_none fault
           then full_size (is_aligning before) (address before) body number_value
           else 0;
     }

@@ -21,8 +21,8 @@ abbrev pub is_plain_line : Reading → Bool
 is_plain_line (bad fault) = false
 is_plain_line (read label body) = is_plain body
 
--- the statement does nothing where it isn't live: it opens, turns or closes no block, and its value
--- isn't asked for
+-- the statement does nothing where it isn't active: it opens, turns or closes no block, and its
+-- value isn't asked for
 abbrev pub is_idle : Body → Bool
 is_idle (ifdef n) = false
 is_idle (ifund n) = false
@@ -48,12 +48,12 @@ pub record AreAlike (old new : Reading) : Type 0 where
   pub space : TakesSameSpace (body_of old) (body_of new)
 
 -- a line in the place of another one changes nothing else
-pub record HasSameEffect (live : Bool) (old new : Reading) : Type 0 where
-  pub alike : live ≡ true → AreAlike old new
-  pub was_idle : live ≡ false → is_idle (body_of old) ≡ true
-  pub now_idle : live ≡ false → is_idle (body_of new) ≡ true
+pub record HasSameEffect (active : Bool) (old new : Reading) : Type 0 where
+  pub alike : active ≡ true → AreAlike old new
+  pub was_idle : active ≡ false → is_idle (body_of old) ≡ true
+  pub now_idle : active ≡ false → is_idle (body_of new) ≡ true
 
 -- the same, of the line at a place of some lines
 pub record HasSameEffectAt (lines : List Reading) (at : ℕ) (new : Reading) : Type 0 where
   pub each : (p : Placed) → slice_get (reverse (placed lines)) at ≡ Some p
-      → HasSameEffect p.live p.line new
+      → HasSameEffect p.active p.line new

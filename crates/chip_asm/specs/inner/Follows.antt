@@ -13,7 +13,7 @@ abbrev pub block_of : List Placed → Placed → Block
 block_of before opener =
     record {
       number = opener.number;
-      live = opener.live;
+      active = opener.active;
       holds = holds before opener;
       has_else = has_else before opener;
     }
@@ -22,7 +22,7 @@ block_of before opener =
 abbrev pub placement_of : Placed → Found
 placement_of p =
     record {
-      live = p.live;
+      active = p.active;
       here = p.here;
       fault = p.fault;
       value = p.value;
@@ -35,8 +35,8 @@ pub record Follows (pass : Pass) (before : List Placed) : Type 0 where
   pub ended : pass.ended ≡ has_ended before
   pub open_blocks : pass.blocks.items ≡ reverse (map (block_of before) (enclosing before))
   pub names : pass.names.symbols ≡ symbols before
-  -- what is live where no block is turned or closed
-  pub live : pass.live ≡ (not pass.ended && list_all (λ b. b.holds) pass.blocks.items)
+  -- what is active where no block is turned or closed
+  pub active : pass.active ≡ (not pass.ended && list_all (λ b. b.holds) pass.blocks.items)
 
 abbrev pub next_address : Bool → ℕ → Body → ℤ → ℕ → ℕ
 next_address accepted here body value size =

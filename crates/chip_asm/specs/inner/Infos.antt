@@ -58,12 +58,12 @@ pub record IsInfo (keys : List Name) (info : LineInfo) (several : List NameId)
   pub defines : IsNumberOf keys info.defines (name_defined line)
   pub uses : AreNumbers keys (numbers_used info.uses several) (names_used line)
 
--- an instruction or no statement, which takes this size, live or not, and gives this name then
-pub record IsBare (keys : List Name) (live : Bool) (line : Reading) (size : ℕ)
+-- an instruction or no statement, which takes this size, active or not, and gives this name then
+pub record IsBare (keys : List Name) (active : Bool) (line : Reading) (size : ℕ)
     (defines : Option NameId) : Type 0 where
   pub bare : is_bare_line line ≡ true
-  pub sized : size ≡ (if live then own_size (body_of line) (pos 0) else 0)
-  pub named : IsNumberOf keys defines (if live then name_defined line else None)
+  pub sized : size ≡ (if active then own_size (body_of line) (pos 0) else 0)
+  pub named : IsNumberOf keys defines (if active then name_defined line else None)
 
 -- each of these is kept beside the line at its place
 abbrev pub AreInfosOf : List Name → List Numbered → List Reading → Type 0

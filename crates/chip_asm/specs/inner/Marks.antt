@@ -10,11 +10,11 @@ use Rattle.chip_asm.specs.declared.placement.Placement.{Placement}
 abbrev pub is_among : ℕ → Block → Bool
 is_among count b = nat_lt 0 b.number && nat_le b.number count
 
--- the block was opened by the line at a place, which is live
+-- the block was opened by the line at a place, which is active
 abbrev pub is_opened_at : ℕ → Block → Bool
-is_opened_at place b = b.live && nat_eq b.number (place + 1)
+is_opened_at place b = b.active && nat_eq b.number (place + 1)
 
--- a live IF line whose block is open at the end
+-- an active IF line whose block is open at the end
 abbrev pub unclosed : Placement → Placement
 unclosed q = record q { status = Refused UnclosedIf }
 

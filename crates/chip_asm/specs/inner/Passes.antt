@@ -60,8 +60,8 @@ pub record HasCode (code : Result (List ℕ) Fault) (here size : ℕ) (status : 
       → slice_index image k ≡ slice_index (bytes_in_code code) (IMAGE_START + k - here)
   pub noted : status ≡ status_coded (fault_in_code code)
 
--- what is known of the line at a place that the first pass has yet to pass: `q` is what was known of
--- it before the edit, if it was accepted then
+-- what is known of the line at a place that the first pass has yet to pass: `q` is what was known
+-- of it before the edit, if it was accepted then
 pub record IsSlot (e : Change) (from : List ℕ) (j : ℕ) (line : Reading) (q : Placement) : Type 0 where
   pub accepted : is_accepted q.status ≡ stood e j
   pub was : is_accepted q.status ≡ true
@@ -100,7 +100,7 @@ pub record IsTally (placements : List Placement) (tally : Tally) : Type 0 where
       → j < tally.end
   pub within : tally.end ≤ length placements
 
--- so many lines can be passed without another growth
+-- so many lines can be passed without another allocation
 pub record HasRoom (pass : Pass) (left : ℕ) : Type 0 where
   pub blocks : vec_len pass.blocks + left ≤ vec_capacity pass.blocks
   pub names : length pass.names.symbols + left ≤ pass.names.room

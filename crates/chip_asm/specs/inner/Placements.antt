@@ -11,11 +11,11 @@ pub record Found : Type 0 where
   pub here : ℕ
   pub size : ℕ
   pub fault : Option Fault
-  pub live : Bool
+  pub active : Bool
 
-abbrev pub is_live_status : Status → Bool
-is_live_status Skipped = false
-is_live_status _ = true
+abbrev pub is_active_status : Status → Bool
+is_active_status Skipped = false
+is_active_status _ = true
 
 -- the fault of the first pass
 abbrev pub refusal : Status → Option Fault
@@ -24,7 +24,7 @@ refusal _ = None
 
 -- the first pass accepts the line
 abbrev pub is_accepted : Status → Bool
-is_accepted status = is_live_status status && is_none (refusal status)
+is_accepted status = is_active_status status && is_none (refusal status)
 
 abbrev pub is_pending : Status → Bool
 is_pending Pending = true
@@ -36,15 +36,15 @@ fault_noted (Refused fault) = Some fault
 fault_noted (Uncoded fault) = Some fault
 fault_noted _ = None
 
--- a line that is live or not, with this fault in the first pass
+-- a line that is active or not, with this fault in the first pass
 abbrev pub first_status : Bool → Option Fault → Status
 first_status false fault = Skipped
 first_status true (Some fault) = Refused fault
 first_status true None = Pending
 
 -- a line that was not accepted, has code or not, and has no fault in the first pass
-abbrev pub bare_status : (live coded : Bool) → Status
-bare_status live coded = if live then (if coded then Pending else Done) else Skipped
+abbrev pub bare_status : (active coded : Bool) → Status
+bare_status active coded = if active then (if coded then Pending else Done) else Skipped
 
 -- an accepted line whose code has this fault, or none
 abbrev pub status_coded : Option Fault → Status
@@ -58,12 +58,12 @@ found q =
       here = q.here;
       size = q.size;
       fault = refusal q.status;
-      live = is_live_status q.status;
+      active = is_active_status q.status;
     }
 
 -- it does, by what it found of the line
 abbrev pub is_accepted_found : Found → Bool
-is_accepted_found f = f.live && is_none f.fault
+is_accepted_found f = f.active && is_none f.fault
 
 -- 1 for a line with a fault
 abbrev pub count_of : Placement → ℕ

@@ -8,7 +8,7 @@ use Rattle.chip_asm.specs.declared.block.Block.{Block}
 abbrev pub turned : Block → Block
 turned b =
     if b.has_else then b
-    else record { number = b.number; live = b.live; holds = not b.holds; has_else = true }
+    else record { number = b.number; active = b.active; holds = not b.holds; has_else = true }
 
 abbrev pub turn_first : List Block → List Block
 turn_first [] = []
@@ -18,10 +18,10 @@ abbrev pub close_first : List Block → List Block
 close_first [] = []
 close_first (b ∷ bs) = bs
 
--- each open block, the last one first, was opened live just where those around it held
+-- each open block, the last one first, was opened active just where those around it held
 abbrev pub AreNested : List Block → Type 0
 AreNested [] = Unit
-AreNested (b ∷ outer) = (b.live ≡ list_all (λ o. o.holds) outer) × AreNested outer
+AreNested (b ∷ outer) = (b.active ≡ list_all (λ o. o.holds) outer) × AreNested outer
 
 -- the open blocks, the last one first, after a line
 abbrev pub moved : Body → Block → List Block → List Block

@@ -1,4 +1,4 @@
--- What the words of the command line ask for as it was read, and what hindered it, for the private
+-- What the arguments ask for as it was read, and what hindered it, for the private
 -- contracts behind the commands (own).
 use Rattle.std.specs.Prelude.{◌≡◌, ◌⊎◌, ℕ, Bool, List, Option, Some, None, Ok, Err}
 use Rattle.std.specs.Borrow.{Bor}
@@ -6,14 +6,14 @@ use Rattle.chip_asm.specs.Lines.{lines_of, open_fault}
 use Rattle.chip_bench.specs.Doing.{AsSource, FromGiven, IsShort, Outcome, WithAsked, image_in}
 use Rattle.chip_bench.specs.Printing.{Prints, printed_faults, printed_of}
 use Rattle.chip_bench.specs.Running.{IsUnread, failure_status}
-use Rattle.chip_bench.specs.SettingWords.{settings_asked}
+use Rattle.chip_bench.specs.SettingArguments.{settings_asked}
 use Rattle.chip_session.specs.Tally.{Tally}
-use Rattle.chip_arguments.specs.declared.command_line.RunWords.{RunWords}
+use Rattle.chip_arguments.specs.declared.command_line.RunArguments.{RunArguments}
 use Rattle.chip_bench.specs.declared.ending.Ending.TheVariants.{Done, Faulty}
 use Rattle.chip_bench.specs.declared.ending.Failure.{Failure}
 use Rattle.chip_bench.specs.declared.reading.Asked.{Asked}
 
--- words that have a fault, or that memory ran out
+-- arguments that have a fault, or that memory ran out
 abbrev pub IsUsage : Outcome → Type 0
 IsUsage (Ok ending) = ⊥
 IsUsage (Err failure) = (failure_status failure ≡ 2) ⊎ (failure_status failure ≡ 4)
@@ -45,18 +45,18 @@ module _ {R : Type 0} (remaining : R → Option (List ℕ)) (in_old in_new : Tal
   IsNotGiven is_image name why =
       FromGiven remaining in_old in_new (Unit {0}) is_image name (λ taken ended. ⊥) (Err why)
 
-  -- what was read is what the words of a run ask for
-  abbrev pub IsAsked : RunWords → Asked → Type 0
-  IsAsked words asked =
-      WithAsked remaining in_old in_new (Unit {0}) words (λ settings keys source ended.
+  -- what was read is what the arguments of a run ask for
+  abbrev pub IsAsked : RunArguments → Asked → Type 0
+  IsAsked arguments asked =
+      WithAsked remaining in_old in_new (Unit {0}) arguments (λ settings keys source ended.
       (settings ≡ asked.settings) × (keys ≡ asked.keys.bytes.items)
       × (source ≡ asked.source.items)) (Ok Done)
-      × (settings_asked words.settings ≡ Some asked.settings)
+      × (settings_asked arguments.settings ≡ Some asked.settings)
 
   -- it couldn't be read
-  abbrev pub IsUnasked : RunWords → Failure → Type 0
-  IsUnasked words why =
-      WithAsked remaining in_old in_new (Unit {0}) words (λ settings keys source ended. ⊥) (Err why)
+  abbrev pub IsUnasked : RunArguments → Failure → Type 0
+  IsUnasked arguments why =
+      WithAsked remaining in_old in_new (Unit {0}) arguments (λ settings keys source ended. ⊥) (Err why)
 
 module _ {W : Type 0} (contents : W → Option (List ℕ)) (out_old out_new : Tally W) where
   -- the image of a source, or its faults, which are printed
@@ -67,7 +67,7 @@ module _ {W : Type 0} (contents : W → Option (List ℕ)) (out_old out_new : Ta
       × Prints contents out_old out_new
       (printed_of (open_fault source) (printed_faults (lines_of source))) (Ok Faulty)
 
-  -- there was no memory, or the faults couldn't be printed
+  -- memory ran out, or the faults couldn't be printed
   abbrev pub IsImageHindered : List ℕ → Failure → Type 0
   IsImageHindered source why =
       (IsShort why × (out_new ≡ out_old))

@@ -1,6 +1,6 @@
 -- What private contracts of the sets that arguments ask for say (own).
 use Rattle.std.specs.Prelude.{◌≡◌, ◌⊎◌, ℕ, List, Option, None}
-use Rattle.chip_arguments.specs.declared.command_line.ExploreWords.{ExploreWords}
+use Rattle.chip_arguments.specs.declared.command_line.ExploreArguments.{ExploreArguments}
 use Rattle.chip_bench.specs.Doing.{IsBadSet}
 use Rattle.chip_bench.specs.Exploring.{AsksCauses, AsksKeys, cause_named, key_named, warning_named}
 use Rattle.chip_bench.specs.declared.ending.Failure.{Failure}
@@ -13,11 +13,11 @@ number_by Cause = cause_named
 number_by Key = key_named
 number_by Warning = warning_named
 
--- one of the sets that the words ask for is none
-pub record IsBadSets (words : ExploreWords) (why : Failure) : Type 0 where
+-- one of the sets that the arguments ask for is none
+pub record IsBadSets (arguments : ExploreArguments) (why : Failure) : Type 0 where
   pub bad : IsBadSet why
   pub causes : Option ℕ
   pub keys : Option ℕ
-  pub asks_causes : AsksCauses words causes
-  pub asks_keys : AsksKeys words keys
+  pub asks_causes : AsksCauses arguments causes
+  pub asks_keys : AsksKeys arguments keys
   pub none : (causes ≡ None) ⊎ (keys ≡ None)

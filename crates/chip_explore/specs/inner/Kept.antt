@@ -1,7 +1,7 @@
 -- A state as what it has beside a base.
 -- Source: own.
 --     with_byte       a state with a byte in its memory
---     with_row        rows of points with one in the place of another
+--     with_row        rows of pixels with one in the place of another
 --     parts_of        what a state that is kept has beside its memory and its screen
 --     state_of        the state that a base has with the parts, the bytes and the rows of one that
 --                     is kept

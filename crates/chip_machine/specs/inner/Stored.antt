@@ -1,9 +1,9 @@
--- Which points 64 rows of 128 bits light.
+-- Which pixels 64 rows of 128 bits light.
 -- Source: own.
 use Rattle.std.specs.Prelude.{ℕ, zero, suc, ◌||◌, Bool, true, false, not, List, slice_index}
 use Rattle.chip_machine.specs.Points.{Points, points_where, lights}
 
--- the points that 64 rows of bits light
+-- the pixels that 64 rows of bits light
 abbrev pub in_rows : List ℕ → Points
 in_rows rows = points_where (λ column row. lights (slice_index rows row) column)
 

@@ -6,10 +6,10 @@
 --     IsSound          the checkpoints and the first touches are those of a run
 --     EndsStill        the run stays as it is after the last checkpoint where others are due
 --     is_due           whether the next checkpoint is that of one of some steps
---     IsLent           the state that was lent is that of its step
+--     IsCurrent        the current state is that of its step
 --     IsCutBack        a step stays if it is no later than the steps that are still known
 --     IsHolding        the keys that are known of its step are held
---     IsAt             the lent state is also that of another step
+--     IsAt             the current state is also that of another step
 --     IsRight          what is kept is that of the run from a start state under the events
 use Rattle.std.specs.Prelude.{◌≡◌, ℕ, ◌+◌, ◌*◌, ◌/◌, ◌<◌, ◌≤◌, ◌&&◌, nat_lt, nat_le, Bool, true, List, length, slice_index, slice_index_or, Option, Some, IfSome}
 use Rattle.chip_machine.specs.Touched.{touched}
@@ -59,27 +59,27 @@ abbrev pub is_due : ℕ → ℕ → ℕ → ℕ → Bool
 is_due p count at last =
     nat_le at ((count + 1) * p) && nat_le ((count + 1) * p) last && nat_lt ((count + 1) * p) (at + p)
 
--- the lent state is that of its step, if it has one
-abbrev pub IsLent : {M : Type 0} → (ℕ → M) → ℕ → M → Option ℕ → Type 0
-IsLent state reach lent step = IfSome step (λ t. (t ≤ reach) × (lent ≡ state t))
+-- the current state is that of its step, if it has one
+abbrev pub IsCurrent : {M : Type 0} → (ℕ → M) → ℕ → M → Option ℕ → Type 0
+IsCurrent state reach current step = IfSome step (λ t. (t ≤ reach) × (current ≡ state t))
 
 -- a step, if there still is one, stays, and is no later than the steps that are still known where
 -- fewer are
 abbrev pub IsCutBack : ℕ → ℕ → Option ℕ → Option ℕ → Type 0
 IsCutBack reach later step kept = IfSome kept (λ t. (step ≡ Some t) × (t ≤ reach → t ≤ later))
 
--- what is known of the keys is known of the lent state's step, if it has one
+-- what is known of the keys is known of the current state's step, if it has one
 abbrev pub IsHolding : Events → Option ℕ → Holding → Type 0
 IsHolding events step h = IfSome step (λ t. KnowsKeys events t h)
 
--- the lent state is that of a step, and the keys are known of it
+-- the current state is that of a step, and the keys are known of it
 pub record IsAt {M : Type 0} (step_of : M → ℕ → Bool → M) (rate : ℕ) (start : M) (events : Events)
     (kept : Kept M) (at : ℕ) : Type 0 where
   pub reached : at ≤ kept.reach
-  pub lent : kept.lent ≡ run step_of rate (held events) start at
+  pub current : kept.current ≡ run step_of rate (held events) start at
   pub holding : KnowsKeys events at kept.holding
 
--- the checkpoints, the first touches, the lent state and the keys that are known of its step are
+-- the checkpoints, the first touches, the current state and the keys that are known of its step are
 -- those of the run from a start state under the events
 pub record IsRight {M : Type 0} (proper : M → Type 0) (touches : M → List ℕ)
     (step_of : M → ℕ → Bool → M) (rate : ℕ) (start : M) (events : Events)
@@ -88,5 +88,5 @@ pub record IsRight {M : Type 0} (proper : M → Type 0) (touches : M → List �
       kept.checkpoints.items kept.first_touch.items kept.reach
   pub still : EndsStill step_of (run step_of rate (held events) start) kept.spacing
       kept.checkpoints.items kept.reach
-  pub lent : IsLent (run step_of rate (held events) start) kept.reach kept.lent kept.lent_step
-  pub holding : IsHolding events kept.lent_step kept.holding
+  pub current : IsCurrent (run step_of rate (held events) start) kept.reach kept.current kept.current_step
+  pub holding : IsHolding events kept.current_step kept.holding

@@ -1,6 +1,6 @@
 use Rattle.std.proofs.lemmas.Result.{err_from_is_err_and}
 use Rattle.clap.specs.Words.{found_of}
-use Rattle.chip_arguments.specs.CommandWords.{number_fault}
+use Rattle.chip_arguments.specs.CommandArguments.{number_fault}
 use Rattle.chip_arguments.proofs.FaultLemmas.{fails_here, goes_on}
 use Rattle.chip_arguments.proofs.command_line.check_numbers.Goals as goal
 

@@ -1,6 +1,6 @@
 use Rattle.std.proofs.Common.{◌≡◌, drop, map}
 use Rattle.clap.specs.Words.{found_of, rows_of}
-use Rattle.chip_arguments.specs.CommandWords.{first_value_fault, number_fault}
+use Rattle.chip_arguments.specs.CommandArguments.{first_value_fault, number_fault}
 use Rattle.chip_arguments.proofs.command_line.check_numbers.Given as goal
 
 -- the arguments that are left have the first fault of all

@@ -3,7 +3,7 @@ use Rattle.clap.specs.Words.{found_of}
 use Rattle.chip_arguments.proofs.NameLemmas.{debug_is_left}
 use Rattle.chip_arguments.proofs.WordLemmas.{first_is, flag_is}
 use Rattle.chip_arguments.proofs.command_line.command_asked.Goals as goal
-use Rattle.chip_arguments.proofs.command_line.command_asked.Goals.{in-asm, in-list, in-syms, in-check+in_ok-check_words-in-check, in-dis, in-run, in-trace, in-picture, in-test+in_ok-test_words-in-test, in-explore, in-explain, in_default}
+use Rattle.chip_arguments.proofs.command_line.command_asked.Goals.{in-asm, in-list, in-syms, in-check+in_ok-check_arguments-in-check, in-dis, in-run, in-trace, in-picture, in-test+in_ok-test_arguments-in-test, in-explore, in-explain, in_default}
 
 pub returns-clause-asked : goal.returns-clause-asked
 returns-clause-asked c =
@@ -20,27 +20,27 @@ returns-clause-asked c =
           let named : c.args.name.now ≡ codes "syms" = search rules in
           let hex = flag_is (found_of c.args.found.now) (codes "hex") w.get_flag-in-syms.result w.get_flag-in-syms.ensures.value w.get_flag-in-syms.ensures.other w.get_flag-in-syms.ensures.none in
           rw w.result-is (named, w.required_text-in-syms.ensures, hex)
-      | in-check+in_ok-check_words-in-check w ↦
+      | in-check+in_ok-check_arguments-in-check w ↦
           let named : c.args.name.now ≡ codes "check" = search rules in
-          rw w.result-is (named, w.in_ok-check_words-in-check.ensures profile)
+          rw w.result-is (named, w.in_ok-check_arguments-in-check.ensures profile)
       | in-dis w ↦
           let named : c.args.name.now ≡ codes "dis" = search rules in
           rw w.result-is (named, w.required_text-in-dis.ensures)
       | in-run w ↦
           let named : c.args.name.now ≡ codes "run" = search rules in
-          rw w.result-is (named, w.run_words.ensures profile)
+          rw w.result-is (named, w.run_arguments.ensures profile)
       | in-trace w ↦
           let named : c.args.name.now ≡ codes "trace" = search rules in
-          rw w.result-is (named, w.trace_words.ensures profile)
+          rw w.result-is (named, w.trace_arguments.ensures profile)
       | in-picture w ↦
           let named : c.args.name.now ≡ codes "picture" = search rules in
-          rw w.result-is (named, w.picture_words.ensures profile)
-      | in-test+in_ok-test_words-in-test w ↦
+          rw w.result-is (named, w.picture_arguments.ensures profile)
+      | in-test+in_ok-test_arguments-in-test w ↦
           let named : c.args.name.now ≡ codes "test" = search rules in
-          rw w.result-is (named, w.in_ok-test_words-in-test.ensures)
+          rw w.result-is (named, w.in_ok-test_arguments-in-test.ensures)
       | in-explore w ↦
           let named : c.args.name.now ≡ codes "explore" = search rules in
-          rw w.result-is (named, w.explore_words.ensures profile)
+          rw w.result-is (named, w.explore_arguments.ensures profile)
       | in-explain w ↦
           let named : c.args.name.now ≡ codes "explain" = search rules in
           let code = first_is (found_of c.args.found.now) (codes "code") _ w.get_str.ensures in
@@ -60,5 +60,5 @@ returns-clause-asked c =
           let debug = debug_is_left c.args.name.now c.requires not_asm not_list not_syms not_dis not_run not_trace not_picture not_check not_test not_explore not_explain in
           let source = first_is (found_of c.args.found.now) (codes "source") _ w.get_str-in_default.ensures in
           let image = flag_is (found_of c.args.found.now) (codes "image") w.get_flag-in_default.result w.get_flag-in_default.ensures.value w.get_flag-in_default.ensures.other w.get_flag-in_default.ensures.none in
-          rw w.result-is (debug, source, image, w.setting_words.ensures profile)
+          rw w.result-is (debug, source, image, w.setting_arguments.ensures profile)
     ]

@@ -2,7 +2,7 @@ use Rattle.std.proofs.Common.{◌∙◌, ℕ, List, Option, IfOk, ap, codes, sub
 use Rattle.std.proofs.lemmas.Result.{err_from_is_err_and}
 use Rattle.clap.specs.Kinds.{HasKind, Kinds}
 use Rattle.clap.specs.Words.{FailsBy, first_of, found_of, rows_of}
-use Rattle.chip_arguments.specs.CommandWords.{IsProfile, clash_faults, color_fault, first_value_fault, new_file_fault, new_files, number_fault, numbers, profile_fault}
+use Rattle.chip_arguments.specs.CommandArguments.{IsProfile, clash_faults, color_fault, first_value_fault, new_file_fault, new_files, number_fault, numbers, profile_fault}
 use Rattle.chip_arguments.proofs.FaultLemmas.{fails_fifth, fails_fourth, fails_second, fails_third}
 use Rattle.chip_arguments.proofs.WordLemmas.{first_is, still_fails}
 use Rattle.chip_arguments.proofs.command_line.judged.Goals as goal

@@ -7,7 +7,7 @@ use Rattle.chip_asm.specs.Listing.{shown, field_shown, more_shown}
 use Rattle.chip_asm.specs.inner.Records.{reading_in, readings_in}
 use Rattle.chip_asm.specs.declared.placement.Placement.{Placement}
 use Rattle.chip_asm.specs.inner.KeptLine.{KeptLine}
-use Rattle.chip_asm.specs.inner.Placements.{fault_noted, found, is_live_status}
+use Rattle.chip_asm.specs.inner.Placements.{fault_noted, found, is_active_status}
 use Rattle.chip_asm.proofs.FoundLines.{found-kept, read-found}
 use Rattle.chip_asm.proofs.LinesByPlace.{AtPlace, high, low}
 use Rattle.chip_asm.proofs.ListingSteps.{listed-more, listed-all}
@@ -43,7 +43,7 @@ loop-place-preserved c =
     = slice_get-get_or c.args.layout.now.placements.items place q (omega (arith, c.loop-place-test.true, length-laid c.args.layout.now lines c.requires.laid_out, length-map c.args.lines.now reading_in)) ∙ ap Some (sym c.index.ensures) in
     let size : q.size ≡ a.x.size = ap (λ p. p.size) a.placement in
     c.in_ok-push_line.ensures
-    ∙ ap (λ l. l ++ shown (place + 1) (is_live_status q.status) q.here (field_shown (fault_noted q.status) (is_live_status q.status) (body_of (reading_in kept)) q.here q.value q.size c.bytes_at-bytes.result.now) (more_shown (fault_noted q.status) q.size) kept.text) c.loop-place.invariant
+    ∙ ap (λ l. l ++ shown (place + 1) (is_active_status q.status) q.here (field_shown (fault_noted q.status) (is_active_status q.status) (body_of (reading_in kept)) q.here q.value q.size c.bytes_at-bytes.result.now) (more_shown (fault_noted q.status) q.size) kept.text) c.loop-place.invariant
     ∙ sym (listed-more c.args.lines.now (found q) kept place a (fault_noted q.status) c.bytes_at-bytes.result.now c.loop-place-test.true c.index-lines-place.is
     (fault-kept c.args.layout.now lines place a.x q c.requires.laid_out a.at there)
     (λ k h. c.bytes_at-bytes.ensures k (omega (arith, h, size)) ∙ bytes-found c.args.image.now lines place (found q) a c.requires.image k (omega (arith, h, size)))

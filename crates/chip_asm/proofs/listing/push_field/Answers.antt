@@ -4,7 +4,7 @@ use Rattle.std.specs.Fmt.{signed_decimal}
 use Rattle.chip_lang.specs.SeenLine.{seen_line}
 use Rattle.chip_asm.specs.Layout.{body_of, value_given}
 use Rattle.chip_asm.specs.Listing.{at_left, is_definition}
-use Rattle.chip_asm.specs.inner.Placements.{fault_noted, is_live_status}
+use Rattle.chip_asm.specs.inner.Placements.{fault_noted, is_active_status}
 use Rattle.chip_asm.proofs.listing.push_field.Goals as goal
 
 pub returns-then-is_definition : goal.returns-then-is_definition
@@ -14,9 +14,9 @@ returns-then-is_definition c =
     let same : to_z w32 (of_z w32 c.value_given-value.result) ≡ c.value_given-value.result = grind (arith, to_z-of_z) in
     let passed : to_z w32 (of_z w32 c.args.placement.now.value) ≡ c.args.placement.now.value = grind (arith, to_z-of_z) in
     let none : fault_noted c.args.placement.now.status ≡ None = sym c.fault-fault.ensures ∙ c.in_default.is in
-    let live : is_live_status c.args.placement.now.status ≡ true = sym c.is_live.ensures ∙ c.if-not-is_live.false in
+    let active : is_active_status c.args.placement.now.status ≡ true = sym c.is_active.ensures ∙ c.if-not-is_active.false in
     let more = rw c.in_default.is at c.more_sign-more.ensures in
-    rw (none, live, defines)
+    rw (none, active, defines)
     (c.in_ok-push_value.ensures
     ∙ ap (λ v. c.args.out.now.items ++ (at_left 12 (61 ∷ signed_decimal v) ++ c.more_sign-more.result ∷ 32 ∷ [])) (same ∙ given)
     ∙ ap (λ v. c.args.out.now.items ++ (at_left 12 (61 ∷ signed_decimal (value_given c.args.placement.now.here v (body_of (seen_line c.args.line.now)))) ++ c.more_sign-more.result ∷ 32 ∷ [])) passed

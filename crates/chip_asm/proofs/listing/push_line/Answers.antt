@@ -1,7 +1,7 @@
 use Rattle.std.proofs.Common.{◌≡◌, ◌∙◌, ◌++◌, ◌∷◌, [], List, ℕ, length, get_or, refl, ap, arith, append_assoc}
 use Rattle.chip_asm.specs.Layout.{body_of}
 use Rattle.chip_asm.specs.Listing.{address_shown, at_left, field_shown, more_shown, shown}
-use Rattle.chip_asm.specs.inner.Placements.{fault_noted, is_live_status}
+use Rattle.chip_asm.specs.inner.Placements.{fault_noted, is_active_status}
 use Rattle.chip_asm.specs.inner.Records.{reading_in}
 use Rattle.chip_asm.proofs.listing.push_line.Goals as goal
 
@@ -27,8 +27,8 @@ unfolding shown
 returns c =
     let number = c.number_text.ensures in
     let address = c.address_text.ensures in
-    let text = address.text ∙ ap (λ live. address_shown live c.args.placement.now.here) c.is_live.ensures in
+    let text = address.text ∙ ap (λ active. address_shown active c.args.placement.now.here) c.is_active.ensures in
     rw (c.in_ok-push.ensures.items, c.in_ok-extend_from_slice-2.ensures.items, c.text.ensures, c.in_ok-push_field.ensures, c.line.ensures, c.in_ok-extend_from_slice.ensures.items, ← number.text, ← text)
     (pushed c.args.out.now.items _ c.number_text.result c.address_text.result
-    (at_left 12 (field_shown (fault_noted c.args.placement.now.status) (is_live_status c.args.placement.now.status) (body_of (reading_in c.args.kept.now)) c.args.placement.now.here c.args.placement.now.value c.args.placement.now.size c.args.bytes.now))
+    (at_left 12 (field_shown (fault_noted c.args.placement.now.status) (is_active_status c.args.placement.now.status) (body_of (reading_in c.args.kept.now)) c.args.placement.now.here c.args.placement.now.value c.args.placement.now.size c.args.bytes.now))
     c.args.kept.now.text (more_shown (fault_noted c.args.placement.now.status) c.args.placement.now.size) (front c.number_text.result c.address_text.result number.places address.places))

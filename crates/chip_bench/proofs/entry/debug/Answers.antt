@@ -6,13 +6,13 @@ use Rattle.chip_bench.proofs.entry.debug.Goals as goal
 pub returns-in_err-settings : goal.returns-in_err-settings
 returns-in_err-settings g c =
     let p = err_from_is_err_and c.from_residual.result c.from_residual.ensures.1 in
-    debugs_unsettled g.I.Read.remaining g.O.Write.contents c.args.input.now c.args.output.now c.args.given.source c.args.given.is_image c.args.words.now
+    debugs_unsettled g.I.Read.remaining g.O.Write.contents c.args.input.now c.args.output.now c.args.given.source c.args.given.is_image c.args.arguments.now
     c.from_residual.result _ (p.1 ∙ ap (λ e. Err e) p.2) c.in_err-settings.ensures.err
 
 pub returns-in_ok-source-in-Some : goal.returns-in_ok-source-in-Some
 returns-in_ok-source-in-Some g c =
     let seeded = rw c.with_name_seed-seeded.ensures at c.answer_script.ensures in
     debugs_file g.I.Read.remaining g.O.Write.contents c.args.input.now c.answer_script.new.input c.args.output.now c.answer_script.new.output
-    c.args.given.source c.args.given.is_image c.in-Some.name c.args.words.now c.in_ok-settings.settings c.in_ok-bytes-in-Some.bytes.items
+    c.args.given.source c.args.given.is_image c.in-Some.name c.args.arguments.now c.in_ok-settings.settings c.in_ok-bytes-in-Some.bytes.items
     c.in_ok-source-in-Some.source.items c.answer_script.result c.in-Some.is c.in_ok-settings.ensures.ok c.in_ok-source-in-Some.ensures.ok
     (rw c.deref.ensures.value at seeded)

@@ -6,7 +6,7 @@ use Rattle.chip_bench.proofs.exploring.explore.Goals as goal
 pub returns-in_err-sets : goal.returns-in_err-sets
 returns-in_err-sets g c =
     let p = err_from_is_err_and c.from_residual-in_err-sets.result c.from_residual-in_err-sets.ensures.1 in
-    explores_bad g.I.Read.remaining g.O.Write.contents c.args.input.now c.args.input.now c.args.output.now c.args.output.now c.args.words.now
+    explores_bad g.I.Read.remaining g.O.Write.contents c.args.input.now c.args.input.now c.args.output.now c.args.output.now c.args.arguments.now
     c.from_residual-in_err-sets.result c.in_ok-settings.settings _ c.in_ok-settings.ensures.ok (p.1 ∙ ap (λ e. Err e) p.2) refl refl
     c.in_err-sets.ensures.err
 
@@ -14,13 +14,13 @@ pub returns-in_err-source : goal.returns-in_err-source
 returns-in_err-source g c =
     let p = err_from_is_err_and c.from_residual-in_err-source.result c.from_residual-in_err-source.ensures.1 in
     let sets = c.in_ok-sets.sets in
-    explores_unread g.I.Read.remaining g.O.Write.contents c.args.input.now c.read_given.new.input c.args.output.now c.args.output.now c.args.words.now
+    explores_unread g.I.Read.remaining g.O.Write.contents c.args.input.now c.read_given.new.input c.args.output.now c.args.output.now c.args.arguments.now
     c.from_residual-in_err-source.result c.in_ok-settings.settings sets.causes sets.keys c.in_ok-settings.ensures.ok c.in_ok-sets.ensures.ok.0
     c.in_ok-sets.ensures.ok.1 _ (p.1 ∙ ap (λ e. Err e) p.2) refl c.in_err-source.ensures.err
 
 pub returns : goal.returns
 returns g c =
     let sets = c.in_ok-sets.sets in
-    explores_done g.I.Read.remaining g.O.Write.contents c.args.input.now c.read_given.new.input c.args.output.now c.search_source.new.output c.args.words.now
+    explores_done g.I.Read.remaining g.O.Write.contents c.args.input.now c.read_given.new.input c.args.output.now c.search_source.new.output c.args.arguments.now
     c.search_source.result c.in_ok-settings.settings sets.causes sets.keys c.in_ok-settings.ensures.ok c.in_ok-sets.ensures.ok.0 c.in_ok-sets.ensures.ok.1
     c.in_ok-source.source.items c.in_ok-source.ensures.ok c.search_source.ensures

@@ -4,7 +4,7 @@ pub returns-clause-ok : goal.returns-clause-ok
 returns-clause-ok g c =
     let asked = c.in_ok-settings.ensures.ok in
     record {
-      words = asked.0;
+      arguments = asked.0;
       settings = c.in_ok-settings.settings;
       source = c.in_ok-source.source.items;
       keys = c.in_ok-keys.keys.items;

@@ -18,4 +18,4 @@ returns c = λ e.
     let a : AtPlace (readings_in c.args.self.now.lines.items) c.args.at (found c.index.result.now)
     = found-kept c.args.self.now.layout c.args.self.now.lines.items c.requires.kept.laid_out c.args.at c.index.result.now inside c.index.ensures in
     effect-at c.args.self.now.lines.items c.args.at (found c.index.result.now) c.index-2.result.now (seen_line c.args.line.now) a
-    (read-found c.args.self.now.lines.items c.args.at (found c.index.result.now) c.index-2.result.now a inside c.index-2.ensures) (rw (← c.line.ensures, ← c.is_live.ensures) (c.has_same_effect.ensures e))
+    (read-found c.args.self.now.lines.items c.args.at (found c.index.result.now) c.index-2.result.now a inside c.index-2.ensures) (rw (← c.line.ensures, ← c.is_active.ensures) (c.has_same_effect.ensures e))

@@ -8,7 +8,7 @@ invariant-loop-place l = record {
   high : l.here ≤ MEMORY_BYTES;
   after : l.first ≤ l.place;
   within : l.place ≤ length l.lines;
-  same : l.self.live ≡ l.live;
+  same : l.self.active ≡ l.active;
   under_way : (high : l.here ≤ MEMORY_BYTES) (e : Change) → IsUnderWay e l.lines l.fn.self l.fn.placements l.fn.tally l.from l.fn.image l.first
       → IsUnderWay e l.lines (record l.self { here = l.here; within = high }) l.placements l.tally l.from l.image l.place;
 }

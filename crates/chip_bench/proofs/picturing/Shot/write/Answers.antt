@@ -1,5 +1,5 @@
 use Rattle.std.proofs.Common.{◌≡◌, [], refl, Some, arith, rules}
-use Rattle.chip_bench.specs.SettingWords.{settings_asked}
+use Rattle.chip_bench.specs.SettingArguments.{settings_asked}
 use Rattle.chip_bench.specs.declared.ending.Ending.TheVariants.{Done}
 use Rattle.chip_bench.specs.declared.ending.Failure.TheVariants as failure
 use Rattle.chip_bench.proofs.PictureLemmas.{picture_hindered, picture_short, picture_told, picture_written}
@@ -9,7 +9,7 @@ pub returns-in-Ok-Done : goal.returns-in-Ok-Done
 returns-in-Ok-Done g c =
     let shot = c.args.self.now in
     picture_written (λ v. Some v.items) g.O.Write.contents c.new-picture.result c.print.new.output c.args.output.now c.args.output.now c.args.name
-    shot.asked.source.items shot.asked.keys.bytes.items shot.words.run.steps c.args.form (settings_asked shot.words.run.settings) c.write_image.result
+    shot.asked.source.items shot.asked.keys.bytes.items shot.arguments.run.steps c.args.form (settings_asked shot.arguments.run.settings) c.write_image.result
     (rw c.in-Ok-Done.field-0-is at c.in-Ok-Done.ensures) c.write_image.ensures refl
 
 pub returns-in-Ok : goal.returns-in-Ok
@@ -19,19 +19,19 @@ returns-in-Ok g c =
     let none : Some c.new-picture.result.inner.items ≡ Some [] = search rules in
     let some : Some c.print.new.output.inner.items ≡ Some c.deref-in-Ok.result.now = search rules in
     picture_told (λ v. Some v.items) g.O.Write.contents c.new-picture.result c.print.new.output c.args.output.now c.print-in-Ok.new.output c.args.name
-    shot.asked.source.items shot.asked.keys.bytes.items shot.words.run.steps c.args.form (settings_asked shot.words.run.settings) c.in-Ok.ending
+    shot.asked.source.items shot.asked.keys.bytes.items shot.arguments.run.steps c.args.form (settings_asked shot.arguments.run.settings) c.in-Ok.ending
     c.deref-in-Ok.result.now c.print-in-Ok.result other none some c.in-Ok.ensures c.print-in-Ok.ensures
 
 pub returns-in-Err-Output : goal.returns-in-Err-Output
 returns-in-Err-Output g c =
     let shot = c.args.self.now in
     picture_short (λ v. Some v.items) g.O.Write.contents c.new-picture.result c.print.new.output c.args.output.now c.args.output.now c.args.name
-    shot.asked.source.items shot.asked.keys.bytes.items shot.words.run.steps c.args.form (settings_asked shot.words.run.settings) refl
+    shot.asked.source.items shot.asked.keys.bytes.items shot.arguments.run.steps c.args.form (settings_asked shot.arguments.run.settings) refl
 
 pub returns : goal.returns
 returns g c =
     let shot = c.args.self.now in
     let other : c.in-Err.failure ≡ failure.Output → ⊥ = grind arith in
     picture_hindered (λ v. Some v.items) g.O.Write.contents c.new-picture.result c.print.new.output c.args.output.now c.args.output.now c.args.name
-    shot.asked.source.items shot.asked.keys.bytes.items shot.words.run.steps c.args.form (settings_asked shot.words.run.settings) c.in-Err.failure
+    shot.asked.source.items shot.asked.keys.bytes.items shot.arguments.run.steps c.args.form (settings_asked shot.arguments.run.settings) c.in-Err.failure
     other c.in-Err.ensures refl

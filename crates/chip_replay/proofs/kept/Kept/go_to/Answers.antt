@@ -37,8 +37,8 @@ loop-at-preserved-in-Continue-branch-2 g c =
     let state = run m.step_of c.args.rate (held c.args.keys.now) c.args.start.now in
     let above : 0 < now.spacing = omega (arith, before.spacing, c.requires.spaced) in
     let up_to_step : at + count ≤ c.args.step = omega (arith, c.min-count.ensures, c.loop-at-test.true) in
-    let first = c.go_on-made.ensures.first c.args.start.now now.reach before.is_at.lent before.is_at.reached right.sound.first in
-    let next = c.go_on-made.ensures.state c.args.start.now before.is_at.lent in
+    let first = c.go_on-made.ensures.first c.args.start.now now.reach before.is_at.current before.is_at.reached right.sound.first in
+    let next = c.go_on-made.ensures.state c.args.start.now before.is_at.current in
     let table = c.go_on-made.new.self.first_touch.items in
     let ran = rw c.go_on-made.ensures.others at c.saturating_add-self.ensures in
     let further : now.reach < at + count = rw c.go_on-made.ensures.others at c.if-at-self.true in
@@ -49,12 +49,12 @@ loop-at-preserved-in-Continue-branch-2 g c =
     omega (arith, c.min-count.ensures, multiple_left at now.spacing left above refl, next_place) in
     let known : AreFirst (touched m.touches) state (at + count) table =
     (let same : max now.reach (at + count) ≡ at + count = omega arith in subst (λ n. AreFirst (touched m.touches) state n table) same first) in
-    let sound = sound_more now.spacing above m.is_proper (touched m.touches) m.step_of c.args.rate (held c.args.keys.now) c.args.start.now now.checkpoints.items now.first_touch.items now.reach right.sound right.still (at + count) (at + count) most further (omega arith) (omega (arith, up_to_step, c.requires.in_range)) c.go_on-made.new.self.lent next (λ l. absurd (omega arith)) table c.go_on-made.ensures.table known _ kept in
-    let still = ends_more now.spacing above m.is_proper (touched m.touches) m.step_of c.args.rate (held c.args.keys.now) c.args.start.now now.checkpoints.items now.first_touch.items now.reach right.sound right.still (at + count) (at + count) most further (omega arith) (omega (arith, up_to_step, c.requires.in_range)) c.go_on-made.new.self.lent next (λ l. absurd (omega arith)) table c.go_on-made.ensures.table known _ kept in
+    let sound = sound_more now.spacing above m.is_proper (touched m.touches) m.step_of c.args.rate (held c.args.keys.now) c.args.start.now now.checkpoints.items now.first_touch.items now.reach right.sound right.still (at + count) (at + count) most further (omega arith) (omega (arith, up_to_step, c.requires.in_range)) c.go_on-made.new.self.current next (λ l. absurd (omega arith)) table c.go_on-made.ensures.table known _ kept in
+    let still = ends_more now.spacing above m.is_proper (touched m.touches) m.step_of c.args.rate (held c.args.keys.now) c.args.start.now now.checkpoints.items now.first_touch.items now.reach right.sound right.still (at + count) (at + count) most further (omega arith) (omega (arith, up_to_step, c.requires.in_range)) c.go_on-made.new.self.current next (λ l. absurd (omega arith)) table c.go_on-made.ensures.table known _ kept in
     rw (c.in_ok-extend.ensures.others, c.go_on-made.ensures.others) (record {
       spacing = before.spacing;
-      right = record { sound = sound; still = still; lent = (omega arith, next); holding = c.go_on-made.ensures.holding };
-      is_at = record { reached = omega arith; lent = next; holding = c.go_on-made.ensures.holding };
+      right = record { sound = sound; still = still; current = (omega arith, next); holding = c.go_on-made.ensures.holding };
+      is_at = record { reached = omega arith; current = next; holding = c.go_on-made.ensures.holding };
       within = up_to_step;
       reach_kept = omega (arith, before.reach_kept);
       from = omega (arith, before.from);
@@ -74,8 +74,8 @@ loop-at-preserved g c =
     let state = run m.step_of c.args.rate (held c.args.keys.now) c.args.start.now in
     let above : 0 < now.spacing = omega (arith, before.spacing, c.requires.spaced) in
     let up_to_step : at + count ≤ c.args.step = omega (arith, c.min-count.ensures, c.loop-at-test.true) in
-    let first = c.go_on-made.ensures.first c.args.start.now now.reach before.is_at.lent before.is_at.reached right.sound.first in
-    let next = c.go_on-made.ensures.state c.args.start.now before.is_at.lent in
+    let first = c.go_on-made.ensures.first c.args.start.now now.reach before.is_at.current before.is_at.reached right.sound.first in
+    let next = c.go_on-made.ensures.state c.args.start.now before.is_at.current in
     let table = c.go_on-made.new.self.first_touch.items in
     let ran = rw c.go_on-made.ensures.others at c.saturating_add-self.ensures in
     let reached : at + count ≤ now.reach = rw c.go_on-made.ensures.others at c.if-at-self.false in
@@ -84,10 +84,10 @@ loop-at-preserved g c =
       right = record {
         sound = sound_noted now.spacing above m.is_proper (touched m.touches) state now.checkpoints.items now.first_touch.items now.reach right.sound table (at + count) reached c.go_on-made.ensures.table first;
         still = right.still;
-        lent = (reached, next);
+        current = (reached, next);
         holding = c.go_on-made.ensures.holding;
       };
-      is_at = record { reached = reached; lent = next; holding = c.go_on-made.ensures.holding };
+      is_at = record { reached = reached; current = next; holding = c.go_on-made.ensures.holding };
       within = up_to_step;
       reach_kept = before.reach_kept;
       from = omega (arith, before.from);
@@ -106,8 +106,8 @@ returns-in_err-extend-clause-right g c =
     let state = run m.step_of c.args.rate (held c.args.keys.now) c.args.start.now in
     let above : 0 < now.spacing = omega (arith, before.spacing, c.requires.spaced) in
     let up_to_step : at + count ≤ c.args.step = omega (arith, c.min-count.ensures, c.loop-at-test.true) in
-    let first = c.go_on-made.ensures.first c.args.start.now now.reach before.is_at.lent before.is_at.reached right.sound.first in
-    let next = c.go_on-made.ensures.state c.args.start.now before.is_at.lent in
+    let first = c.go_on-made.ensures.first c.args.start.now now.reach before.is_at.current before.is_at.reached right.sound.first in
+    let next = c.go_on-made.ensures.state c.args.start.now before.is_at.current in
     let table = c.go_on-made.new.self.first_touch.items in
     let stay : c.extend.new.self.checkpoints.items ≡ now.checkpoints.items = rw c.go_on-made.ensures.others at c.in_err-extend.ensures.checkpoints_stay in
     let reach : c.go_on-made.new.self.reach ≡ now.reach = rw c.go_on-made.ensures.others refl in
@@ -116,7 +116,7 @@ returns-in_err-extend-clause-right g c =
       sound = subst (λ xs. IsSound now.spacing m.is_proper (touched m.touches) state xs c.extend.new.self.first_touch.items now.reach) (sym stay)
           (sound_cut_back now.spacing above m.is_proper (touched m.touches) state now.checkpoints.items now.first_touch.items now.reach right.sound table c.extend.new.self.first_touch.items (at + count) c.go_on-made.ensures.table first cut);
       still = subst (λ xs. EndsStill m.step_of state now.spacing xs now.reach) (sym stay) right.still;
-      lent = tt;
+      current = tt;
       holding = tt;
     })
 
@@ -126,7 +126,7 @@ returns-then-stays-clause-state g c =
     let m = g.M.Traced in
     let at = c.loop-at.at in
     let state = run m.step_of c.args.rate (held c.args.keys.now) c.args.start.now in
-    let here : c.loop-at.self.lent ≡ state at = c.loop-at.invariant.is_at.lent in
+    let here : c.loop-at.self.current ≡ state at = c.loop-at.invariant.is_at.current in
     let still = subst (IsStill m.step_of) here (λ down tick. c.stays.ensures.still c.if-stays.true down tick tt) in
-    let later : c.stay.new.self.lent ≡ state c.args.step = rw c.stay.ensures.others (here ∙ sym (stays_to m.step_of c.args.rate (held c.args.keys.now) c.args.start.now at c.args.step still (omega (arith, c.loop-at-test.true)))) in
+    let later : c.stay.new.self.current ≡ state c.args.step = rw c.stay.ensures.others (here ∙ sym (stays_to m.step_of c.args.rate (held c.args.keys.now) c.args.start.now at c.args.step still (omega (arith, c.loop-at-test.true)))) in
     on_ok_weaker c.stay.result (λ _. later) c.stay.ensures.reached

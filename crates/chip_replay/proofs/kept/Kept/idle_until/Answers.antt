@@ -18,7 +18,7 @@ pub returns-clause-state : goal.returns-clause-state
 returns-clause-state g c = λ is rate start here.
     let m = g.M.Traced in
     let events = c.args.keys.now in
-    let still = still_in_each m.step_of events c.hold.new.known c.args.at c.args.count c.args.self.now.lent c.hold.ensures c.if-at-count.false (λ tick. c.stays.ensures.still c.if-not-stays.false c.hold.new.known.keys tick refl) in
+    let still = still_in_each m.step_of events c.hold.new.known c.args.at c.args.count c.args.self.now.current c.hold.ensures c.if-at-count.false (λ tick. c.stays.ensures.still c.if-not-stays.false c.hold.new.known.keys tick refl) in
     here ∙ sym (stays_under m.step_of rate (held events) start c.args.at c.args.count (λ t low high tick. subst (λ s. m.step_of s (held events t) tick ≡ s) here (still t low high tick)))
 
 pub returns-clause-first : goal.returns-clause-first
@@ -28,10 +28,10 @@ returns-clause-first g c = λ is rate start reach here low first.
     let at = c.args.at in
     let table = c.args.self.now.first_touch.items in
     let state = run m.step_of rate (held events) start in
-    let still = still_in_each m.step_of events c.hold.new.known at c.args.count c.args.self.now.lent c.hold.ensures c.if-at-count.false (λ tick. c.stays.ensures.still c.if-not-stays.false c.hold.new.known.keys tick refl) in
+    let still = still_in_each m.step_of events c.hold.new.known at c.args.count c.args.self.now.current c.hold.ensures c.if-at-count.false (λ tick. c.stays.ensures.still c.if-not-stays.false c.hold.new.known.keys tick refl) in
     let noted = λ (s a : ℕ) (above : reach ≤ s) (below : s < max reach (at + c.args.count)) (touches : touched m.touches (state s) a ≡ true). (
     let place : s ≡ at + (s - at) = omega (arith, low, above) in
-    let same : state s ≡ c.args.self.now.lent = ap state place
+    let same : state s ≡ c.args.self.now.current = ap state place
     ∙ stays_under m.step_of rate (held events) start at (s - at) (λ t lt ht tick. subst (λ x. m.step_of x (held events t) tick ≡ x) here (still t lt (omega (arith, ht, above, below)) tick)) ∙ sym here in
     let before : slice_index c.deref.result.now a < at = c.stays.ensures.noted c.if-not-stays.false a (sym (ap (λ x. touched m.touches x a) same) ∙ touches) in
     let early : slice_index table a < reach = omega (arith, low, subst (λ xs. slice_index xs a < at) c.deref.ensures.value before) in early) in

@@ -8,7 +8,7 @@ use Rattle.chip_machine.specs.Touched.{touched}
 use Rattle.chip_replay.specs.Run.{run}
 use Rattle.chip_replay.proofs.TracedLaws.{IsTraced}
 use Rattle.chip_replay.proofs.ByStep.{holding_cut}
-use Rattle.chip_replay.proofs.Changed.{sound_patched, ends_patched, lent_patched, affected_le, not_touched, step_kept}
+use Rattle.chip_replay.proofs.Changed.{sound_patched, ends_patched, current_patched, affected_le, not_touched, step_kept}
 use Rattle.chip_replay.proofs.Bytes.{patched-with_image}
 use Rattle.chip_replay.specs.Limits.{image_room, image_start}
 use Rattle.chip_replay.proofs.replay.Replay.image_changed_within.Goals as goal
@@ -40,17 +40,17 @@ invariant_of-self g c =
     let sound = subst (λ n. IsSound was.kept.spacing m.is_proper (touched m.touches) run_before cs table n) c.forget.ensures.reach (c.forget.ensures.sound was.rate was.start was.keys c.self.invariant.2) in
     let ends = subst (EndsStill m.step_of run_before was.kept.spacing cs) c.forget.ensures.reach (c.forget.ensures.still m.step_of run_before c.self.invariant.2.still) in
     let above : 0 < was.kept.spacing = omega (arith, c.self.invariant.1.0) in
-    let cut_back = subst (λ n. IsCutBack was.kept.reach n was.kept.lent_step c.forget.new.self.lent_step) c.forget.ensures.reach c.forget.ensures.lent_step in
-    let kept = step_kept run_before was.kept.reach reach was.kept.lent was.kept.lent_step c.forget.new.self.lent_step c.self.invariant.2.lent cut_back in
+    let cut_back = subst (λ n. IsCutBack was.kept.reach n was.kept.current_step c.forget.new.self.current_step) c.forget.ensures.reach c.forget.ensures.current_step in
+    let kept = step_kept run_before was.kept.reach reach was.kept.current was.kept.current_step c.forget.new.self.current_step c.self.invariant.2.current cut_back in
     let untouched = λ (s : ℕ) (l : s < reach) (i : ℕ) (li : i < image_room) (d : differs old new i ≡ true). not_touched was.kept.spacing m.is_proper (touched m.touches) run_before was.kept.checkpoints.items was.kept.first_touch.items was.kept.reach reach c.self.invariant.2.sound within (image_start + i) (omega arith) (least i li d) s l in
-    rw (c.patch.ensures, c.patch-2.ensures.others, c.patch-2.ensures.lent, c.forget.ensures.others, c.forget.ensures.reach, c.forget.ensures.holding) (
+    rw (c.patch.ensures, c.patch-2.ensures.others, c.patch-2.ensures.current, c.forget.ensures.others, c.forget.ensures.reach, c.forget.ensures.holding) (
       c.self.invariant.0,
       c.self.invariant.1,
       record {
         sound = rw c.patch-2.ensures.checkpoints (sound_patched was.kept.spacing m.memory m.with_memory m.is_proper m.touches m.step_of laws was.rate (held was.keys) was.start cs table reach sound old new untouched);
         still = ends_patched was.kept.spacing m.memory m.with_memory m.is_proper m.touches m.step_of laws was.rate (held was.keys) was.start cs table reach sound old new untouched above _ c.patch-2.ensures.checkpoints ends;
-        lent = lent_patched was.kept.spacing m.memory m.with_memory m.is_proper m.touches m.step_of laws was.rate (held was.keys) was.start cs table reach sound old new untouched was.kept.reach was.kept.lent was.kept.lent_step _ c.self.invariant.2.lent kept;
-        holding = holding_cut was.keys was.keys reach first was.kept.holding was.kept.lent_step _ (omega arith) c.self.invariant.2.holding (λ s l k. refl) kept;
+        current = current_patched was.kept.spacing m.memory m.with_memory m.is_proper m.touches m.step_of laws was.rate (held was.keys) was.start cs table reach sound old new untouched was.kept.reach was.kept.current was.kept.current_step _ c.self.invariant.2.current kept;
+        holding = holding_cut was.keys was.keys reach first was.kept.holding was.kept.current_step _ (omega arith) c.self.invariant.2.holding (λ s l k. refl) kept;
       },
     )
 

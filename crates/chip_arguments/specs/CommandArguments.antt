@@ -1,4 +1,4 @@
--- What the words of the command line ask for, by the values that `clap` finds in them (own).
+-- What the arguments ask for, by the values that `clap` finds in them (own).
 use Rattle.std.specs.Prelude.{◌≡◌, ℕ, ◌<◌, ◌^◌, Bool, true, false, List, [], ◌∷◌, codes, map, Option, Some, None, option_copied, unwrap_or, if◌then◌else◌}
 use Rattle.std.specs.Char.{is_ascii_digit}
 use Rattle.std.specs.List.{list_all, list_any}
@@ -12,19 +12,19 @@ use Rattle.chip_machine.specs.declared.profile.Profile.{Profile}
 use Rattle.chip_machine.specs.declared.profile.Profile.TheVariants.{Schip}
 use Rattle.chip_replay.specs.declared.limits.TheConstants.{LEAST_SPACING}
 use Rattle.chip_arguments.specs.CommandLine.{chipbench}
-use Rattle.chip_arguments.specs.SettingWords.{default_words}
+use Rattle.chip_arguments.specs.SettingArguments.{default_arguments}
 use Rattle.chip_arguments.specs.declared.limits.TheConstants.{USUAL_STATES}
 use Rattle.chip_arguments.specs.declared.command_line.CommandLine.{CommandLine}
 use Rattle.chip_arguments.specs.declared.command_line.CommandLine.TheVariants as line
-use Rattle.chip_arguments.specs.declared.command_line.CheckWords.{CheckWords}
+use Rattle.chip_arguments.specs.declared.command_line.CheckArguments.{CheckArguments}
 use Rattle.chip_arguments.specs.declared.command_line.ColorChoice.{ColorChoice}
 use Rattle.chip_arguments.specs.declared.command_line.ColorChoice.TheVariants.{Always, Auto, Never}
-use Rattle.chip_arguments.specs.declared.command_line.ExploreWords.{ExploreWords}
-use Rattle.chip_arguments.specs.declared.command_line.PictureWords.{PictureWords}
-use Rattle.chip_arguments.specs.declared.command_line.RunWords.{RunWords}
-use Rattle.chip_arguments.specs.declared.command_line.SettingWords.{SettingWords}
-use Rattle.chip_arguments.specs.declared.command_line.TestWords.{TestWords}
-use Rattle.chip_arguments.specs.declared.command_line.TraceWords.{TraceWords}
+use Rattle.chip_arguments.specs.declared.command_line.ExploreArguments.{ExploreArguments}
+use Rattle.chip_arguments.specs.declared.command_line.PictureArguments.{PictureArguments}
+use Rattle.chip_arguments.specs.declared.command_line.RunArguments.{RunArguments}
+use Rattle.chip_arguments.specs.declared.command_line.SettingArguments.{SettingArguments}
+use Rattle.chip_arguments.specs.declared.command_line.TestArguments.{TestArguments}
+use Rattle.chip_arguments.specs.declared.command_line.TraceArguments.{TraceArguments}
 
 -- the arguments that are numbers
 abbrev pub numbers : List (List ℕ)
@@ -88,15 +88,15 @@ value_faults rows =
     (or_else (color_fault (first_of (codes "color") rows))
     (profile_fault (first_of (codes "profile") rows)))))
 
--- the same, of the words of a command
+-- the same, of the arguments of a command
 abbrev pub faults_below : Option (List ℕ × List Row) → Kinds
 faults_below None = []
 faults_below (Some command) = value_faults command.1
 
--- the kinds of fault of the words: those that `clap` finds, and else those of the values
-unfoldable pub word_faults : List (List ℕ) → Kinds
-word_faults words =
-    or_else (fault_of chipbench words) (faults_below (subcommand_of chipbench words))
+-- the kinds of fault of the arguments: those that `clap` finds, and else those of the values
+unfoldable pub argument_faults : List (List ℕ) → Kinds
+argument_faults arguments =
+    or_else (fault_of chipbench arguments) (faults_below (subcommand_of chipbench arguments))
 
 -- a text of decimal digits, of a number that fits in so many bits
 abbrev pub IsNumber : ℕ → List ℕ → Type 0
@@ -121,14 +121,14 @@ IsProfile None profile = profile ≡ Schip
 IsProfile (Some name) profile = name ≡ profile_name profile
 
 -- the settings that the values of a command ask for
-pub record AsksSettings (rows : List Row) (words : SettingWords) : Type 0 where
-  pub rate : ReadsOr 32 (first_of (codes "rate") rows) 10 words.rate
-  pub tape : option_copied words.tape ≡ first_of (codes "tape") rows
-  pub seed : ReadsNumber 64 (first_of (codes "seed") rows) words.seed
-  pub profile : IsProfile (first_of (codes "profile") rows) words.profile
-  pub spacing : ReadsOr 32 (first_of (codes "every") rows) LEAST_SPACING words.spacing
+pub record AsksSettings (rows : List Row) (arguments : SettingArguments) : Type 0 where
+  pub rate : ReadsOr 32 (first_of (codes "rate") rows) 10 arguments.rate
+  pub tape : option_copied arguments.tape ≡ first_of (codes "tape") rows
+  pub seed : ReadsNumber 64 (first_of (codes "seed") rows) arguments.seed
+  pub profile : IsProfile (first_of (codes "profile") rows) arguments.profile
+  pub spacing : ReadsOr 32 (first_of (codes "every") rows) LEAST_SPACING arguments.spacing
 
--- the text of a value that the words can't lack
+-- the text of a value that the arguments can't lack
 abbrev pub needed : List ℕ → List Row → List ℕ
 needed id rows = unwrap_or (first_of id rows) []
 
@@ -139,12 +139,12 @@ pub record AsksFlag (value : Option (List ℕ)) (is_set : Bool) : Type 0 where
   pub none : value ≡ None → is_set ≡ false
 
 -- the run that the values of a command ask for
-pub record AsksRun (rows : List Row) (words : RunWords) : Type 0 where
-  pub source : words.source.now ≡ needed (codes "source") rows
-  pub is_image : AsksFlag (one_of (codes "image") rows) words.is_image
-  pub steps : ReadsOr 32 (first_of (codes "steps") rows) 0 words.steps
-  pub keys : option_copied words.keys ≡ first_of (codes "keys") rows
-  pub settings : AsksSettings rows words.settings
+pub record AsksRun (rows : List Row) (arguments : RunArguments) : Type 0 where
+  pub source : arguments.source.now ≡ needed (codes "source") rows
+  pub is_image : AsksFlag (one_of (codes "image") rows) arguments.is_image
+  pub steps : ReadsOr 32 (first_of (codes "steps") rows) 0 arguments.steps
+  pub keys : option_copied arguments.keys ≡ first_of (codes "keys") rows
+  pub settings : AsksSettings rows arguments.settings
 
 -- when there are colours; without a word that is left to the program
 abbrev pub color_asked : Option (List ℕ) → ColorChoice
@@ -154,50 +154,50 @@ color_asked (Some word) =
     else (if bytes_eq word (codes "never") then Never else Auto)
 
 -- the check that they ask for
-pub record AsksCheck (rows : List Row) (words : CheckWords) : Type 0 where
-  pub sources : map (λ source. source.now) words.sources.items
+pub record AsksCheck (rows : List Row) (arguments : CheckArguments) : Type 0 where
+  pub sources : map (λ source. source.now) arguments.sources.items
       ≡ unwrap_or (all_of (codes "sources") rows) []
-  pub is_json : AsksFlag (one_of (codes "json") rows) words.is_json
-  pub allowed : option_copied words.allowed ≡ first_of (codes "allow") rows
-  pub color : words.color ≡ color_asked (first_of (codes "color") rows)
-  pub profile : IsProfile (first_of (codes "profile") rows) words.profile
-  pub is_covering : AsksFlag (one_of (codes "cover") rows) words.is_covering
+  pub is_json : AsksFlag (one_of (codes "json") rows) arguments.is_json
+  pub allowed : option_copied arguments.allowed ≡ first_of (codes "allow") rows
+  pub color : arguments.color ≡ color_asked (first_of (codes "color") rows)
+  pub profile : IsProfile (first_of (codes "profile") rows) arguments.profile
+  pub is_covering : AsksFlag (one_of (codes "cover") rows) arguments.is_covering
 
 -- the trace that they ask for
-pub record AsksTrace (rows : List Row) (words : TraceWords) : Type 0 where
-  pub run : AsksRun rows words.run
-  pub from : ReadsOr 32 (first_of (codes "from") rows) 0 words.from
-  pub sums : AsksFlag (one_of (codes "hash") rows) words.sums
-  pub is_json : AsksFlag (one_of (codes "json") rows) words.is_json
-  pub against : option_copied words.against ≡ first_of (codes "against") rows
+pub record AsksTrace (rows : List Row) (arguments : TraceArguments) : Type 0 where
+  pub run : AsksRun rows arguments.run
+  pub from : ReadsOr 32 (first_of (codes "from") rows) 0 arguments.from
+  pub sums : AsksFlag (one_of (codes "hash") rows) arguments.sums
+  pub is_json : AsksFlag (one_of (codes "json") rows) arguments.is_json
+  pub against : option_copied arguments.against ≡ first_of (codes "against") rows
 
 -- the picture that they ask for
-pub record AsksPicture (rows : List Row) (words : PictureWords) : Type 0 where
-  pub run : AsksRun rows words.run
-  pub ascii : AsksFlag (one_of (codes "ascii") rows) words.ascii
-  pub bitmap : option_copied words.bitmap ≡ first_of (codes "pbm") rows
-  pub png : option_copied words.png ≡ first_of (codes "png") rows
+pub record AsksPicture (rows : List Row) (arguments : PictureArguments) : Type 0 where
+  pub run : AsksRun rows arguments.run
+  pub ascii : AsksFlag (one_of (codes "ascii") rows) arguments.ascii
+  pub bitmap : option_copied arguments.bitmap ≡ first_of (codes "pbm") rows
+  pub png : option_copied arguments.png ≡ first_of (codes "png") rows
 
 -- the test that they ask for
-pub record AsksTest (rows : List Row) (words : TestWords) : Type 0 where
-  pub files : map (λ file. file.now) words.files.items ≡ unwrap_or (all_of (codes "files") rows) []
-  pub is_update : AsksFlag (one_of (codes "update") rows) words.is_update
-  pub is_tap : AsksFlag (one_of (codes "tap") rows) words.is_tap
+pub record AsksTest (rows : List Row) (arguments : TestArguments) : Type 0 where
+  pub files : map (λ file. file.now) arguments.files.items ≡ unwrap_or (all_of (codes "files") rows) []
+  pub is_update : AsksFlag (one_of (codes "update") rows) arguments.is_update
+  pub is_tap : AsksFlag (one_of (codes "tap") rows) arguments.is_tap
 
 -- the search that they ask for
-pub record AsksExplore (rows : List Row) (words : ExploreWords) : Type 0 where
-  pub source : words.source.now ≡ needed (codes "source") rows
-  pub is_image : AsksFlag (one_of (codes "image") rows) words.is_image
-  pub steps : ReadsNumber 32 (first_of (codes "steps") rows) words.steps
-  pub states : ReadsOr 32 (first_of (codes "states") rows) USUAL_STATES words.states
-  pub causes : option_copied words.causes ≡ first_of (codes "want") rows
-  pub place : option_copied words.place ≡ first_of (codes "reach") rows
-  pub allowed_keys : option_copied words.allowed_keys ≡ first_of (codes "keys-allowed") rows
-  pub keys_to : option_copied words.keys_to ≡ first_of (codes "keys-to") rows
-  pub is_deep : AsksFlag (one_of (codes "deep") rows) words.is_deep
-  pub is_covering : AsksFlag (one_of (codes "cover") rows) words.is_covering
-  pub is_progress_shown : AsksFlag (one_of (codes "progress") rows) words.is_progress_shown
-  pub settings : AsksSettings rows words.settings
+pub record AsksExplore (rows : List Row) (arguments : ExploreArguments) : Type 0 where
+  pub source : arguments.source.now ≡ needed (codes "source") rows
+  pub is_image : AsksFlag (one_of (codes "image") rows) arguments.is_image
+  pub steps : ReadsNumber 32 (first_of (codes "steps") rows) arguments.steps
+  pub states : ReadsOr 32 (first_of (codes "states") rows) USUAL_STATES arguments.states
+  pub causes : option_copied arguments.causes ≡ first_of (codes "want") rows
+  pub place : option_copied arguments.place ≡ first_of (codes "reach") rows
+  pub allowed_keys : option_copied arguments.allowed_keys ≡ first_of (codes "keys-allowed") rows
+  pub keys_to : option_copied arguments.keys_to ≡ first_of (codes "keys-to") rows
+  pub is_deep : AsksFlag (one_of (codes "deep") rows) arguments.is_deep
+  pub is_covering : AsksFlag (one_of (codes "cover") rows) arguments.is_covering
+  pub is_progress_shown : AsksFlag (one_of (codes "progress") rows) arguments.is_progress_shown
+  pub settings : AsksSettings rows arguments.settings
 
 -- What the values of a command of that name ask for.
 abbrev pub Asks : List ℕ → List Row → CommandLine → Type 0
@@ -210,13 +210,13 @@ Asks name rows (line.List source is_hex) =
 Asks name rows (line.Syms source is_hex) =
     (name ≡ codes "syms") × (source.now ≡ needed (codes "source") rows)
     × AsksFlag (one_of (codes "hex") rows) is_hex
-Asks name rows (line.Check words) = (name ≡ codes "check") × AsksCheck rows words
+Asks name rows (line.Check arguments) = (name ≡ codes "check") × AsksCheck rows arguments
 Asks name rows (line.Dis image) = (name ≡ codes "dis") × (image.now ≡ needed (codes "image") rows)
-Asks name rows (line.Run words) = (name ≡ codes "run") × AsksRun rows words
-Asks name rows (line.Trace words) = (name ≡ codes "trace") × AsksTrace rows words
-Asks name rows (line.Picture words) = (name ≡ codes "picture") × AsksPicture rows words
-Asks name rows (line.Test words) = (name ≡ codes "test") × AsksTest rows words
-Asks name rows (line.Explore words) = (name ≡ codes "explore") × AsksExplore rows words
+Asks name rows (line.Run arguments) = (name ≡ codes "run") × AsksRun rows arguments
+Asks name rows (line.Trace arguments) = (name ≡ codes "trace") × AsksTrace rows arguments
+Asks name rows (line.Picture arguments) = (name ≡ codes "picture") × AsksPicture rows arguments
+Asks name rows (line.Test arguments) = (name ≡ codes "test") × AsksTest rows arguments
+Asks name rows (line.Explore arguments) = (name ≡ codes "explore") × AsksExplore rows arguments
 Asks name rows (line.Explain code) =
     (name ≡ codes "explain") × (option_copied code ≡ first_of (codes "code") rows)
 Asks name rows (line.Debug source is_image settings) =
@@ -224,10 +224,11 @@ Asks name rows (line.Debug source is_image settings) =
     × (option_copied source ≡ first_of (codes "source") rows)
     × AsksFlag (one_of (codes "image") rows) is_image × AsksSettings rows settings
 
--- what the words ask for, by the command that they name; without one, a session on the empty source
+-- what the arguments ask for, by the command that they name; without one, a session on the empty
+-- source
 abbrev pub AsksBy : Option (List ℕ × List Row) → CommandLine → Type 0
-AsksBy None asked = asked ≡ line.Debug None false default_words
+AsksBy None asked = asked ≡ line.Debug None false default_arguments
 AsksBy (Some command) asked = Asks command.0 command.1 asked
 
 unfoldable pub AsksFor : List (List ℕ) → CommandLine → Type 0
-AsksFor words asked = AsksBy (subcommand_of chipbench words) asked
+AsksFor arguments asked = AsksBy (subcommand_of chipbench arguments) asked

@@ -1,7 +1,7 @@
 use Rattle.std.proofs.Common.{codes}
 use Rattle.clap.specs.Words.{found_of}
 use Rattle.chip_arguments.proofs.WordLemmas.{first_is, reads_first, reads_or}
-use Rattle.chip_arguments.proofs.command_line.setting_words.Goals as goal
+use Rattle.chip_arguments.proofs.command_line.setting_arguments.Goals as goal
 
 pub returns : goal.returns
 returns c = λ named. record {

@@ -2,7 +2,7 @@ use Rattle.std.proofs.Common.{◌∙◌, ap, map, ℕ, List, Bor, codes, refl}
 use Rattle.clap.specs.Words.{found_of}
 use Rattle.clap.proofs.WalkLemmas.{raw_values-rows}
 use Rattle.chip_arguments.proofs.WordLemmas.{flag_is, texts_are}
-use Rattle.chip_arguments.proofs.command_line.test_words.Goals as goal
+use Rattle.chip_arguments.proofs.command_line.test_arguments.Goals as goal
 
 pub returns : goal.returns
 returns c =

@@ -1,10 +1,10 @@
--- The settings that the words of the command line ask for (own).
+-- The settings that the arguments ask for (own).
 use Rattle.std.specs.Prelude.{ℕ, List, [], ◌∷◌, Option, Some, None, Result, Ok, Err, option_and_then}
 use Rattle.std.specs.Borrow.{Bor}
 use Rattle.hex.specs.Hex.{decode_of}
 use Rattle.chip_session.specs.Settings.{SessionSettings, settings_fault, spacing_fault}
 use Rattle.chip_session.specs.Tape.{tape_of}
-use Rattle.chip_arguments.specs.declared.command_line.SettingWords.{SettingWords}
+use Rattle.chip_arguments.specs.declared.command_line.SettingArguments.{SettingArguments}
 use Rattle.chip_session.specs.declared.settings.SetError.{SetError}
 
 abbrev pub if_ok : {T E : Type 0} → Result T E → Option T
@@ -19,21 +19,21 @@ tape_by None None = Some (0 ∷ [])
 
 -- The tape of `--tape HEX` or of `--seed N`, or one zero byte without both. Both together ask for
 -- none, and so do digits that stand for no bytes.
-abbrev pub tape_asked : SettingWords → Option (List ℕ)
-tape_asked words = tape_by words.tape words.seed
+abbrev pub tape_asked : SettingArguments → Option (List ℕ)
+tape_asked arguments = tape_by arguments.tape arguments.seed
 
 -- the settings, where nothing is wrong with them
 abbrev pub if_faultless : Option SetError → SessionSettings → Option SessionSettings
 if_faultless None settings = Some settings
 if_faultless (Some why) settings = None
 
--- the settings of a tape and of what else the words say
-abbrev pub settings_with : SettingWords → List ℕ → Option SessionSettings
-settings_with words tape =
-    option_and_then (if_faultless (spacing_fault words.spacing))
-    (if_faultless (settings_fault words.rate tape)
-    (record { rate = words.rate; tape = tape; profile = words.profile; spacing = words.spacing }))
+-- the settings of a tape and of what else the arguments say
+abbrev pub settings_with : SettingArguments → List ℕ → Option SessionSettings
+settings_with arguments tape =
+    option_and_then (if_faultless (spacing_fault arguments.spacing))
+    (if_faultless (settings_fault arguments.rate tape)
+    (record { rate = arguments.rate; tape = tape; profile = arguments.profile; spacing = arguments.spacing }))
 
--- the settings that the words ask for, or none where their tape is bad
-abbrev pub settings_asked : SettingWords → Option SessionSettings
-settings_asked words = option_and_then (settings_with words) (tape_asked words)
+-- the settings that the arguments ask for, or none where their tape is bad
+abbrev pub settings_asked : SettingArguments → Option SessionSettings
+settings_asked arguments = option_and_then (settings_with arguments) (tape_asked arguments)

@@ -1,7 +1,7 @@
 use Rattle.std.proofs.Common.{codes}
 use Rattle.clap.specs.Words.{found_of}
 use Rattle.chip_arguments.proofs.WordLemmas.{first_is, flag_is, reads_first, reads_or}
-use Rattle.chip_arguments.proofs.command_line.explore_words.Goals as goal
+use Rattle.chip_arguments.proofs.command_line.explore_arguments.Goals as goal
 
 pub returns : goal.returns
 returns c = λ named. record {
@@ -16,5 +16,5 @@ returns c = λ named. record {
   keys_to = first_is (found_of c.args.found.now) (codes "keys-to") _ c.get_str-6.ensures;
   is_covering = flag_is (found_of c.args.found.now) (codes "cover") c.get_flag-3.result c.get_flag-3.ensures.value c.get_flag-3.ensures.other c.get_flag-3.ensures.none;
   is_progress_shown = flag_is (found_of c.args.found.now) (codes "progress") c.get_flag-4.result c.get_flag-4.ensures.value c.get_flag-4.ensures.other c.get_flag-4.ensures.none;
-  settings = c.setting_words.ensures named;
+  settings = c.setting_arguments.ensures named;
 }

@@ -1,9 +1,9 @@
 use Rattle.std.proofs.Common.{◌∙◌, ap, map, ℕ, List, Bor, codes, refl}
 use Rattle.clap.specs.Words.{found_of}
 use Rattle.clap.proofs.WalkLemmas.{raw_values-rows}
-use Rattle.chip_arguments.specs.CommandWords.{color_asked}
+use Rattle.chip_arguments.specs.CommandArguments.{color_asked}
 use Rattle.chip_arguments.proofs.WordLemmas.{first_is, flag_is, texts_are}
-use Rattle.chip_arguments.proofs.command_line.check_words.Goals as goal
+use Rattle.chip_arguments.proofs.command_line.check_arguments.Goals as goal
 
 pub returns : goal.returns
 returns c = λ named.
