@@ -1,14 +1,14 @@
 """The examples of the documents: what they say is answered is what the program answers.
 
 docs/FORMATS.md has a source and a session for each command, docs/LANGUAGE.md a source for each fault. README.md and
-docs/GUIDE.md are replayed by .ci/guide-tests.
+docs/GUIDE.md are replayed by tools/guide.
 """
 import pathlib
 import re
 import tempfile
 
-from case_runner.sessions import Command, Session
-from case_runner.texts import TOP
+from runner.sessions import Command, Session
+from runner.texts import TOP
 
 
 def section(file, heading):

@@ -7,8 +7,10 @@ script that is found is replayed by it. What `--cover` marks is compared with th
 In the first 150 the lines to which `check --cover` gives W8 are the instructions that `explore --cover` doesn't mark where it looks
 for nothing that is met, but for those that have W3.
 
-The first 500 are searched once more with `--deep` and room for few states: what it says is covered is covered, and each script
-that it finds leads where it says.
+The first 500 are asked with `--deep` and room for few states too: what it says is covered is covered, and each script that it
+finds leads where it says.
+
+Of all that, 300 programs are tried with the quick cases, and the others with the slow ones.
 """
 import importlib.util
 import json
@@ -19,7 +21,8 @@ import tempfile
 
 EMULATOR = pathlib.Path(__file__).resolve().parent.parent / "trace" / "emulator.py"
 PROGRAMS = 1500
-GROUP = 100
+QUICK_PROGRAMS = 300
+GROUP = 50
 STEPS = 120
 KEYS = (0, 1, 2)
 RATE = 10
@@ -220,14 +223,20 @@ def searched_programs(numbers):
 
 
 def wrong_group(program, numbers):
-    """What is wrong with the answers for some programs."""
+    """What is wrong with the answers for some programs, with `--deep` too where their numbers are low."""
+    deep = 0
     with tempfile.TemporaryDirectory() as folder:
         for number, code, (first, made, after) in searched_programs(numbers):
             answer, listing, keys = asked(program, code, folder, "--cover")
             wrong = wrong_answer(answer, keys, code, first) or wrong_marks(listing, answer, made, after)
+            if not wrong and number < DEEP_PROGRAMS:
+                answer, _, keys = asked(program, code, folder, "--states", str(FEW_STATES), "--deep")
+                deep += answer[0][:1] == "S" and any(line.startswith("within ") for line in answer)
+                wrong = wrong_deep_answer(answer, keys, code, first)
             if wrong:
                 return f"program {number} ({code.hex()}): {wrong}"
-    return ""
+    # the first group has such programs
+    return "no program has a script past what is covered" if numbers[0] == 0 and deep == 0 else ""
 
 
 def wrong_deep_answer(answer, keys, code, first):
@@ -248,19 +257,6 @@ def wrong_deep_answer(answer, keys, code, first):
         return f"{answer} and {len(keys)} keys"
     stop = replayed(code, keys, step)
     return "" if stop == int(head[0][1]) else f"{answer}, but its keys lead to {stop}"
-
-
-def wrong_deep_group(program, numbers):
-    """What is wrong with the answers to `--deep` for some programs. Ten at least give a script past what is covered."""
-    deep = 0
-    with tempfile.TemporaryDirectory() as folder:
-        for number, code, (first, _, _) in searched_programs(numbers):
-            answer, _, keys = asked(program, code, folder, "--states", str(FEW_STATES), "--deep")
-            deep += answer[0][:1] == "S" and any(line.startswith("within ") for line in answer)
-            wrong = wrong_deep_answer(answer, keys, code, first)
-            if wrong:
-                return f"program {number} ({code.hex()}): {wrong}"
-    return "" if deep >= 10 else f"only {deep} programs have a script past what is covered"
 
 
 def warned(program, folder, *options):
@@ -309,11 +305,20 @@ def wrong_warned_group(program, numbers):
     return f"only {having} programs have W8" if having < len(numbers) // 2 else ""
 
 
-def checks(program):
-    for start in range(0, WARNED_PROGRAMS, GROUP // 2):
-        numbers = range(start, start + GROUP // 2)
-        yield f"warnings of programs {numbers[0]} to {numbers[-1]}", lambda numbers=numbers: wrong_warned_group(program, numbers)
-    yield f"programs 0 to {DEEP_PROGRAMS - 1} with --deep", lambda: wrong_deep_group(program, range(DEEP_PROGRAMS))
-    for start in range(0, PROGRAMS, GROUP):
-        numbers = range(start, min(start + GROUP, PROGRAMS))
+def groups(start, end):
+    return [range(first, min(first + GROUP, end)) for first in range(start, end, GROUP)]
+
+
+def searches(program, start, end):
+    for numbers in groups(start, end):
         yield f"programs {numbers[0]} to {numbers[-1]}", lambda numbers=numbers: wrong_group(program, numbers)
+
+
+def checks(program):
+    for numbers in groups(0, WARNED_PROGRAMS):
+        yield f"warnings of programs {numbers[0]} to {numbers[-1]}", lambda numbers=numbers: wrong_warned_group(program, numbers)
+    yield from searches(program, 0, QUICK_PROGRAMS)
+
+
+def slow_checks(program):
+    yield from searches(program, QUICK_PROGRAMS, PROGRAMS)

@@ -1,0 +1,33 @@
+# Completion of chipbench's words for bash; made by frontends/editors/generate.py.
+_chipbench() {
+    local word=${COMP_WORDS[COMP_CWORD]} before=${COMP_WORDS[COMP_CWORD-1]} options=
+    if [ "$COMP_CWORD" -eq 1 ]; then
+        COMPREPLY=($(compgen -W "debug asm list syms dis run trace picture check test explore explain help --help --version" -- "$word"))
+        return
+    fi
+    case $before in
+        --profile) COMPREPLY=($(compgen -W "schip vip" -- "$word")); return ;;
+        --color) COMPREPLY=($(compgen -W "auto always never" -- "$word")); return ;;
+        --rate | --tape | --seed | --every | --steps | --from | --allow | --states | --want | --reach | --keys-allowed) return ;;
+        explain) COMPREPLY=($(compgen -W "$(chipbench explain 2>/dev/null | cut -d ' ' -f 1)" -- "$word")); return ;;
+    esac
+    case ${COMP_WORDS[1]} in
+        debug) options="--rate --tape --seed --profile --every --image --help" ;;
+        asm) options=" --help" ;;
+        list) options="--hex --help" ;;
+        syms) options="--hex --help" ;;
+        dis) options=" --help" ;;
+        run) options="--steps --rate --tape --seed --profile --keys --image --help" ;;
+        trace) options="--steps --rate --tape --seed --profile --keys --image --from --hash --json --against --help" ;;
+        picture) options="--steps --rate --tape --seed --profile --keys --image --ascii --pbm --png --help" ;;
+        check) options="--json --allow --cover --color --profile --help" ;;
+        test) options="--update --tap --help" ;;
+        explore) options="--steps --states --deep --want --reach --keys-allowed --keys-to --cover --progress --rate --tape --seed --profile --image --help" ;;
+        explain) options=" --help" ;;
+    esac
+    case $word in
+        -*) COMPREPLY=($(compgen -W "$options" -- "$word")) ;;
+        *) COMPREPLY=($(compgen -f -- "$word")) ;;
+    esac
+}
+complete -o filenames -F _chipbench chipbench

@@ -1,0 +1,161 @@
+// The extension over a fake editor and a real language server; skipped where no program is built.
+'use strict';
+
+const assert = require('node:assert');
+const fs = require('node:fs');
+const Module = require('node:module');
+const path = require('node:path');
+const { after, test } = require('node:test');
+const { makeEditor, Position, Range, TextDocument } = require('./fake_vscode.js');
+
+const FOLDER = path.dirname(__dirname);
+const TOP = path.dirname(path.dirname(path.dirname(FOLDER)));
+const PROGRAM = process.env.CHIPBENCH || path.join(TOP, 'crates/chipbench/out/chipbench');
+const options = { skip: fs.existsSync(PROGRAM) ? false : 'no program is built', timeout: 120_000 };
+
+const GAME = `STEP    EQU 3
+START:  LD V0, 5
+LOOP:   ADD V0, STEP
+        JP LOOP
+`;
+
+let editor = null;
+const load = Module._load;
+Module._load = (name, ...rest) => (name === 'vscode' ? editor.vscode : load(name, ...rest));
+
+const settings = (more) => ({
+  server: path.join(TOP, 'packaging/chipbench-lsp'),
+  program: PROGRAM,
+  profile: 'schip',
+  rate: 10,
+  tape: '00',
+  ...more,
+});
+
+const running = [];
+
+/** The extension, started anew over an editor of its own. */
+function activated(more) {
+  editor = makeEditor(settings(more));
+  for (const name of ['extension.js', 'convert.js']) delete require.cache[path.join(FOLDER, name)];
+  const context = { subscriptions: [] };
+  const server = require('../extension.js').activate(context);
+  running.push(context);
+  return { editor, server };
+}
+
+async function opened(text = GAME) {
+  const made = activated();
+  const document = new TextDocument('game.asm', text);
+  made.editor.open(document);
+  await made.editor.diagnosed(document, () => true);
+  return { ...made, document };
+}
+
+after(async () => {
+  for (const context of running) for (const part of context.subscriptions) await part.dispose?.();
+});
+
+test('faults come and go as typed', options, async () => {
+  const { editor, document } = await opened();
+  editor.type(document, 2, 16, 20, 'NONE');
+  const [fault] = await editor.diagnosed(document, (found) => found.length === 1);
+  assert.deepStrictEqual([fault.code, fault.range.start.line, fault.severity], ['F9', 2, 0]);
+  editor.type(document, 2, 16, 20, 'STEP');
+  await editor.diagnosed(document, (found) => found.length === 0);
+});
+
+test('what the providers answer', options, async () => {
+  const { editor, document } = await opened();
+  const { providers } = editor;
+  const at = new Position(3, 12);
+  assert.match((await providers.Hover.provideHover(document, at)).contents.value, /\*\*LOOP\*\* = 514/);
+  const [definition] = await providers.Definition.provideDefinition(document, at);
+  assert.deepStrictEqual([definition.uri.toString(), definition.range.start.line], [document.uri.toString(), 2]);
+  assert.strictEqual((await providers.Reference.provideReferences(document, at, { includeDeclaration: true })).length, 2);
+  assert.strictEqual((await providers.DocumentHighlight.provideDocumentHighlights(document, at)).length, 2);
+  const symbols = await providers.DocumentSymbol.provideDocumentSymbols(document);
+  assert.deepStrictEqual(symbols.map((symbol) => symbol.name), ['STEP', 'START', 'LOOP']);
+  const hints = await providers.InlayHints.provideInlayHints(document, new Range(new Position(0, 0), new Position(9, 0)));
+  assert.deepStrictEqual(hints.map((hint) => hint.label), ['0200 6005', '0202 7003', '0204 1202']);
+  const [lens] = await providers.CodeLens.provideCodeLenses(document);
+  assert.strictEqual(lens.command.title, 'run to here');
+  const [action] = await providers.CodeActions.provideCodeActions(document, new Range(at, at), {});
+  assert.strictEqual(action.command.command, 'chipbench.runTo');
+});
+
+test('completion with fields', options, async () => {
+  const { editor, document } = await opened('DR\n');
+  const [item] = await editor.providers.CompletionItem.provideCompletionItems(document, new Position(0, 2));
+  assert.strictEqual(item.insertText.value, 'DRW ${1:Vx}, ${2:Vy}, ${3:n}');
+});
+
+test('rename, and a name that is refused', options, async () => {
+  const { editor, document } = await opened();
+  const rename = editor.providers.Rename;
+  const edit = await rename.provideRenameEdits(document, new Position(2, 1), 'AGAIN');
+  assert.strictEqual(edit.edits.get(document.uri.toString()).length, 2);
+  await assert.rejects(rename.provideRenameEdits(document, new Position(2, 1), 'V0'), /reserved/);
+  await assert.rejects(rename.prepareRename(document, new Position(2, 10)), /no name/);
+});
+
+test('formatting and folding', options, async () => {
+  const { editor, document } = await opened('IFDEF A\nCLS\nENDIF\n');
+  const edits = await editor.providers.DocumentFormattingEdit.provideDocumentFormattingEdits(document, {});
+  assert.deepStrictEqual(edits.map((edit) => edit.newText), ['        IFDEF A', '        CLS', '        ENDIF']);
+  const folds = await editor.providers.FoldingRange.provideFoldingRanges(document);
+  assert.deepStrictEqual([folds[0].start, folds[0].end], [0, 1]);
+});
+
+test('a fix', options, async () => {
+  const { editor, document } = await opened('LD V0, 0x1F\n');
+  const at = new Position(0, 1);
+  const [fix] = await editor.providers.CodeActions.provideCodeActions(document, new Range(at, at), {});
+  assert.deepStrictEqual([fix.kind, fix.isPreferred], ['quickfix', true]);
+  assert.strictEqual(fix.edit.edits.get(document.uri.toString())[0].newText, 'LD V0, #1F');
+});
+
+test('run to here is shown in the output', options, async () => {
+  const { editor, document } = await opened();
+  await editor.commands['chipbench.runTo'](document.uri.toString(), 3);
+  assert.match(editor.output.at(-1), /step 2: pc is at #204/);
+  await editor.commands['chipbench.runTo'](document.uri.toString(), 0);
+  editor.configure('profile', 'vip');
+  await editor.commands['chipbench.runTo'](document.uri.toString(), 3);
+  assert.match(editor.output.at(-1), /step 2/);
+});
+
+test('a server that dies is restarted, and nothing is lost', options, async () => {
+  const { editor, server, document } = await opened();
+  editor.type(document, 0, 0, 0, 'X');
+  process.kill(server.processId, 'SIGKILL');
+  editor.type(document, 2, 16, 20, 'NONE');
+  const found = await editor.diagnosed(document, (faults) => faults.length === 2 || faults.length === 1);
+  assert.ok(found.some((fault) => fault.range.start.line === 2));
+});
+
+test('a server that is not there is given up', options, async () => {
+  const { editor } = activated({ server: '/nowhere/chipbench-lsp' });
+  for (let tries = 0; tries < 100 && editor.errors.length === 0; tries += 1) {
+    await new Promise((resolve) => setTimeout(resolve, 20));
+  }
+  assert.match(editor.errors[0], /keeps ending/);
+  assert.strictEqual(await editor.providers.Hover.provideHover(new TextDocument('x.asm', ''), new Position(0, 0)), null);
+});
+
+test('messages in pieces', () => {
+  const { Messages } = require('../connection.js');
+  const messages = new Messages();
+  const body = Buffer.from(JSON.stringify({ text: 'ü' }));
+  const whole = Buffer.concat([Buffer.from(`Content-Length: ${body.length}\r\n\r\n`), body]);
+  const found = [];
+  for (const byte of Buffer.concat([whole, whole])) found.push(...messages.take(Buffer.from([byte])));
+  assert.deepStrictEqual(found, [{ text: 'ü' }, { text: 'ü' }]);
+});
+
+test('the words of the package lead somewhere', () => {
+  const made = JSON.parse(fs.readFileSync(path.join(FOLDER, 'package.json'), 'utf8'));
+  const { languages, grammars } = made.contributes;
+  for (const place of [made.main, languages[0].configuration, grammars[0].path]) assert.ok(fs.existsSync(path.join(FOLDER, place)));
+  JSON.parse(fs.readFileSync(path.join(FOLDER, languages[0].configuration), 'utf8'));
+});

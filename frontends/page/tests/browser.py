@@ -1,0 +1,75 @@
+"""The page in a real browser: what an author does, and what the program itself says of it."""
+
+from __future__ import annotations
+
+import argparse
+import shutil
+import sys
+import time
+import traceback
+from pathlib import Path
+
+from browser_files import FileTests
+from browser_page import PROVED, TOP
+from browser_run import RunTests
+from browser_shape import ShapeTests
+from browser_source import SourceTests
+from chromium import Chromium
+from driver import Browser
+from firefox import Firefox
+
+BROWSERS = {"chromium": Chromium, "firefox": Firefox}
+
+
+class Tests(SourceTests, RunTests, FileTests, ShapeTests):
+    """Each method whose name begins with `test_` is one test."""
+
+
+def main(arguments: list[str]) -> int:
+    parser = argparse.ArgumentParser(prog="frontends/page/tests/browser")
+    parser.add_argument("--program", default=str(PROVED), help="the chipbench to run (default: the proved one)")
+    parser.add_argument("--browser", choices=sorted(BROWSERS), default="chromium", help="the browser (default: chromium)")
+    parser.add_argument("--page", type=Path, default=TOP / "frontends/page", metavar="FOLDER", help="another page to try, such as an older one")
+    parser.add_argument("--patience", type=float, default=1.0, metavar="N", help="wait N times longer, on a busy machine (default: 1)")
+    parser.add_argument("--pictures", type=Path, help="a folder for pictures to look at")
+    parser.add_argument("--documents", type=Path, metavar="FOLDER", help="make the pictures of the examples there, and no test")
+    parser.add_argument("names", nargs="*", help="parts of the names of the tests to run (default: all)")
+    words = parser.parse_args(arguments)
+    if not Path(words.program).exists():
+        print(f"frontends/page/tests/browser: there is no {words.program}: build it, or name one with --program", file=sys.stderr)
+        return 2
+    if words.pictures is not None:
+        words.pictures.mkdir(parents=True, exist_ok=True)
+    Browser.patience = words.patience
+    tests = Tests(BROWSERS[words.browser](), words.program, words.page, words.pictures)
+    try:
+        if words.documents is not None:
+            tests.make_documents(words.documents)
+            return 0
+        names = [name for name in dir(tests) if name.startswith("test_")]
+        results = [ran(tests, name) for name in names if not words.names or any(part in name for part in words.names)]
+    finally:
+        tests.browser.close()
+        shutil.rmtree(tests.folder, ignore_errors=True)
+    print(f"{results.count(True)} passed, {results.count(False)} failed")
+    return 0 if all(results) else 1
+
+
+def ran(tests: Tests, name: str) -> bool:
+    """Runs a test in a folder of its own, and says how it went."""
+    shutil.rmtree(tests.folder, ignore_errors=True)
+    tests.folder.mkdir()
+    began = time.monotonic()
+    told = name.removeprefix("test_").replace("_", " ")
+    try:
+        getattr(tests, name)()
+    except Exception:
+        traceback.print_exc(limit=3)
+        print(f"{told}: failed", flush=True)
+        return False
+    print(f"{told}: passed in {time.monotonic() - began:.1f} s", flush=True)
+    return True
+
+
+if __name__ == "__main__":
+    sys.exit(main(sys.argv[1:]))

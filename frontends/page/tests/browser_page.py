@@ -1,0 +1,200 @@
+"""What each test of the page needs: a page on a file of its own, in a browser, and what the program itself says."""
+
+from __future__ import annotations
+
+import contextlib
+import json
+import subprocess
+import sys
+import tempfile
+import time
+import urllib.parse
+from collections.abc import Callable, Iterator
+from pathlib import Path
+
+from driver import Browser
+from small_png import small
+
+TOP = Path(__file__).resolve().parents[3]
+PROVED = TOP / "crates/chipbench/out/chipbench"
+EXAMPLES = ("bounce", "guess", "profiles", "scroller")
+
+SETTLED = "globalThis.chipbenchPage?.viewer.machine && document.getElementById('last-step').textContent !== ''"
+REGISTERS = """Object.fromEntries([...document.querySelectorAll('#registers dl > div')]
+    .map((cell) => [cell.querySelector('dt').textContent, cell.querySelector('dd').textContent]))"""
+# which pixels of the canvas are lit, a text of 128 letters for each row with one
+POINTS = """(() => {
+    const canvas = document.getElementById('screen');
+    const copy = new OffscreenCanvas(128, 64).getContext('2d', { willReadFrequently: true });
+    copy.drawImage(canvas, 0, 0);
+    const data = new Uint32Array(copy.getImageData(0, 0, 128, 64).data.buffer);
+    const colour = getComputedStyle(document.documentElement).getPropertyValue('--screen-lit').trim();
+    const [red, green, blue] = [1, 3, 5].map((place) => parseInt(colour.slice(place, place + 2), 16));
+    const lit = new Uint32Array(new Uint8Array([red, green, blue, 255]).buffer)[0];
+    const rows = {};
+    for (let row = 0; row < 64; row += 1) {
+        let digits = '';
+        for (let at = 0; at < 128; at += 4) {
+            let digit = 0;
+            for (let bit = 0; bit < 4; bit += 1) digit = 2 * digit + (data[row * 128 + at + bit] === lit ? 1 : 0);
+            digits += digit.toString(16);
+        }
+        if (/[^0]/.test(digits)) rows[row] = digits;
+    }
+    return rows;
+})()"""
+# resolves when the page has shown the answer to all that was changed
+REST = """new Promise((done) => {
+    const { viewer } = chipbenchPage;
+    viewer.addEventListener('settled', () => requestAnimationFrame(() => requestAnimationFrame(done)), { once: true });
+    viewer.refresh();
+})"""
+
+
+def rows_of(screen: str) -> dict[str, str]:
+    return {str(int(line[:2])): line[3:] for line in screen.splitlines()[1:-1]}
+
+
+class PageTests:
+    """What each test needs: a page on a file of its own, and what the program itself says."""
+
+    def __init__(self, browser: Browser, program: str, page: Path, pictures: Path | None) -> None:
+        self.program = program
+        self.page_folder = page
+        self.pictures = pictures
+        self.browser = browser
+        self.folder = Path(tempfile.mkdtemp(prefix="chipbench-page-test-"))
+        self.bridge: subprocess.Popen[str] | None = None
+        self.path = self.folder / "none.asm"
+        self.address = ""
+
+    @contextlib.contextmanager
+    def page(self, text: str | bytes, name: str = "game.asm", words: tuple[str, ...] = ()) -> Iterator[Browser]:
+        """The page on a new file with this text, or on an image with these bytes, in a browser that keeps nothing of it yet."""
+        self.path = self.folder / name
+        self.path.write_bytes(text.encode() if isinstance(text, str) else text)
+        opened = [str(self.path)] if isinstance(text, str) else ["--image", str(self.path)]
+        self.bridge = subprocess.Popen(
+            [sys.executable, "-B", str(self.page_folder / "bridge.py"), "--program", self.program, "--no-open", "--port", "0", *words, *opened],
+            stdout=subprocess.PIPE,
+            stderr=subprocess.DEVNULL,
+            text=True,
+        )
+        assert self.bridge.stdout is not None
+        self.address = self.bridge.stdout.readline().split()[1]
+        self.browser.console.clear()
+        self.browser.requests.clear()
+        self.browser.size(1600, 1000)
+        self.browser.theme("light")
+        try:
+            self.browser.open(self.address)
+            self.browser.wait(SETTLED)
+            yield self.browser
+            origin = self.address.split("/")[2]
+            for line in self.browser.console:
+                raise AssertionError(f"the page complained: {line}")
+            for request in self.browser.requests:
+                parts = urllib.parse.urlsplit(request)
+                assert parts.netloc == origin or parts.scheme in ("about", "blob", "data"), f"a request to {request}"
+        finally:
+            self.browser.open("about:blank")
+            self.bridge.terminate()
+            self.bridge.wait(5.0 * self.browser.patience)
+
+    def example(self, name: str) -> str:
+        return (TOP / f"examples/{name}.asm").read_text()
+
+    def said(self, text: str, commands: list[str], words: tuple[str, ...] = ()) -> str:
+        """What the program itself answers."""
+        place = self.folder / "said.asm"
+        place.write_text(text)
+        script = "".join(f"{command}\n" for command in commands)
+        run = subprocess.run([self.program, "debug", *words, str(place)], input=script, capture_output=True, text=True, check=True)
+        return run.stdout
+
+    def step(self, step: int) -> None:
+        self.browser.value(f"chipbenchPage.model.setStep({step}); {REST}")
+
+    def rest(self) -> None:
+        self.browser.value(REST)
+
+    def reload(self) -> None:
+        self.browser.reload()
+        self.browser.wait(SETTLED)
+
+    def registers(self) -> dict[str, str]:
+        return self.browser.value(REGISTERS)
+
+    def text_of(self, selector: str) -> str:
+        return self.browser.value(f"document.querySelector({json.dumps(selector)}).textContent")
+
+    def check_step(self, text: str, step: int, events: list[str], words: tuple[str, ...] = ()) -> None:
+        """What is shown at a step is what the program says of it."""
+        self.step(step)
+        said = self.said(text, [*events, f"regs {step}", f"screen {step}"], words).splitlines(keepends=True)[len(events) :]
+        first, second = said[0].split(), said[1].split()
+        shown = self.registers()
+        assert [shown[f"V{number:X}"] for number in range(16)] == first[1:], (shown, first)
+        assert [shown["pc"], shown["I"], shown["DT"], shown["ST"], shown["random"], shown["size"], shown["state"]] == [
+            *second[1:10:2],
+            second[10],
+            second[11],
+        ], (shown, second)
+        assert self.browser.value(POINTS) == rows_of("".join(said[3:])), step
+
+    def put_line(self, line: int, text: str) -> None:
+        """Types a text in place of a line."""
+        self.browser.value(
+            f"chipbenchPage.editor.goToLine({line});"
+            "{ const area = document.getElementById('source-text');"
+            "const end = area.value.indexOf('\\n', area.selectionStart);"
+            "area.setSelectionRange(area.selectionStart, end < 0 ? area.value.length : end); }"
+        )
+        self.browser.type(text)
+
+    def picture(self, name: str) -> None:
+        if self.pictures is not None:
+            self.browser.picture(self.pictures / f"{name}-{self.browser.name}.png")
+
+    def notice_button(self, text: str) -> None:
+        self.browser.value(f"[...document.querySelectorAll('.notice button')].find((button) => button.textContent === {json.dumps(text)}).click()")
+
+    def upload(self, path: Path) -> None:
+        self.browser.choose("#upload-file", path)
+
+    def make_documents(self, folder: Path) -> None:
+        """The pictures of the three examples that stand in the documents."""
+        with self.document_page("bounce", "light", folder):
+            self.step(1000)
+            self.put_line(5, "        LD V2, 255")
+            self.rest()
+        with self.document_page("guess", "dark", folder, ("--tape", "05")) as browser:
+            events = [(62, 6), (150, 6), (330, 0), (420, 0), (610, 5), (700, 5)]
+            made = "".join(f".with({step}, {key}, {str(place % 2 == 0).lower()})" for place, (step, key) in enumerate(events))
+            browser.value(f"document.getElementById('zoom').value = '1000'; chipbenchPage.model.setKeys(chipbenchPage.model.keys{made})")
+            self.step(350)
+        with self.document_page("scroller", "light", folder):
+            self.step(77)
+
+    @contextlib.contextmanager
+    def document_page(self, name: str, theme: str, folder: Path, words: tuple[str, ...] = ()) -> Iterator[Browser]:
+        with self.page(self.example(name), f"{name}.asm", words) as browser:
+            browser.size(1440, 900)
+            browser.theme(theme)
+            yield browser
+            browser.value("document.activeElement.blur()")
+            # the time that is shown is that of a question, and not of the program's start
+            self.rest()
+            time.sleep(0.5)
+            place = folder / f"page-{name}.png"
+            browser.picture(place)
+            place.write_bytes(small(place.read_bytes()))
+            print(f"{place}: {place.stat().st_size} bytes")
+
+
+def wait_for(condition: Callable[[], bool], name: str) -> None:
+    deadline = time.monotonic() + 10 * Browser.patience
+    while not condition():
+        if time.monotonic() > deadline:
+            raise TimeoutError(name)
+        time.sleep(0.05)

@@ -1,0 +1,254 @@
+// The modules of the page that need no browser: what an author undoes, reads and takes away.
+
+import assert from 'node:assert/strict';
+import { readFileSync } from 'node:fs';
+import test from 'node:test';
+
+import { Breakpoints } from '../static/breakpoints.mjs';
+import { columnOf, indentAfter, outdentLength, placeOf } from '../static/columns.mjs';
+import { completionsOf } from '../static/completion.mjs';
+import { readPlaces } from '../static/fault_places.mjs';
+import { readGame, writeGame } from '../static/game_file.mjs';
+import { encodeGif } from '../static/gif.mjs';
+import { KeyScript } from '../static/key_script.mjs';
+import { DIRECTIVES, INSTRUCTIONS, MNEMONICS, REGISTERS, tokensOf } from '../static/language.mjs';
+import { Model } from '../static/model.mjs';
+import { Names } from '../static/names.mjs';
+import { TextHistory } from '../static/text_history.mjs';
+
+/** A generator of numbers below a bound, the same in each run. */
+function generator(seed) {
+  let state = seed;
+  return (bound) => {
+    state = (Math.imul(state, 1664525) + 1013904223) >>> 0;
+    return Math.floor((state / 2 ** 32) * bound);
+  };
+}
+
+const kept = (value) => JSON.parse(JSON.stringify(value));
+
+// What is undone ---------------------------------------------------------------------------------------------------------------
+
+/** Types characters at the end of a text, a tenth of a second apart. */
+function typed(history, text, characters, start = 0) {
+  let now = text;
+  [...characters].forEach((character, place) => {
+    const selection = [now.length, now.length];
+    history.record(now, now + character, { selectionBefore: selection, selectionAfter: [now.length + 1, now.length + 1], time: start + 100 * place, isTyped: true });
+    now += character;
+  });
+  return now;
+}
+
+test('text: typing is undone by words and by pauses', () => {
+  const history = new TextHistory();
+  const text = typed(history, typed(history, '', 'LD V0, 5\n'), 'JP', 5000);
+  const undone = [];
+  for (let now = { text }; now !== null; now = history.undo(now.text)) undone.push(now.text);
+  assert.deepEqual(undone, ['LD V0, 5\nJP', 'LD V0, 5\n', 'LD V0, 5', 'LD V0, ', 'LD ', '']);
+  const redone = [];
+  for (let now = { text: '' }; now !== null; now = history.redo(now.text)) redone.push(now.text);
+  assert.deepEqual(redone, undone.toReversed());
+});
+
+test('text: any edits are undone and made again, also of what was kept', () => {
+  const random = generator(5);
+  for (let round = 0; round < 300; round += 1) {
+    let history = new TextHistory();
+    const texts = ['start'];
+    for (let count = 1 + random(12); count > 0; count -= 1) {
+      const before = texts.at(-1);
+      const [at, length] = [random(before.length + 1), random(3)];
+      const after = before.slice(0, at) + 'ab \n'.slice(0, random(4)) + before.slice(at + length);
+      history.record(before, after, { selectionBefore: [at, at], selectionAfter: [at, at], time: 0, isTyped: random(2) === 1 });
+      texts.push(after);
+    }
+    history = TextHistory.of(kept(history), texts.at(-1));
+    let now = { text: texts.at(-1) };
+    for (let next = history.undo(now.text); next !== null; next = history.undo(now.text)) now = next;
+    assert.equal(now.text, 'start');
+    for (let next = history.redo(now.text); next !== null; next = history.redo(now.text)) now = next;
+    assert.equal(now.text, texts.at(-1));
+  }
+});
+
+test('text: what was kept of another text, or is garbage, is not undone', () => {
+  const history = new TextHistory();
+  typed(history, '', 'LD V0');
+  assert.equal(TextHistory.of(kept(history), 'another text').undo('another text'), null);
+  for (const garbage of [null, 5, {}, { done: [5], undone: [] }, { done: [{ at: 0 }], undone: [] }, { done: 'x', undone: [] }]) {
+    assert.equal(TextHistory.of(garbage, '').canUndo, false);
+  }
+});
+
+test('keys: one change, or one play, is undone and made again, also after a reload', () => {
+  const model = new Model();
+  const scripts = [model.keys.events];
+  const change = (keys, group) => {
+    model.setKeys(keys, group);
+    scripts.push(model.keys.events);
+  };
+  change(model.keys.with(1, 1, true));
+  change(model.keys.with(2, 1, false), { play: 'one' });
+  change(model.keys.with(3, 1, true), { play: 'one' });
+  change(model.keys.with(4, 2, true), { play: 'another' });
+  for (let place = 3; place >= 0; place -= 1) {
+    model.undoKeys();
+    assert.deepEqual(model.keys.events, scripts[place]);
+  }
+  model.undoKeys();
+  assert.equal(model.keyHistory.canUndo, false);
+  for (let place = 1; place <= 3; place += 1) {
+    model.redoKeys();
+    assert.deepEqual(model.keys.events, scripts[place]);
+  }
+  model.keyHistory = model.keyHistory.constructor.of(kept(model.keyHistory));
+  assert.equal(model.keyHistory.lastPlay, 2);
+  model.undoKeys(true);
+  assert.deepEqual(model.keys.events, scripts[1]);
+  model.redoKeys(true);
+  assert.deepEqual(model.keys.events, scripts[3]);
+});
+
+test('keys: the dragging of an event is one change', () => {
+  const model = new Model();
+  model.setKeys(model.keys.with(10, 5, true));
+  for (const step of [11, 15, 12]) model.setKeys(new KeyScript([{ step, key: 5, down: true }]), { move: 'a' });
+  model.undoKeys();
+  assert.deepEqual(model.keys.events, [{ step: 10, key: 5, down: true }]);
+  model.redoKeys();
+  assert.deepEqual(model.keys.events, [{ step: 12, key: 5, down: true }]);
+});
+
+test('breakpoints go along with their lines', () => {
+  const breakpoints = new Breakpoints();
+  breakpoints.set([2, 4]);
+  breakpoints.follow('A\nB\nC\nD', 'A\nX\nB\nC\nD');
+  assert.deepEqual(breakpoints.lines, [3, 5]);
+  breakpoints.follow('A\nX\nB\nC\nD', 'A\nX\nB\nD');
+  assert.deepEqual(breakpoints.lines, [3, 4]);
+  breakpoints.follow('A\nX\nB\nD', 'A\nX\nB!\nD');
+  assert.deepEqual(breakpoints.lines, [3, 4]);
+});
+
+// What is read and written -------------------------------------------------------------------------------------------------------
+
+test('language: the instructions and directives are those of the documents', () => {
+  const machine = readFileSync(new URL('../../../docs/MACHINE.md', import.meta.url), 'utf8');
+  const language = readFileSync(new URL('../../../docs/LANGUAGE.md', import.meta.url), 'utf8');
+  for (const [word, source] of INSTRUCTIONS) {
+    if (word !== '0NNN') assert.ok(machine.includes(`| \`${word}\` |`), word);
+    assert.ok(language.includes(`| ${word} | `) && language.includes(`\`${source}\``), `${word} ${source}`);
+  }
+  assert.equal(INSTRUCTIONS.length, [...language.matchAll(/\| ([0-9A-F][0-9A-FNXYK]{3}) \| `/g)].length);
+  for (const word of DIRECTIVES.keys()) assert.match(language, new RegExp(`\\b${word}\\b`));
+});
+
+test('language: tokens, and what completes them', () => {
+  const kinds = (line) => tokensOf(line).map(({ kind, text }) => `${kind} ${text}`);
+  assert.deepEqual(kinds("LOOP: ld v0, #1f ; it's"), ['name LOOP', 'sign :', 'mnemonic ld', 'register v0', 'sign ,', 'number #1f', "comment ; it's"]);
+  assert.deepEqual(kinds("DA 'a;b', \"x"), ['directive DA', "text 'a;b'", 'sign ,', 'text "x']);
+  const symbols = [{ name: 'LOOP', value: 512, line: 1 }, { name: 'LOW_BYTE', value: 3, line: 2 }];
+  const words = (line, isAsked) => completionsOf(line, line.length, symbols, isAsked)?.found.map(([word]) => word) ?? null;
+  assert.deepEqual(words('  SK'), ['SKP', 'SKNP']);
+  assert.deepEqual(words('A: sc'), ['SCD', 'SCR', 'SCL']);
+  assert.deepEqual(words('  JP LO'), ['LOOP', 'LOW_BYTE']);
+  assert.equal(words('  JP LOOP'), null);
+  assert.equal(words('  J'), null);
+  assert.equal(words('  JP #20'), null);
+  assert.equal(words('  ; SK'), null);
+  assert.equal(words("  DA 'SK"), null);
+  assert.deepEqual(words('  LD ', true), [...symbols.map(({ name }) => name), ...REGISTERS].slice(0, 12));
+  assert.ok(MNEMONICS.includes('DRW') && new Set(MNEMONICS).size === MNEMONICS.length);
+});
+
+test('faults: their places and sentences, as `check` prints them', () => {
+  const output = 'a.asm:1:16: F9: undefined name\n        LD V0, COLUMN\n               ^~~~~~\nb:c.asm:3:9: F4: operands don\'t fit\nCLS LD V\n        ^\n';
+  const places = readPlaces(output, ['        LD V0, COLUMN', '', 'CLS LD V'], 'utf-8');
+  assert.deepEqual([...places], [
+    [1, { code: 'F9', sentence: 'undefined name', start: 15, end: 21 }],
+    [3, { code: 'F4', sentence: "operands don't fit", start: 8, end: 8 }],
+  ]);
+  const bytes = readPlaces("x:1:9: F1: bad character\nDB '\u00c3\u00a9'?\n       ^\n", ["DB '\u00c3\u00a9'?"], 'utf-8');
+  assert.deepEqual(bytes.get(1), { code: 'F1', sentence: 'bad character', start: 7, end: 7 });
+});
+
+test('columns, with tabs; indents', () => {
+  assert.deepEqual([0, 1, 2, 3].map((place) => columnOf('a\tb', place)), [0, 1, 8, 9]);
+  assert.deepEqual([0, 1, 7, 8, 9, 30].map((column) => placeOf('a\tb', column)), [0, 1, 1, 2, 3, 3]);
+  assert.deepEqual(['  CLS', 'LOOP: CLS', 'CLS', 'LONG_LABEL: CLS'].map(indentAfter), ['  ', '        ', '', '            ']);
+  assert.deepEqual(['        ', '          ', 'CLS', ' ', '\t\t'].map(outdentLength), [8, 2, 0, 0, 0]);
+});
+
+test('names of addresses', () => {
+  const listing = [{ address: 512, field: '=3' }, { address: 512, field: '00e0' }, { address: 514, field: '00e0' }, { address: 0x400, field: '' }];
+  const names = new Names([{ name: 'SIZE', value: 512, line: 1 }, { name: 'START', value: 512, line: 2 }, { name: 'NEXT', value: 514, line: 3 }], listing);
+  assert.deepEqual([511, 512, 513, 514, 600, 2000].map((address) => names.at(address)), [null, 'START', 'START+1', 'NEXT', 'NEXT+86', null]);
+  assert.equal(names.told(0x203), '#203 NEXT+1');
+  assert.equal(new Names().told(0x203), '#203');
+});
+
+test('a source with its keys is one file, which is read as it was written', () => {
+  const keys = new KeyScript().with(20, 3, true).with(44, 3, false);
+  const game = { text: 'CLS ; é\nRET', form: { encoding: 'utf-8', lineEnd: '\n' }, keys, options: { rate: '7', seed: '1' }, step: 99 };
+  const read = readGame(writeGame(game));
+  assert.deepEqual(read, { source: 'CLS ; \u00c3\u00a9\nRET\n', keys: '20 3 down\n44 3 up\n', options: { rate: '7', seed: '1' }, step: 99 });
+  assert.equal(readGame('CLS\nRET\n'), null);
+  for (const line of writeGame(game).split('\n').slice(2, -1)) assert.ok(line.startsWith('; '), line);
+});
+
+/** The pictures of a GIF file, by a reader that knows no more than the form. */
+function framesOf(bytes) {
+  const frames = [];
+  let at = 13 + 6;
+  while (bytes[at] !== 0x3b) {
+    if (bytes[at] === 0x21) {
+      at += 2;
+      while (bytes[at] !== 0) at += bytes[at] + 1;
+      at += 1;
+      continue;
+    }
+    at += 11;
+    const data = [];
+    while (bytes[at] !== 0) {
+      data.push(...bytes.slice(at + 1, at + 1 + bytes[at]));
+      at += bytes[at] + 1;
+    }
+    at += 1;
+    frames.push(pixelsOfCodes(data));
+  }
+  return frames;
+}
+
+function pixelsOfCodes(data) {
+  const pixels = [];
+  let [table, size, place, before] = [[[0], [1], [2], [3], null, null], 3, 0, null];
+  const next = () => {
+    let code = 0;
+    for (let bit = 0; bit < size; bit += 1, place += 1) code |= ((data[place >> 3] >> (place & 7)) & 1) << bit;
+    return code;
+  };
+  for (let code = next(); code !== 5; code = next()) {
+    if (code === 4) {
+      [table, size, before] = [[[0], [1], [2], [3], null, null], 3, null];
+      continue;
+    }
+    const entry = table[code] ?? [...before, before[0]];
+    pixels.push(...entry);
+    if (before !== null) table.push([...before, entry[0]]);
+    before = entry;
+    if (table.length === 1 << size && size < 12) size += 1;
+  }
+  return pixels;
+}
+
+test('gif: the pictures are those that were written', () => {
+  const random = generator(9);
+  for (const density of [1, 2, 50]) {
+    const frames = Array.from({ length: 3 }, () => Uint8Array.from({ length: 128 * 64 }, () => (random(density) === 0 ? 1 : 0)));
+    const bytes = encodeGif({ frames, width: 128, height: 64, scale: 1, colours: ['#000000', '#ffffff'], hundredths: 3 });
+    assert.deepEqual(framesOf(bytes), density === 1 ? [[...frames[0]]] : frames.map((frame) => [...frame]));
+  }
+  const large = encodeGif({ frames: [Uint8Array.of(1, 0)], width: 2, height: 1, scale: 2, colours: ['#000000', '#ffffff'], hundredths: 3 });
+  assert.deepEqual(framesOf(large), [[1, 1, 0, 0, 1, 1, 0, 0]]);
+});

@@ -1,0 +1,288 @@
+"""The quick tests: no network, no root, seconds."""
+import fnmatch
+import os
+import pathlib
+import re
+import shutil
+import subprocess
+import sys
+import tarfile
+import tempfile
+import unittest
+
+from common import DOCUMENTS, STAND_IN, TOP, Page, answers_initialize, contents, entries, image_of
+from common import is_repository, named_documents, package, program, run, version
+
+# The folders whose every file is either installed or left out by name.
+LISTED_FOLDERS = ("docs", "examples", "frontends")
+# The folders that documents may link to, though they aren't installed.
+REPOSITORY_ALONE = (".ci", "bench", "crates", "tests", "tools")
+RECORD = "share/chipbench/INSTALLED"
+
+
+def given():
+    return program() or STAND_IN
+
+
+def omitted():
+    """The files and folders that the list leaves out."""
+    lines = (TOP / "packaging/files").read_text().splitlines()
+    return [line.split()[1] for line in lines if line.startswith("omit ")]
+
+
+def ported_crates(crate):
+    """The crates of the kit that a crate of the repository stands on."""
+    lines = (TOP / "crates.txt").read_text().splitlines()
+    below = {name: rest.split() for name, _, rest in (line.partition(":") for line in lines if not line.startswith("#"))}
+    found, waiting = set(), [crate]
+    while waiting:
+        name = waiting.pop()
+        if name not in found:
+            found.add(name)
+            waiting += below.get(name, [])
+    return found - set(below)
+
+
+class TestList(unittest.TestCase):
+    def test_every_file_is_installed_or_omitted(self):
+        if not is_repository():
+            self.skipTest("git does not know the commit")
+        tracked = run("git", "-C", TOP, "ls-files", "--", *LISTED_FOLDERS).decode().split()
+        listed = {entry.source for layout in ("plain", "debian") for entry in entries(layout)}
+        left_out = omitted()
+        missing = [
+            path
+            for path in tracked
+            if path not in listed and not any(fnmatch.fnmatch(path, name) or path.startswith(name + "/") for name in left_out)
+        ]
+        self.assertEqual(missing, [])
+
+    def test_no_file_is_listed_twice(self):
+        for layout in ("plain", "debian"):
+            targets = [entry.target for entry in entries(layout)]
+            self.assertEqual(len(targets), len(set(targets)))
+
+    def test_layouts_differ_in_places_alone(self):
+        plain, debian = ({entry.source for entry in entries(layout) if entry.kind != "link"} for layout in ("plain", "debian"))
+        self.assertEqual(plain, debian)
+
+    def test_changelog_begins_with_the_version(self):
+        first = (TOP / "packaging/changelog").read_text().splitlines()[0]
+        self.assertEqual(re.match(r"chipbench \((.*?)\) ", first).group(1), version())
+
+    def test_copyright_has_the_licence_and_the_crates(self):
+        text = (TOP / "packaging/copyright").read_text()
+        licence = (TOP / "LICENSE").read_text().split("\n\n", 2)[2]
+        lines = [line.strip() for line in text.split("License: Expat\n")[-1].splitlines()]
+        self.assertEqual([line for line in licence.splitlines() if line], [line for line in lines if line != "."])
+        named = {name for line in re.findall(r"^Files: (.*)", text, re.M) for name in line.split()}
+        self.assertEqual(named - {"*"}, ported_crates("chipbench"))
+
+    def test_manual_of_the_page_has_its_options(self):
+        manual = (TOP / "packaging/chipbench-page.1").read_text().replace("\\-", "-")
+        printed = run(sys.executable, "-B", TOP / "frontends/page/bridge.py", "--help").decode()
+        for option in set(re.findall(r"--[a-z-]+", printed)):
+            self.assertRegex(manual, rf"(?m)^\.B .*{option}\b")
+
+
+class TestInstall(unittest.TestCase):
+    """An installation in a folder that has files of its own."""
+
+    def setUp(self):
+        self.folder = pathlib.Path(tempfile.mkdtemp(prefix="chipbench-package-tests-"))
+        self.addCleanup(shutil.rmtree, self.folder)
+        self.prefix = self.folder / "a prefix"
+        (self.prefix / "share/man/man1").mkdir(parents=True)
+        (self.prefix / "share/man/man1/other.1").write_text("other\n")
+        (self.prefix / "empty").mkdir()
+        self.before = contents(self.prefix)
+
+    def install(self, *more, **options):
+        return run(TOP / "packaging/chipbench-install", self.prefix, *more, **options)
+
+    def installed(self):
+        self.install("--program", given())
+        return set(contents(self.prefix)) - set(self.before)
+
+    def test_installs_what_is_listed_and_removes_it(self):
+        targets = {entry.target for entry in entries("plain")}
+        for _ in range(2):
+            found = {path for path in self.installed() if not (self.prefix / path).is_dir()}
+            self.assertEqual(found, targets | {RECORD})
+        self.install("--uninstall")
+        self.assertEqual(contents(self.prefix), self.before)
+        self.install("--uninstall", status=1)
+
+    def test_removes_what_python_made(self):
+        self.installed()
+        run(sys.executable, "-m", "compileall", "-q", self.prefix / "share/chipbench")
+        self.install("--uninstall")
+        self.assertEqual(contents(self.prefix), self.before)
+
+    def test_keeps_files_of_others_in_its_folders(self):
+        self.installed()
+        own = self.prefix / "share/chipbench/editors/own.txt"
+        own.write_text("own\n")
+        self.install("--uninstall")
+        self.assertEqual(own.read_text(), "own\n")
+
+    def test_a_new_prefix_is_removed_too(self):
+        prefix = self.folder / "new"
+        run(TOP / "packaging/chipbench-install", prefix, "--program", given())
+        run(TOP / "packaging/chipbench-install", prefix, "--uninstall")
+        self.assertFalse(prefix.exists())
+
+    def test_modes(self):
+        self.install("--program", given(), umask=0o077)
+        for entry in entries("plain"):
+            mode = (self.prefix / entry.target).stat().st_mode & 0o777
+            self.assertEqual(mode, 0o755 if entry.kind in ("program", "script") else 0o644, entry)
+
+    def test_faulty_arguments(self):
+        for arguments in ([], ["--what"], ["a", "b"], ["a", "--program"]):
+            run(TOP / "packaging/chipbench-install", *arguments, status=2)
+        run(TOP / "packaging/chipbench-install", self.prefix, "--program", self.folder / "none", status=2)
+        self.assertEqual(contents(self.prefix), self.before)
+
+    def test_named_documents_are_there(self):
+        prefix = self.folder / "with-a-dash"
+        run(TOP / "packaging/chipbench-install", prefix, "--program", given())
+        for manual in sorted((prefix / "share/man/man1").iterdir()):
+            names = named_documents(manual.read_text())
+            self.assertEqual([name for name in names if not os.path.isabs(name) or not os.path.isfile(name)], [], manual)
+            self.assertNotEqual(names, [], manual)
+        if program() is None:
+            return
+        printed = run(prefix / "bin/chipbench", "debug", "--help").decode()
+        documents = prefix / DOCUMENTS / "docs"
+        self.assertEqual([name for name in named_documents(printed) if not (documents / pathlib.Path(name).name).is_file()], [])
+
+    def test_links_of_documents_are_there(self):
+        self.installed()
+        top = self.prefix / DOCUMENTS
+        for document in sorted(top.rglob("*.md")):
+            for link in re.findall(r"\]\(([^)#\s]+)[^)]*\)", document.read_text()):
+                target = os.path.relpath(document.parent / link, top)
+                if ":" in link or target.split("/")[0] in REPOSITORY_ALONE:
+                    continue
+                self.assertTrue((top / target).exists(), f"{document}: {link}")
+
+
+class TestLaunchers(unittest.TestCase):
+    """The launchers of an installation and of the repository, by way of links."""
+
+    @classmethod
+    def setUpClass(cls):
+        if program() is None:
+            raise unittest.SkipTest("no program is built")
+        cls.folder = pathlib.Path(tempfile.mkdtemp(prefix="chipbench-package-tests-"))
+        cls.addClassCleanup(shutil.rmtree, cls.folder)
+        run(TOP / "packaging/chipbench-install", cls.folder / "prefix", "--program", program())
+
+    def link(self, target):
+        """A link to a link: the first is relative."""
+        folder = pathlib.Path(tempfile.mkdtemp(dir=self.folder))
+        first, last = folder / "first", folder / "links/last"
+        first.symlink_to(os.path.relpath(target, folder))
+        last.parent.mkdir()
+        last.symlink_to(first)
+        return last
+
+    def test_program_assembles(self):
+        image = self.folder / "bounce.ch8"
+        run(self.link(self.folder / "prefix/bin/chipbench"), "asm", TOP / "examples/bounce.asm", image)
+        self.assertEqual(image.read_bytes(), image_of("bounce"))
+
+    def test_page_answers(self):
+        launcher = self.link(self.folder / "prefix/bin/chipbench-page")
+        with Page(launcher, TOP / "examples/bounce.asm", cwd="/") as page:
+            page.check(self)
+
+    def test_page_of_the_repository_answers(self):
+        launcher = self.link(TOP / "packaging/chipbench-page")
+        with Page(launcher, "--program", program(), cwd="/") as page:
+            page.check(self)
+
+    def test_language_server_answers(self):
+        answers_initialize(self, self.link(self.folder / "prefix/bin/chipbench-lsp"))
+
+    def test_page_says_that_python_is_missing(self):
+        tools = self.folder / "tools"
+        tools.mkdir()
+        for name in ("sh", "dirname", "readlink"):
+            (tools / name).symlink_to(shutil.which(name))
+        done = subprocess.run([self.folder / "prefix/bin/chipbench-page"], env={"PATH": str(tools)}, capture_output=True)
+        self.assertEqual((done.returncode, b"python3" in done.stderr), (127, True))
+
+
+class TestPackages(unittest.TestCase):
+    """The packages of the commit, made twice."""
+
+    @classmethod
+    def setUpClass(cls):
+        missing = [tool for tool in ("dpkg-deb", "strip", "readelf") if shutil.which(tool) is None]
+        if missing or not is_repository():
+            raise unittest.SkipTest(f"no command {missing[0]}" if missing else "git does not know the commit")
+        cls.folder = pathlib.Path(tempfile.mkdtemp(prefix="chipbench-package-tests-"))
+        cls.addClassCleanup(shutil.rmtree, cls.folder)
+        try:
+            cls.printed = package(cls.folder / "one", given())
+        except AssertionError as error:
+            if program() is None and "needs the C library" in str(error):
+                raise unittest.SkipTest(f"no program is built, and {STAND_IN} needs a later C library") from None
+            raise
+
+    def archive(self):
+        return tarfile.open(self.folder / f"one/chipbench-{version()}-x86_64-linux.tar.gz")
+
+    def test_the_same_bytes_twice(self):
+        there = self.folder / "elsewhere"
+        there.mkdir()
+        environment = {**os.environ, "TMPDIR": str(there), "TZ": "Asia/Tokyo", "LC_ALL": "C.UTF-8", "SOURCE_DATE_EPOCH": "1"}
+        package(self.folder / "two", given(), umask=0o077, env=environment, cwd=there)
+        self.assertEqual(contents(self.folder / "one"), contents(self.folder / "two"))
+
+    def test_checksums(self):
+        names = set(contents(self.folder / "one"))
+        debian, archive = f"chipbench_{version()}_amd64.deb", f"chipbench-{version()}-x86_64-linux.tar.gz"
+        self.assertEqual(names, {debian, archive, "SHA256SUMS"})
+        checked = run("sha256sum", "--check", "SHA256SUMS", cwd=self.folder / "one").decode()
+        self.assertEqual(sorted(checked.splitlines()), sorted(f"{name}: OK" for name in (debian, archive)))
+
+    def test_entries_of_the_archive(self):
+        time = int(run("git", "-C", TOP, "log", "-1", "--format=%ct"))
+        top = f"chipbench-{version()}-x86_64-linux"
+        with self.archive() as archive:
+            members = archive.getmembers()
+        owners = {(member.mtime, member.uid, member.gid, member.uname, member.gname) for member in members}
+        self.assertEqual(owners, {(time, 0, 0, "", "")})
+        self.assertEqual({member.mode for member in members}, {0o755, 0o644})
+        files = {member.name for member in members if not member.isdir()}
+        self.assertEqual(files, {f"{top}/{entry.target}" for entry in entries("plain")})
+
+    def test_entries_of_the_debian_package(self):
+        listed = run("dpkg-deb", "--fsys-tarfile", self.folder / f"one/chipbench_{version()}_amd64.deb")
+        (self.folder / "data.tar").write_bytes(listed)
+        with tarfile.open(self.folder / "data.tar") as archive:
+            members = archive.getmembers()
+        self.assertEqual({(member.uid, member.gid) for member in members}, {(0, 0)})
+        files = {member.name for member in members if not member.isdir()}
+        compressed = re.compile(r"share/man/|share/doc/chipbench/changelog$")
+        targets = {entry.target + (".gz" if compressed.match(entry.target) else "") for entry in entries("debian")}
+        self.assertEqual(files, {f"./usr/{target}" for target in targets})
+
+    def test_note(self):
+        commit = run("git", "-C", TOP, "rev-parse", "HEAD").decode().strip()
+        with self.archive() as archive:
+            top = f"chipbench-{version()}-x86_64-linux"
+            note = archive.extractfile(f"{top}/{DOCUMENTS}/BUILD").read().decode()
+        self.assertIn(f"commit: {commit}\n", note)
+        self.assertIn("handed over", note)
+        self.assertIn(f"commit: {commit}\n", self.printed)
+
+    def test_a_program_with_other_libraries_is_refused(self):
+        needed = run("readelf", "-d", sys.executable).decode().count("(NEEDED)")
+        if needed < 2:
+            self.skipTest("no program with other libraries is known here")
+        run(TOP / "packaging/chipbench-package", "--program", sys.executable, "--output", self.folder / "three", status=1)
+        self.assertFalse((self.folder / "three").exists())
