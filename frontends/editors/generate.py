@@ -6,15 +6,20 @@
 
 The words of the language come from crates/chip_lang (src/form.rt, specs/Keyword.antt, src/statement.rt), those of the
 command line from crates/chip_arguments/src (arguments.rt, commands.rt), the names of the profiles from
-crates/chip_machine/src (profile.rt).
+crates/chip_machine/src (profile.rt), and the options of chipbench-page and chipbench-lsp from their parsers.
 """
+import argparse
+import importlib
 import json
 import pathlib
 import re
 import sys
 
+sys.dont_write_bytecode = True
 HERE = pathlib.Path(__file__).resolve().parent
 CRATES = HERE.parents[1] / "crates"
+# the launchers with a parser of their own: its module, and the folder from which that is imported
+LAUNCHERS = {"chipbench-page": ("bridge", "page"), "chipbench-lsp": ("chipbench_lsp.__main__", "python")}
 # a command of the shell that prints all codes
 CODES = "chipbench explain 2>/dev/null | cut -d ' ' -f 1"
 
@@ -70,6 +75,21 @@ class Command:
         taken = [arguments[re.sub(r"(?<!^)(?=[A-Z])", "_", name).lower()] for name in re.findall(r"Argument::(\w+)", listed)]
         self.options = [argument for argument in taken if argument.long]
         self.places = [argument.value for argument in taken if not argument.long]
+
+
+class Option:
+    """An option of a launcher, as its parser has it."""
+
+    def __init__(self, action):
+        self.long, self.value, self.help = action.option_strings[-1].removeprefix("--"), action.metavar, action.help
+
+
+def launched(name):
+    """The options of a launcher."""
+    module, folder = LAUNCHERS[name]
+    sys.path.insert(0, str(HERE.parent / folder))
+    actions = importlib.import_module(module).parser()._actions
+    return [Option(action) for action in actions if action.option_strings and action.help != argparse.SUPPRESS]
 
 
 class Words:
@@ -133,6 +153,36 @@ def bash(words):
     ])
 
 
+def short(option):
+    """What an option does, in a few words."""
+    return option.help.split(",")[0].split(" [")[0].split(" (default")[0]
+
+
+def bash_launcher(name):
+    options = launched(name)
+    function = "_" + name.replace("-", "_")
+    choices = [f'        --{option.long}) COMPREPLY=($(compgen -W "{CHOICES[option.long]}" -- "$word")); return ;;'
+               for option in options if option.long in CHOICES]
+    untold = " | ".join(f"--{option.long}" for option in options
+                        if option.value not in (None, "FILE", "PATH") and option.long not in CHOICES)
+    return "\n".join([
+        f"# Completion of {name}'s options for bash; made by frontends/editors/generate.py.",
+        f"{function}() {{",
+        "    local word=${COMP_WORDS[COMP_CWORD]} before=${COMP_WORDS[COMP_CWORD-1]}",
+        "    case $before in",
+        *choices,
+        *([f"        {untold}) return ;;"] if untold else []),
+        "    esac",
+        "    case $word in",
+        f"        -*) COMPREPLY=($(compgen -W \"{' '.join('--' + option.long for option in options)}\" -- \"$word\")) ;;",
+        '        *) COMPREPLY=($(compgen -f -- "$word")) ;;',
+        "    esac",
+        "}",
+        f"complete -o filenames -F {function} {name}",
+        "",
+    ])
+
+
 def quoted(text):
     return "'" + text.replace("'", "'\\''") + "'"
 
@@ -150,14 +200,27 @@ def zsh(words):
             lines.append(f"            compadd -- $({CODES}) ;;")
             continue
         rest = ["'*:file:_files'"] if command.places else []
-        for option in command.options:
-            text = re.sub(r"[\[\]:]", " ", option.help.split(",")[0].split(" [")[0])
-            action = f":name:({CHOICES[option.long]})" if option.long in CHOICES else (
-                ":file:_files" if option.value == "FILE" else f":{option.value}:" if option.value else "")
-            rest.append(quoted(f"--{option.long}[{text}]{action}"))
+        rest += zsh_options(command.options)
         lines.append("            _arguments " + " \\\n                ".join(rest) + " ;;")
     lines += ["    esac", "}", "", '_chipbench "$@"', ""]
     return "\n".join(lines)
+
+
+def zsh_options(options):
+    """The specifications of options: in brackets what each does, in which a bracket has a backslash."""
+    made = []
+    for option in options:
+        text = re.sub(r"([\[\]\\])", r"\\\1", short(option))
+        action = f":name:({CHOICES[option.long]})" if option.long in CHOICES else (
+            ":file:_files" if option.value in ("FILE", "PATH") else f":{option.value}:" if option.value else "")
+        made.append(quoted(f"--{option.long}[{text}]{action}"))
+    return made
+
+
+def zsh_launcher(name):
+    specifications = ["'*:file:_files'", *zsh_options(launched(name))]
+    return "\n".join([f"#compdef {name}", f"# Completion of {name}'s options for zsh; made by frontends/editors/generate.py.", "",
+                      "_arguments " + " \\\n    ".join(specifications), ""])
 
 
 def fish(words):
@@ -168,14 +231,23 @@ def fish(words):
     takers = {}
     for command in words.commands:
         for option in command.options:
-            text = quoted(option.help.split(",")[0].split(" [")[0])
-            value = f" -x -a '{CHOICES[option.long]}'" if option.long in CHOICES else (
-                " -r" if option.value == "FILE" else " -x" if option.value else "")
-            takers.setdefault(f"-l {option.long}{value} -d {text}", []).append(command.name)
+            takers.setdefault(fish_option(option), []).append(command.name)
     takers[f"-f -a {quoted('(' + CODES + ')')}"] = ["explain"]
     for words_after, names in takers.items():
         lines.append(f"complete -c chipbench -n '__fish_seen_subcommand_from {' '.join(names)}' {words_after}")
     return "\n".join(lines + [""])
+
+
+def fish_option(option):
+    value = f" -x -a '{CHOICES[option.long]}'" if option.long in CHOICES else (
+        " -r" if option.value in ("FILE", "PATH") else " -x" if option.value else "")
+    return f"-l {option.long}{value} -d {quoted(short(option))}"
+
+
+def fish_launcher(name):
+    lines = [f"# Completion of {name}'s options for fish; made by frontends/editors/generate.py."]
+    lines += [f"complete -c {name} {fish_option(option)}" for option in launched(name)]
+    return "\n".join([*lines, ""])
 
 
 def roff(text):
@@ -287,6 +359,9 @@ def files():
         "_chipbench": zsh(words),
         "chipbench.fish": fish(words),
         "chipbench.1": manual(words),
+        **{f"{name}.bash": bash_launcher(name) for name in LAUNCHERS},
+        **{f"_{name}": zsh_launcher(name) for name in LAUNCHERS},
+        **{f"{name}.fish": fish_launcher(name) for name in LAUNCHERS},
         "vim/syntax/chip8.vim": vim(language),
         "chip8.tmLanguage.json": textmate(language),
         "vscode/syntaxes/chip8.tmLanguage.json": textmate(language),

@@ -171,7 +171,7 @@ def asked(program, code, folder, *options):
     keys.unlink(missing_ok=True)
     settings = ["--rate", str(RATE), "--tape", TAPE, "--keys-allowed", ",".join(map(str, KEYS))]
     ran = program.run(["explore", "--image", "image", "--steps", str(STEPS), *settings, "--keys-to", "keys", *options], b"", folder)
-    lines = [line for line in keys.read_text().splitlines() if line[:1].isdigit()] if keys.exists() else []
+    lines = [line for line in keys.read_text(encoding="utf-8").splitlines() if line[:1].isdigit()] if keys.exists() else []
     answer = ran.stdout.decode().splitlines()
     below = next((place + 1 for place, line in enumerate(answer) if line.startswith("states ")), len(answer))
     return answer[:below], answer[below:], lines

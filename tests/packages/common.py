@@ -80,8 +80,8 @@ def is_repository():
 
 def image_of(example):
     """The image of an example, as its transcript has it."""
-    script = (TOP / f"examples/{example}.script").read_text().splitlines()
-    answers = (TOP / f"examples/{example}.out").read_text().splitlines()
+    script = (TOP / f"examples/{example}.script").read_text(encoding="utf-8").splitlines()
+    answers = (TOP / f"examples/{example}.out").read_text(encoding="utf-8").splitlines()
     assert script[:2] == ["faults", "image"] and answers[0] == "."
     return bytes.fromhex(answers[1])
 

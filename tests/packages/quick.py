@@ -26,13 +26,13 @@ def given():
 
 def omitted():
     """The files and folders that the list leaves out."""
-    lines = (TOP / "packaging/files").read_text().splitlines()
+    lines = (TOP / "packaging/files").read_text(encoding="utf-8").splitlines()
     return [line.split()[1] for line in lines if line.startswith("omit ")]
 
 
 def ported_crates(crate):
     """The crates of the kit that a crate of the repository stands on."""
-    lines = (TOP / "crates.txt").read_text().splitlines()
+    lines = (TOP / "crates.txt").read_text(encoding="utf-8").splitlines()
     below = {name: rest.split() for name, _, rest in (line.partition(":") for line in lines if not line.startswith("#"))}
     found, waiting = set(), [crate]
     while waiting:
@@ -67,19 +67,19 @@ class TestList(unittest.TestCase):
         self.assertEqual(plain, debian)
 
     def test_changelog_begins_with_the_version(self):
-        first = (TOP / "packaging/changelog").read_text().splitlines()[0]
+        first = (TOP / "packaging/changelog").read_text(encoding="utf-8").splitlines()[0]
         self.assertEqual(re.match(r"chipbench \((.*?)\) ", first).group(1), version())
 
     def test_copyright_has_the_licence_and_the_crates(self):
-        text = (TOP / "packaging/copyright").read_text()
-        licence = (TOP / "LICENSE").read_text().split("\n\n", 2)[2]
+        text = (TOP / "packaging/copyright").read_text(encoding="utf-8")
+        licence = (TOP / "LICENSE").read_text(encoding="utf-8").split("\n\n", 2)[2]
         lines = [line.strip() for line in text.split("License: Expat\n")[-1].splitlines()]
         self.assertEqual([line for line in licence.splitlines() if line], [line for line in lines if line != "."])
         named = {name for line in re.findall(r"^Files: (.*)", text, re.M) for name in line.split()}
         self.assertEqual(named - {"*"}, ported_crates("chipbench"))
 
     def test_manual_of_the_page_has_its_options(self):
-        manual = (TOP / "packaging/chipbench-page.1").read_text().replace("\\-", "-")
+        manual = (TOP / "packaging/chipbench-page.1").read_text(encoding="utf-8").replace("\\-", "-")
         printed = run(sys.executable, "-B", TOP / "frontends/page/bridge.py", "--help").decode()
         for option in set(re.findall(r"--[a-z-]+", printed)):
             self.assertRegex(manual, rf"(?m)^\.B .*{option}\b")
@@ -124,7 +124,7 @@ class TestInstall(unittest.TestCase):
         own = self.prefix / "share/chipbench/editors/own.txt"
         own.write_text("own\n")
         self.install("--uninstall")
-        self.assertEqual(own.read_text(), "own\n")
+        self.assertEqual(own.read_text(encoding="utf-8"), "own\n")
 
     def test_a_new_prefix_is_removed_too(self):
         prefix = self.folder / "new"
@@ -148,7 +148,7 @@ class TestInstall(unittest.TestCase):
         prefix = self.folder / "with-a-dash"
         run(TOP / "packaging/chipbench-install", prefix, "--program", given())
         for manual in sorted((prefix / "share/man/man1").iterdir()):
-            names = named_documents(manual.read_text())
+            names = named_documents(manual.read_text(encoding="utf-8"))
             self.assertEqual([name for name in names if not os.path.isabs(name) or not os.path.isfile(name)], [], manual)
             self.assertNotEqual(names, [], manual)
         if program() is None:
@@ -161,7 +161,7 @@ class TestInstall(unittest.TestCase):
         self.installed()
         top = self.prefix / DOCUMENTS
         for document in sorted(top.rglob("*.md")):
-            for link in re.findall(r"\]\(([^)#\s]+)[^)]*\)", document.read_text()):
+            for link in re.findall(r"\]\(([^)#\s]+)[^)]*\)", document.read_text(encoding="utf-8")):
                 target = os.path.relpath(document.parent / link, top)
                 if ":" in link or target.split("/")[0] in REPOSITORY_ALONE:
                     continue

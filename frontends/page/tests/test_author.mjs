@@ -4,6 +4,7 @@ import assert from 'node:assert/strict';
 import { readFileSync } from 'node:fs';
 import test from 'node:test';
 
+import './older_node.mjs';
 import { Breakpoints } from '../static/breakpoints.mjs';
 import { columnOf, indentAfter, outdentLength, placeOf } from '../static/columns.mjs';
 import { completionsOf } from '../static/completion.mjs';

@@ -4,6 +4,7 @@ import assert from 'node:assert/strict';
 import { readdirSync, readFileSync } from 'node:fs';
 import test from 'node:test';
 
+import './older_node.mjs';
 import * as answers from '../static/answers.mjs';
 import { codeText } from '../static/codes.mjs';
 import { keyCommands, KeyScript, readKeys, writeKeys } from '../static/key_script.mjs';

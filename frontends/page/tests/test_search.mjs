@@ -3,6 +3,7 @@
 import assert from 'node:assert/strict';
 import test from 'node:test';
 
+import './older_node.mjs';
 import { hex } from '../static/answers.mjs';
 import { findStep, NoSuchStep, SearchStopped, subject } from '../static/finder.mjs';
 

@@ -12,14 +12,18 @@ sys.path.insert(0, str(Path(__file__).resolve().parent.parent))
 from chipbench_lsp.server import serve  # noqa: E402
 
 
-def main(arguments: list[str]) -> NoReturn:
-    parser = argparse.ArgumentParser(
+def parser() -> argparse.ArgumentParser:
+    words = argparse.ArgumentParser(
         prog="chipbench-lsp", description="A language server for sources of chipbench, on standard input and output."
     )
     which = "the program chipbench; by default $CHIPBENCH, the one beside the server, or the one on the PATH"
-    parser.add_argument("--program", metavar="PATH", help=which)
-    parser.add_argument("--stdio", action="store_true", help="does nothing: standard input and output are used in any case")
-    serve(parser.parse_args(arguments).program)
+    words.add_argument("--program", metavar="PATH", help=which)
+    words.add_argument("--stdio", action="store_true", help="does nothing: standard input and output are used in any case")
+    return words
+
+
+def main(arguments: list[str]) -> NoReturn:
+    serve(parser().parse_args(arguments).program)
 
 
 if __name__ == "__main__":

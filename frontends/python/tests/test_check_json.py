@@ -3,6 +3,7 @@
 from __future__ import annotations
 
 import json
+import os
 import re
 import subprocess
 import sys
@@ -68,7 +69,7 @@ def read_text(printed: bytes, name: bytes) -> list[dict[str, Any]]:
 
 
 class CheckAsJson(NeedsWords):
-    def printed(self, *words: str, source: bytes = b"", folder: str | None = None) -> tuple[int, bytes]:
+    def printed(self, *words: str | bytes, source: bytes = b"", folder: str | None = None) -> tuple[int, bytes]:
         ran = subprocess.run([self.program, "check", *words], input=source, capture_output=True, cwd=folder)
         self.assertEqual(ran.stderr, b"")
         return ran.returncode, ran.stdout
@@ -129,8 +130,10 @@ class CheckAsJson(NeedsWords):
     def test_names_of_files_are_escaped(self) -> None:
         for name in ('a "quote".asm', "a\\b.asm", "tab\there.asm", "two\nlines.asm", "\x01\x1f\x7f.asm", "é😀.asm"):
             with tempfile.TemporaryDirectory() as folder:
-                Path(folder, name).write_bytes(b"LD V0, none\n")
-                status, printed = self.printed("--json", name, folder=folder)
+                # the bytes of the name, since Python may know names of ASCII alone
+                with open(os.path.join(os.fsencode(folder), name.encode()), "wb") as source:
+                    source.write(b"LD V0, none\n")
+                status, printed = self.printed("--json", name.encode(), folder=folder)
                 self.assertEqual((status, [one["file"] for one in self.objects_of_any_escape(printed)]), (1, [name]))
 
     def objects_of_any_escape(self, printed: bytes) -> list[dict[str, Any]]:

@@ -8,6 +8,7 @@ import re
 import signal
 import subprocess
 import sys
+import tempfile
 import unittest
 import unittest.mock
 from pathlib import Path
@@ -222,10 +223,9 @@ class Endings(Opened):
             Bench("CLS", program="/nowhere")
 
     def test_no_file_is_left(self) -> None:
-        folder = os.environ.get("TMPDIR", "/tmp")
-        before = {name for name in os.listdir(folder) if name.startswith("chipbench-")}
-        self.bench().close()
-        self.assertLessEqual({name for name in os.listdir(folder) if name.startswith("chipbench-")}, before)
+        with tempfile.TemporaryDirectory() as folder, unittest.mock.patch.object(tempfile, "tempdir", folder):
+            self.bench().close()
+            self.assertEqual(os.listdir(folder), [])
 
     def test_two_sources_are_refused(self) -> None:
         with self.assertRaises(ValueError):
