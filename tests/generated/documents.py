@@ -1,6 +1,6 @@
 """The examples of the documents: what they say is answered is what the program answers.
 
-docs/FORMATS.md has a source and a session for each command, docs/LANGUAGE.md a source for each fault. README.md and
+docs/FORMATS.md has sessions in which each command stands, docs/LANGUAGE.md a source for each fault. README.md and
 docs/GUIDE.md are replayed by tools/guide.
 """
 import pathlib
@@ -42,10 +42,22 @@ def session(file, lines):
 
 
 def sessions_of_formats():
-    lines = section("docs/FORMATS.md", "## An example of each command")
-    starts = [at for at, (_, line) in enumerate(lines) if line.startswith("### ")] + [len(lines)]
+    lines = section("docs/FORMATS.md", "### An example of each command")
+    starts = [at for at, (_, line) in enumerate(lines) if line.startswith("#### ")] + [len(lines)]
     for start, end in zip(starts, starts[1:]):
-        yield lines[start][1][4:], session("docs/FORMATS.md", block(lines[start:end]))
+        yield lines[start][1][5:], session("docs/FORMATS.md", block(lines[start:end]))
+
+
+def commands_of_formats():
+    """The words of the table of commands."""
+    rows = [line for _, line in section("docs/FORMATS.md", "## Scripts") if line.startswith("| `")]
+    return {word for row in rows for word in re.findall(r"`([a-z]+)", row.split(" | ")[0])}
+
+
+def commands_without_example(sessions):
+    shown = {command.text.split(" ")[0] for _, it in sessions for command in it.commands}
+    left = sorted(commands_of_formats() - shown)
+    return f"no example has {left}" if left else ""
 
 
 def fault_examples():
@@ -75,7 +87,8 @@ def wrong_count(what, found, least):
 
 def checks(program):
     sessions, faults = list(sessions_of_formats()), list(fault_examples())
-    yield "docs/FORMATS.md has examples", lambda: wrong_count("examples", len(sessions), 15)
+    yield "docs/FORMATS.md has 14 commands", lambda: wrong_count("commands", len(commands_of_formats()), 14)
+    yield "docs/FORMATS.md has examples", lambda: commands_without_example(sessions)
     yield "docs/LANGUAGE.md has examples", lambda: wrong_count("examples", len(faults), 16)
     for name, shown in sessions:
         yield f"docs/FORMATS.md, {name}", lambda it=shown: wrong_session(program, it)
