@@ -85,6 +85,66 @@ class TestList(unittest.TestCase):
             self.assertRegex(manual, rf"(?m)^\.B .*{option}\b")
 
 
+class TestRelease(unittest.TestCase):
+    """The released program beside a copy of the sources: what the gate refuses, and what ./chipbench runs."""
+
+    def setUp(self):
+        if not (TOP / "release").is_dir():
+            self.skipTest("there is no release/")
+        self.top = pathlib.Path(tempfile.mkdtemp(prefix="chipbench-package-tests-"))
+        self.addCleanup(shutil.rmtree, self.top)
+        for folder in ("crates", "packaging", "release"):
+            shutil.copytree(TOP / folder, self.top / folder, ignore=shutil.ignore_patterns("out", "__pycache__"))
+        for file in ("chipbench", "crates.txt", "HANDLES"):
+            shutil.copy(TOP / file, self.top)
+
+    def check(self, status):
+        return run(self.top / "packaging/release", "--check", status=status).decode()
+
+    def change(self, name):
+        """Turns the last bit of a file's last byte."""
+        place = self.top / name
+        content = place.read_bytes()
+        place.write_bytes(content[:-1] + bytes([content[-1] ^ 1]))
+
+    def test_is_of_these_sources(self):
+        self.assertIn("1 passed, 0 failed", self.check(0))
+        shutil.rmtree(self.top / "release")
+        self.assertIn("1 passed, 0 failed", self.check(0))
+
+    def test_a_changed_byte_is_refused(self):
+        self.change("release/chipbench")
+        self.assertIn("0 passed, 1 failed", self.check(1))
+
+    def test_a_changed_source_is_refused(self):
+        self.change("crates/chip_pages/src/pages.rt")
+        self.assertIn("0 passed, 1 failed", self.check(1))
+
+    def first(self, **options):
+        """The first run of ./chipbench without the toolchain, and what it said."""
+        tools = self.top / "tools"
+        tools.mkdir(exist_ok=True)
+        for name in ("sh", "dirname", "readlink", "find", "sort", "xargs", "sha256sum", "sed", "mkdir", "install", "mv", "rm", "tail"):
+            if not (tools / name).exists():
+                (tools / name).symlink_to(shutil.which(name))
+        done = subprocess.run([self.top / "chipbench", "--version"], env={"PATH": str(tools)}, capture_output=True, text=True, **options)
+        return done.returncode, version() in done.stdout, done.stderr.count("\n")
+
+    def test_a_fresh_clone_runs_it_and_says_so_once(self):
+        self.assertEqual([self.first(), self.first()], [(0, True, 1), (0, True, 0)])
+        self.assertEqual(run(self.top / "packaging/program").decode(), "released\n")
+
+    def test_another_source_needs_the_toolchain(self):
+        self.change("crates/chip_pages/src/pages.rt")
+        self.assertEqual(self.first()[0], 127)
+
+    def test_a_program_of_which_nothing_is_known_is_not_installed(self):
+        self.first()
+        self.change("crates/chipbench/out/chipbench")
+        self.assertEqual(run(self.top / "packaging/program").decode(), "unknown\n")
+        run(self.top / "packaging/find-program", status=1)
+
+
 class TestInstall(unittest.TestCase):
     """An installation in a folder that has files of its own."""
 
