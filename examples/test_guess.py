@@ -10,7 +10,7 @@ from pathlib import Path
 import pytest
 
 FOLDER = Path(__file__).resolve().parent
-sys.path.insert(0, str(FOLDER.parent / "python"))
+sys.path.insert(0, str(FOLDER.parent / "frontends/python"))
 
 from chipbench import Bench, Refused  # noqa: E402
 
