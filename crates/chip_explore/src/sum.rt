@@ -79,13 +79,24 @@ fn stored_sum(machine: &Machine) -> u64 {
     sum
 }
 
+/// The number of some parts: I at bit 0, the screen at bit 1, and register x at bit x + 2.
+fn number_of(parts: Forgotten) -> u64 {
+    let mut number = u64::from(parts.has_index()) + 2 * u64::from(parts.has_screen());
+    for register in 0..16u8 {
+        if parts.has_register(register) {
+            number |= 4 << register;
+        }
+    }
+    number
+}
+
 /// The sums of a state.
 #[derive(Clone, Copy)]
 pub(crate) struct Sums {
     /// That of the memory, the screen, the frames and the flag registers.
     pub(crate) backdrop: u64,
-    /// That of all that later steps depend on, but for some parts that are forgotten, with the part
-    /// of the step's number on which the ticks depend.
+    /// That of all that later steps depend on, but for some parts that are forgotten, with which parts
+    /// these are, and the part of the step's number on which the ticks depend.
     pub(crate) state: u64,
 }
 
@@ -94,7 +105,7 @@ impl Sums {
     pub(crate) fn of(machine: &Machine, forgotten: Forgotten, phase: u64) -> Sums {
         let stored = stored_sum(machine);
         let screen = screen_sum(machine);
-        let mut state = add(stored, phase);
+        let mut state = add(add(stored, phase), number_of(forgotten));
         if !forgotten.has_screen() {
             state = add(state, screen);
         }
