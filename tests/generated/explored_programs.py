@@ -35,8 +35,6 @@ WARNED_PROGRAMS = 150
 NOWHERE = "#FFF"
 # a program with more states at one step is left out
 MOST_STATES = 300
-# how far steps that read no keys are followed after the last one
-QUIET_STEPS = 200
 
 
 def emulator():
@@ -115,9 +113,8 @@ def shown(machine):
 
 
 def searched(code):
-    """What keys can do up to STEPS: the first step at which some stop the program, by the cause's number; the first step that is made
-    at an address, by the address; and the addresses at which steps are made after STEPS, up to the next that reads keys, or None where
-    there are many. None for too many states."""
+    """What keys can do up to STEPS: the first step at which some stop the program, by the cause's number, and the first step that is
+    made at an address, by the address. None for too many states."""
     states, first, made = [EMULATED.Machine(code, False, bytes.fromhex(TAPE), None)], {}, {}
     for step in range(1, STEPS + 2):
         later = {}
@@ -134,23 +131,7 @@ def searched(code):
         states = list(later.values())
         if len(states) > MOST_STATES:
             return None
-    return first, made, made_after(states)
-
-
-def made_after(states):
-    """The addresses at which these states, after STEPS + 1, make steps up to the next that reads keys; None where that takes long."""
-    addresses = set()
-    for state in states:
-        for step in range(STEPS + 2, STEPS + 2 + QUIET_STEPS):
-            if state.stopped:
-                break
-            addresses.add(state.pc)
-            if len(masks(state)) > 1:
-                break
-            state.step(0, step % RATE == 0)
-        else:
-            return None
-    return addresses
+    return first, made
 
 
 def replayed(code, lines, step):
@@ -183,11 +164,8 @@ def wrong_answer(answer, keys, code, first):
     head = answer[0].split() if answer else []
     seen = {int(line[1]): int(line.split()[1]) for line in answer[1:] if line[:1] == "S"}
     if not wanted:
-        if head == ["never"] or head[:1] == ["within"] and int(head[1]) >= STEPS:
-            early = {number: step for number, step in seen.items() if step <= STEPS}
-            return "" if early == first else f"met {early}, and not {first}"
-        if head[:1] and head[0][0] == "S" and int(head[1]) > STEPS:
-            return ""
+        if head == ["never"] or head == ["within", str(STEPS)]:
+            return "" if seen == first else f"met {seen}, and not {first}"
         return f"{answer} where no keys stop it"
     step = min(wanted.values())
     if len(head) != 2 or head[0][0] != "S" or int(head[1]) != step or wanted.get(int(head[0][1])) != step:
@@ -198,7 +176,7 @@ def wrong_answer(answer, keys, code, first):
     return "" if stop == int(head[0][1]) else f"{answer}, but its keys lead to {stop}"
 
 
-def wrong_marks(listing, answer, made, after):
+def wrong_marks(listing, answer, made):
     """What is wrong with the marks of a listing, where steps are made at these addresses."""
     rows = [(int(line[7:11], 16), line.startswith("+ ")) for line in listing if line[7:11] != "----" and line[12:13] not in ("", " ", "=")]
     marked = {address for address, is_marked in rows if is_marked}
@@ -208,8 +186,8 @@ def wrong_marks(listing, answer, made, after):
     left_out = sorted(address for address in unmarked if made.get(address, STEPS + 1) <= last)
     if left_out:
         return f"{left_out} are executed, and have no mark"
-    if after is not None and not marked <= made.keys() | after:
-        return f"{sorted(marked - made.keys() - after)} are marked, and not executed"
+    if not marked <= made.keys():
+        return f"{sorted(marked - made.keys())} are marked, and not executed"
     return "" if marked else "no line is marked"
 
 
@@ -226,9 +204,9 @@ def wrong_group(program, numbers):
     """What is wrong with the answers for some programs, with `--deep` too where their numbers are low."""
     deep = 0
     with tempfile.TemporaryDirectory() as folder:
-        for number, code, (first, made, after) in searched_programs(numbers):
+        for number, code, (first, made) in searched_programs(numbers):
             answer, listing, keys = asked(program, code, folder, "--cover")
-            wrong = wrong_answer(answer, keys, code, first) or wrong_marks(listing, answer, made, after)
+            wrong = wrong_answer(answer, keys, code, first) or wrong_marks(listing, answer, made)
             if not wrong and number < DEEP_PROGRAMS:
                 answer, _, keys = asked(program, code, folder, "--states", str(FEW_STATES), "--deep")
                 deep += answer[0][:1] == "S" and any(line.startswith("within ") for line in answer)
@@ -246,12 +224,12 @@ def wrong_deep_answer(answer, keys, code, first):
     covered = next((int(line.split()[1]) for line in answer if line.startswith("within ")), None)
     if head == ["never"]:
         return "" if wanted > STEPS else f"{answer}, and keys stop it at {wanted}"
-    if covered is not None and min(covered, STEPS) >= wanted:
+    if covered is not None and not covered < wanted:
         return f"{answer}, and keys stop it at {wanted}"
     if head[0] == "within":
-        return ""
+        return "" if covered <= STEPS else f"{answer}, past the last step"
     step = int(head[1])
-    if covered is None and min(step, STEPS + 1) != wanted or covered is not None and covered >= step:
+    if step > STEPS or covered is None and step != wanted or covered is not None and covered >= step:
         return f"{answer}, and keys stop it at {wanted} first"
     if answer[1] != f"keys {len(keys)}":
         return f"{answer} and {len(keys)} keys"

@@ -4,13 +4,16 @@
 --                     but allowed keys down before it
 --     IsFound         so it does, and under no key script does it meet the target at an earlier step
 --     IsFirst         no answer with a step at which the target may be met earlier
+--     EndsBy          no answer with a step past the last one that was asked for: what it says of a
+--                     script, and how far it says that none leads there, ends by that one; only never
+--                     speaks of all steps
 --     Answers         found; later: the target is met, and avoided up to another step; within n:
 --                     avoided up to step n; never: avoided up to each step below the end
 --     AreExecuted     what is said of the addresses that a search saw executed: under no key script
 --                     does the machine make a step at another one, before the step at which the
 --                     target was found; up to the step to which it is avoided; at any step below the
 --                     end
-use Rattle.std.specs.Prelude.{◌≡◌, ℕ, ◌<◌, Some, Bool, List}
+use Rattle.std.specs.Prelude.{◌≡◌, ℕ, ◌<◌, ◌≤◌, Some, Bool, List}
 use Rattle.chip_machine.specs.Choices.{IsWithin}
 use Rattle.chip_machine.specs.State.{State}
 use Rattle.chip_machine.specs.Step.{step_of}
@@ -37,6 +40,12 @@ pub record IsFound (rate allowed : ℕ) (target : Target) (start : State) (event
 abbrev pub IsFirst : Outcome → Type 0
 IsFirst (Later events step met covered) = ⊥
 IsFirst outcome = Unit {0}
+
+abbrev pub EndsBy : (last : ℕ) → Outcome → Type 0
+EndsBy last (Found events step met) = step ≤ last
+EndsBy last (Later events step met covered) = step ≤ last × covered ≤ last
+EndsBy last (Within n) = n ≤ last
+EndsBy last Never = Unit {0}
 
 abbrev pub Answers : (rate allowed : ℕ) → Target → State → Outcome → Type 0
 Answers rate allowed target start (Found events step met) =

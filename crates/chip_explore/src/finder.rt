@@ -3,7 +3,7 @@
 
 use crate::guesses::Guesses;
 use crate::leg::Runner;
-use crate::limits::{END, MOST_PRESSES};
+use crate::limits::MOST_PRESSES;
 use crate::seen::Seen;
 use chip_machine::Forgotten;
 use chip_replay::LAST_STEP;
@@ -113,12 +113,12 @@ impl Finder {
         }
     }
 
-    /// The step at which each run is left. Where the greatest step comes first, it is the end of the
-    /// steps that are asked for, and of those that a script may have.
-    pub(crate) fn limit(&self, most_steps: u64) -> u64 {
+    /// The step at which each run is left: the end of the steps that are asked for, and, where the
+    /// greatest step comes first, of those that a script may have.
+    pub(crate) fn end(&self, steps: u64) -> u64 {
         match self.order {
-            Order::LeastStep => END,
-            Order::GreatestStep => most_steps.min(u64::from(LAST_STEP) + 1),
+            Order::LeastStep => steps,
+            Order::GreatestStep => steps.min(u64::from(LAST_STEP) + 1),
         }
     }
 

@@ -8,6 +8,7 @@ ghost use Rattle.chip_explore.specs.inner.Cover.{phase, view_of, AreWithin, Hold
 
 use crate::executed::Executed;
 use crate::kept::{Base, Kept};
+use crate::limits::END;
 use crate::setting::Setting;
 use chip_machine::{Forgotten, Machine};
 use std::alloc::{AllocError, Global};
@@ -45,15 +46,9 @@ impl Drop for Members {
 }
 
 impl Members {
-    /// No state is kept yet.
-    pub(crate) fn new(
-        alloc: Global,
-        start: &Machine,
-        base: Base,
-        limit: u64,
-    ) -> Result<Members, AllocError>
+    /// No state is kept yet, and the search speaks of all steps.
+    pub(crate) fn new(alloc: Global, start: &Machine, base: Base) -> Result<Members, AllocError>
         ensures start { IfOk result (λ members. members.start ≡ start.now) }
-        ensures limit { IfOk result (λ members. members.limit ≡ limit) }
         ensures empty { IfOk result (λ members. members.steps.items ≡ []) }
         ensures none_closed { IfOk result (λ members. members.closed.items ≡ []) }
         ensures no_states { IfOk result (λ members. members.states.items ≡ []) }
@@ -70,7 +65,7 @@ impl Members {
             forgotten: Vec::new(alloc),
             steps: Vec::new(alloc),
             closed: Vec::new(alloc),
-            limit,
+            limit: END,
             executed,
         })
     }

@@ -1,8 +1,8 @@
 //! A question about all key scripts, and its answer.
 
-ghost use Rattle.std.specs.Prelude.{◌≡◌, ◌<◌, None, IfOk, IfSome, IsSome, true, false};
+ghost use Rattle.std.specs.Prelude.{◌≡◌, ◌<◌, ◌≤◌, ◌+◌, ◌-◌, min, None, IfOk, IfSome, IsSome, true, false};
 ghost use Rattle.chip_machine.specs.State.{IsProper};
-ghost use Rattle.chip_explore.specs.Answers.{Answers, AreExecuted, IsFirst};
+ghost use Rattle.chip_explore.specs.Answers.{Answers, AreExecuted, EndsBy, IsFirst};
 ghost use Rattle.chip_explore.specs.Executed.{StaysAmong, is_at_one};
 ghost use Rattle.chip_explore.specs.inner.Deep.{later_of};
 ghost use Rattle.chip_explore.specs.declared.question.Outcome.TheVariants.{Within};
@@ -44,7 +44,7 @@ pub struct Question {
 /// How far a search goes.
 #[derive(Clone, Copy)]
 pub struct Bounds {
-    /// No state is taken up at this step or a later one.
+    /// The search ends at this step: no answer speaks of it or of a later one, but for `Never`.
     pub steps: u64,
     /// None is taken up once more than so many are kept.
     pub states: usize,
@@ -90,6 +90,15 @@ pub struct Explored {
     pub executed: Executed,
     /// Whether memory ran out before the search was done, so that the outcome may say less.
     pub is_short: bool,
+}
+
+impl Bounds {
+    /// The last step of which an answer speaks.
+    fn last(&self) -> u64
+        ensures { result ≡ self.now.steps - 1 }
+    {
+        self.steps.saturating_sub(1)
+    }
 }
 
 impl Outcome {
@@ -154,6 +163,8 @@ impl Explored {
     fn deepened_by(self, deep: Explored, covered: u64) -> Explored
         ensures outcome { result.outcome ≡ later_of covered deep.outcome }
         ensures executed { result.executed ≡ self.executed }
+        ensures seen { result.seen ≡ deep.seen }
+        ensures states { result.states ≡ min (self.states + deep.states) usize.MAX }
     {
         Explored {
             seen: deep.seen,
@@ -169,13 +180,14 @@ impl Explored {
     fn covered_where_full(&self, bounds: &Bounds) -> Option<u64>
         ensures within { IfSome result (λ covered. self.now.outcome ≡ Within covered) }
         ensures deep { IsSome result → bounds.now.is_deep ≡ true }
+        ensures full { IsSome result → bounds.now.states < self.now.states }
     {
         match self.outcome {
             Outcome::Within(covered)
                 if bounds.is_deep
                     && !self.is_short
                     && bounds.states < self.states
-                    && covered < bounds.steps => { Some(covered) }
+                    && covered < bounds.last() => { Some(covered) }
             _ => None,
         }
     }
@@ -198,6 +210,7 @@ pub fn explore<W: Watcher>(
     ensures executed { AreExecuted question.now.rate question.now.allowed result.executed start.now
         result.outcome }
     ensures first { bounds.now.is_deep ≡ false → IsFirst result.outcome }
+    ensures ends { EndsBy (bounds.now.steps - 1) result.outcome }
 {
     if let Some(met) = question.target.met_in(start) {
         let outcome = Outcome::Found {
@@ -253,10 +266,12 @@ fn deepened<W: Watcher>(
         covered }
     requires stays { StaysAmong setting.now.rate setting.now.allowed first.executed start.now
         covered }
+    requires short { covered ≤ bounds.now.steps - 1 }
     ensures answers { Answers setting.now.rate setting.now.allowed setting.now.target start.now
         result.outcome }
     ensures executed { AreExecuted setting.now.rate setting.now.allowed result.executed start.now
         result.outcome }
+    ensures ends { EndsBy (bounds.now.steps - 1) result.outcome }
 {
     let order = Order::GreatestStep;
     let seen = first.seen;
@@ -290,6 +305,7 @@ fn search<W: Watcher>(
         explored.executed start.now explored.outcome) }
     ensures first { IfOk result (λ explored. bounds.now.is_deep ≡ false
         → IsFirst explored.outcome) }
+    ensures ends { IfOk result (λ explored. EndsBy (bounds.now.steps - 1) explored.outcome) }
 {
     let guesses = Guesses::new(alloc)?;
     let mut last = search_once(alloc, start, setting, bounds, watcher, order, seen, guesses)?;
@@ -345,18 +361,21 @@ fn search_once<W: Watcher>(
         attempt.explored.executed start.now attempt.explored.outcome) }
     ensures first { IfOk result (λ attempt. bounds.now.is_deep ≡ false
         → IsFirst attempt.explored.outcome) }
+    ensures ends { IfOk result (λ attempt. EndsBy (bounds.now.steps - 1)
+        attempt.explored.outcome) }
 {
     let finder = Finder::new(alloc, order, seen, guesses);
-    let limit = finder.limit(bounds.steps);
+    let end = finder.end(bounds.steps);
     let mut search = Search {
-        members: Members::new(alloc, start, base_for(alloc, start, setting)?, limit)?,
+        members: Members::new(alloc, start, base_for(alloc, start, setting)?)?,
         runner: Runner::new(alloc, start)?,
         finder,
         backdrops: Backdrops::new(alloc),
         probe: Base::of(alloc, start)?,
+        end,
     };
     let is_short = search_all(&mut search, setting, bounds, watcher).is_err();
-    let explored = explored_by(alloc, setting, &search, bounds.is_deep, is_short);
+    let explored = explored_by(alloc, setting, &search, bounds, is_short);
     let finder = search.finder;
     Ok(Attempt {
         explored,
@@ -380,7 +399,7 @@ fn search_all<W: Watcher>(
         search.old.runner.machine 0 }
 {
     search.run_on(setting, 0, Origin::START)?;
-    search.run(setting, bounds.steps, bounds.states, watcher)
+    search.run(setting, bounds.states, watcher)
 }
 
 /// A step up to which no key script makes the machine meet the target.
@@ -400,12 +419,30 @@ fn covered_by(setting: &Setting, members: &Members) -> u64
     members.covered()
 }
 
+/// How far an answer says so, where no key script makes the machine meet the target up to a step: up to
+/// that one, or the last one that is asked for.
+fn told_up_to(setting: &Setting, members: &Members, covered: u64, last: u64) -> u64
+    requires below { covered < members.now.limit }
+    requires avoids { Avoids setting.now.rate setting.now.allowed setting.now.target
+        members.now.start covered }
+    requires stays { StaysAmong setting.now.rate setting.now.allowed members.now.executed
+        members.now.start covered }
+    ensures below { result < members.now.limit }
+    ensures short { result ≤ last }
+    ensures avoids { Avoids setting.now.rate setting.now.allowed setting.now.target
+        members.now.start result }
+    ensures stays { StaysAmong setting.now.rate setting.now.allowed members.now.executed
+        members.now.start result }
+{
+    covered.min(last)
+}
+
 /// What the states that were kept say.
 fn explored_by(
     alloc: Global,
     setting: &Setting,
     search: &Search,
-    is_deep: bool,
+    bounds: &Bounds,
     is_short: bool,
 ) -> Explored
     requires rate { 0 < setting.now.rate }
@@ -419,7 +456,8 @@ fn explored_by(
         search.now.members.start result.outcome }
     ensures executed { AreExecuted setting.now.rate setting.now.allowed result.executed
         search.now.members.start result.outcome }
-    ensures first { is_deep ≡ false → IsFirst result.outcome }
+    ensures first { bounds.now.is_deep ≡ false → IsFirst result.outcome }
+    ensures ends { EndsBy (bounds.now.steps - 1) result.outcome }
 {
     let members = &search.members;
     if members.limit == 0 {
@@ -429,7 +467,8 @@ fn explored_by(
     if covered + 1 == END {
         return Explored::after(search, Outcome::Never, false);
     }
-    match found_after(alloc, setting, members, &search.finder, covered, is_deep) {
+    let covered = told_up_to(setting, members, covered, bounds.last());
+    match found_after(alloc, setting, members, &search.finder, covered, bounds) {
         Ok(Some(outcome)) => Explored::after(search, outcome, false),
         Ok(None) => Explored::after(search, Outcome::Within(covered), is_short),
         Err(_) => Explored::after(search, Outcome::Within(covered), true),
@@ -444,10 +483,11 @@ fn found_after(
     members: &Members,
     finder: &Finder,
     covered: u64,
-    is_deep: bool,
+    bounds: &Bounds,
 ) -> Result<Option<Outcome>, AllocError>
     requires rate { 0 < setting.now.rate }
     requires below { covered < members.now.limit }
+    requires short { covered ≤ bounds.now.steps - 1 }
     requires avoids { Avoids setting.now.rate setting.now.allowed setting.now.target
         members.now.start covered }
     requires stays { StaysAmong setting.now.rate setting.now.allowed members.now.executed
@@ -456,11 +496,12 @@ fn found_after(
         setting.now.allowed setting.now.target members.now.start outcome)) }
     ensures executed { IfOk result (λ answer. IfSome answer (λ outcome. AreExecuted
         setting.now.rate setting.now.allowed members.now.executed members.now.start outcome)) }
-    ensures first { IfOk result (λ answer. IfSome answer (λ outcome. is_deep ≡ false
+    ensures first { IfOk result (λ answer. IfSome answer (λ outcome. bounds.now.is_deep ≡ false
         → IsFirst outcome)) }
+    ensures ends { IfOk result (λ answer. IfSome answer (EndsBy (bounds.now.steps - 1))) }
 {
     if let Some(origin) = finder.hit
-        && members.limit <= u64::from(LAST_STEP)
+        && members.limit <= bounds.last().min(u64::from(LAST_STEP))
     {
         let step = members.limit as u32;
         let events = script_to(alloc, finder, origin)?;
@@ -468,7 +509,7 @@ fn found_after(
             if covered + 1 == members.limit {
                 return Ok(Some(Outcome::Found { events, step, met }));
             }
-            if is_deep {
+            if bounds.is_deep {
                 return Ok(Some(Outcome::Later {
                     events,
                     step,

@@ -27,6 +27,8 @@ pub(crate) struct Search {
     pub(crate) backdrops: Backdrops,
     /// Room for a state.
     pub(crate) probe: Base,
+    /// The step at which each run is left.
+    pub(crate) end: u64,
 }
 
 impl Search {
@@ -112,8 +114,9 @@ impl Search {
         self.finder.note(sums.state, Turn { step, place }, origin)
     }
 
-    /// Lets the runner make steps from a step on, and keeps the state in which they end. Where there
-    /// is no memory to keep it, the search speaks of the steps below it alone.
+    /// Lets the runner make steps from a step on, and keeps the state in which they end. Where they
+    /// come to the end of the search, or there is no memory to keep it, the search speaks of the steps
+    /// below it alone.
     pub(crate) fn run_on(
         &mut self,
         setting: &Setting,
@@ -127,11 +130,10 @@ impl Search {
             self.old.runner.machine from }
     {
         let members = &mut self.members;
-        let leg = self
-            .runner
-            .run(setting, members.limit, from, &mut members.executed);
+        let limit = members.limit.min(self.end);
+        let leg = self.runner.run(setting, limit, from, &mut members.executed);
         match leg.end {
-            End::Past => {}
+            End::Past => self.members.lower_limit(setting, leg.step),
             End::Wanted => {
                 self.members.lower_limit(setting, leg.step);
                 self.finder.hit = Some(origin);
@@ -304,7 +306,6 @@ impl Search {
     pub(crate) fn run<W: Watcher>(
         &mut self,
         setting: &Setting,
-        most_steps: u64,
         most_states: usize,
         watcher: &mut W,
     ) -> Result<(), AllocError>
@@ -321,7 +322,7 @@ impl Search {
             if self.finder.is_refuted() || self.members.states.len() > most_states {
                 return Ok(());
             }
-            if turn.step >= self.members.limit || turn.step >= most_steps {
+            if turn.step >= self.members.limit {
                 return Ok(());
             }
             let done = turns.saturating_add(self.members.states.len() as u64) / STATES_TOLD;

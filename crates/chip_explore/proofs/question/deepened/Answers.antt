@@ -1,7 +1,7 @@
-use Rattle.std.proofs.Common.{sym, subst}
-use Rattle.chip_explore.specs.Answers.{Answers}
+use Rattle.std.proofs.Common.{◌-◌, sym, subst}
+use Rattle.chip_explore.specs.Answers.{Answers, EndsBy}
 use Rattle.chip_explore.specs.declared.question.Outcome.{Outcome}
-use Rattle.chip_explore.proofs.Deep.{later_answers, later_executed}
+use Rattle.chip_explore.proofs.Deep.{later_answers, later_ends, later_executed}
 use Rattle.chip_explore.proofs.question.deepened.Goals as goal
 
 pub returns-in-Ok-clause-answers : goal.returns-in-Ok-clause-answers
@@ -16,3 +16,9 @@ returns-in-Ok-clause-executed g c =
     let p = c.args.setting.now in
     rw (c.deepened_by.ensures.outcome, c.deepened_by.ensures.executed)
     (later_executed p.rate p.allowed c.args.first.executed c.args.start.now c.args.covered c.in-Ok.deep.outcome c.requires.stays)
+
+pub returns-in-Ok-clause-ends : goal.returns-in-Ok-clause-ends
+returns-in-Ok-clause-ends g c =
+    let last = c.args.bounds.now.steps - 1 in
+    subst (λ (outcome : Outcome). EndsBy last outcome) (sym c.deepened_by.ensures.outcome)
+    (later_ends last c.args.covered c.in-Ok.deep.outcome c.in-Ok.ensures.ends c.requires.short)

@@ -8,6 +8,11 @@ lower_limit-requires c =
     let noted = goes_noted c.args.setting.now c.args.self.now.members c.requires.holds c.run-leg.new.executed c.run-leg.ensures.grows in
     record { holds = noted.holds }
 
+pub lower_limit-requires-in-Wanted : goal.lower_limit-requires-in-Wanted
+lower_limit-requires-in-Wanted c =
+    let noted = goes_noted c.args.setting.now c.args.self.now.members c.requires.holds c.run-leg.new.executed c.run-leg.ensures.grows in
+    record { holds = noted.holds }
+
 pub lower_limit-requires-in-TimerSet : goal.lower_limit-requires-in-TimerSet
 lower_limit-requires-in-TimerSet c =
     let noted = goes_noted c.args.setting.now c.args.self.now.members c.requires.holds c.run-leg.new.executed c.run-leg.ensures.grows in
@@ -17,10 +22,6 @@ pub join-joined-requires-clause-holds : goal.join-joined-requires-clause-holds
 join-joined-requires-clause-holds c =
     let noted = goes_noted c.args.setting.now c.args.self.now.members c.requires.holds c.run-leg.new.executed c.run-leg.ensures.grows in
     noted.holds
-
-pub returns-in-Past-clause-goes : goal.returns-in-Past-clause-goes
-returns-in-Past-clause-goes c =
-    goes_noted c.args.setting.now c.args.self.now.members c.requires.holds c.run-leg.new.executed c.run-leg.ensures.grows
 
 pub returns-in-Some-clause-goes : goal.returns-in-Some-clause-goes
 returns-in-Some-clause-goes c =
