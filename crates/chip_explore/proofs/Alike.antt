@@ -1,10 +1,9 @@
 -- States that are alike in all but what is forgotten.
-use Rattle.std.proofs.Common.{◌≡◌, ◌==◌, ℕ, Bool, true, false, is_some, List, length, ap, subst, sym, ◌∙◌, refl}
+use Rattle.std.proofs.Common.{◌≡◌, ◌==◌, ℕ, Bool, true, false, is_some, List, length, ap, sym, ◌∙◌, refl}
 use Rattle.std.proofs.lemmas.Nat.Bits.{bit_at-zero}
 use Rattle.chip_machine.specs.Forgotten.{has_part, register_part, index_part, screen_part}
 use Rattle.chip_machine.specs.Relevant.{Alike}
 use Rattle.chip_machine.specs.State.{Core, State, IsProper}
-use Rattle.chip_machine.specs.Step.{reg}
 use Rattle.chip_explore.specs.inner.Cover.{AreWithin}
 
 unless : (b c : Bool) → (b ≡ true → c ≡ true) → c ≡ false → b ≡ false

@@ -7,7 +7,7 @@ use Rattle.std.proofs.Math.Seq.{get_or-append_seam}
 use Rattle.std.proofs.Common.{◌==◌}
 use Rattle.std.proofs.lemmas.Nat.Bits.{bit_at_above}
 use Rattle.chip_machine.specs.Choices.{IsChoice}
-use Rattle.chip_machine.specs.Forgotten.{IsUnread, IsForgottenAfter}
+use Rattle.chip_machine.specs.Forgotten.{IsUnread}
 use Rattle.chip_machine.specs.Relevant.{Alike}
 use Rattle.chip_machine.specs.State.{State}
 use Rattle.chip_machine.specs.Step.{is_key_down, step_of}

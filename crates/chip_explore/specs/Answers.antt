@@ -7,6 +7,8 @@
 --     EndsBy          no answer with a step past the last one that was asked for: what it says of a
 --                     script, and how far it says that none leads there, ends by that one; only never
 --                     speaks of all steps
+--     most_ways       in how many ways a search makes the next step of a state: with no key down, and
+--                     with each of sixteen alone
 --     Answers         found; later: the target is met, and avoided up to another step; within n:
 --                     avoided up to step n; never: avoided up to each step below the end
 --     AreExecuted     what is said of the addresses that a search saw executed: under no key script
@@ -46,6 +48,9 @@ EndsBy last (Found events step met) = step ≤ last
 EndsBy last (Later events step met covered) = step ≤ last × covered ≤ last
 EndsBy last (Within n) = n ≤ last
 EndsBy last Never = Unit {0}
+
+abbrev pub most_ways : ℕ
+most_ways = 17
 
 abbrev pub Answers : (rate allowed : ℕ) → Target → State → Outcome → Type 0
 Answers rate allowed target start (Found events step met) =

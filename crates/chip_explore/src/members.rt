@@ -151,6 +151,7 @@ impl Members {
         ensures goes { Goes setting.now self.old self.new }
         ensures joins { IfOk result (λ answer. IsTrue answer
             → Joins setting.now (view_of self.new) forgotten machine.now step) }
+        ensures few { length self.new.steps.items ≤ length self.old.steps.items + 1 }
     {
         let is_same = kept.is_of(&self.base, machine, probe)?;
         if !is_same {
@@ -176,6 +177,7 @@ impl Members {
             ≡ phase setting.now step }
         ensures goes { Goes setting.now self.old self.new }
         ensures step { slice_index self.new.steps.items place ≡ step }
+        ensures count { length self.new.steps.items ≡ length self.old.steps.items }
     {
         self.closed[place] = false;
         self.steps[place] = step;
@@ -186,7 +188,8 @@ impl Members {
         requires holds { Holds setting.now self.old }
         requires kept { place < length self.old.steps.items }
         requires taken { IsTaken setting.now (view_of self.old) place }
-        ensures { Goes setting.now self.old self.new }
+        ensures goes { Goes setting.now self.old self.new }
+        ensures count { length self.new.steps.items ≡ length self.old.steps.items }
     {
         self.closed[place] = true;
     }
@@ -196,6 +199,7 @@ impl Members {
         requires holds { Holds setting.now self.old }
         ensures goes { Goes setting.now self.old self.new }
         ensures limit { self.new.limit ≤ limit }
+        ensures count { length self.new.steps.items ≡ length self.old.steps.items }
     {
         let least = self.limit.min(limit);
         self.limit = least;

@@ -1,8 +1,8 @@
 //! A question about all key scripts, and its answer.
 
-ghost use Rattle.std.specs.Prelude.{◌≡◌, ◌<◌, ◌≤◌, ◌+◌, ◌-◌, min, None, IfOk, IfSome, IsSome, true, false};
+ghost use Rattle.std.specs.Prelude.{◌≡◌, ◌<◌, ◌≤◌, ◌+◌, ◌-◌, ◌*◌, [], length, min, None, IfOk, IfSome, IsSome, true, false};
 ghost use Rattle.chip_machine.specs.State.{IsProper};
-ghost use Rattle.chip_explore.specs.Answers.{Answers, AreExecuted, EndsBy, IsFirst};
+ghost use Rattle.chip_explore.specs.Answers.{Answers, AreExecuted, EndsBy, IsFirst, most_ways};
 ghost use Rattle.chip_explore.specs.Executed.{StaysAmong, is_at_one};
 ghost use Rattle.chip_explore.specs.inner.Deep.{later_of};
 ghost use Rattle.chip_explore.specs.declared.question.Outcome.TheVariants.{Within};
@@ -134,6 +134,7 @@ impl Explored {
     fn at_once(outcome: Outcome, executed: Executed, is_short: bool) -> Explored
         ensures outcome { result.outcome ≡ outcome }
         ensures executed { result.executed ≡ executed }
+        ensures states { result.states ≡ 0 }
     {
         Explored {
             outcome,
@@ -148,6 +149,7 @@ impl Explored {
     fn after(search: &Search, outcome: Outcome, is_short: bool) -> Explored
         ensures outcome { result.outcome ≡ outcome }
         ensures executed { result.executed ≡ search.now.members.executed }
+        ensures states { result.states ≡ length search.now.members.steps.items }
     {
         Explored {
             outcome,
@@ -181,6 +183,7 @@ impl Explored {
         ensures within { IfSome result (λ covered. self.now.outcome ≡ Within covered) }
         ensures deep { IsSome result → bounds.now.is_deep ≡ true }
         ensures full { IsSome result → bounds.now.states < self.now.states }
+        ensures left { IfSome result (λ covered. covered < bounds.now.steps - 1) }
     {
         match self.outcome {
             Outcome::Within(covered)
@@ -211,6 +214,8 @@ pub fn explore<W: Watcher>(
         result.outcome }
     ensures first { bounds.now.is_deep ≡ false → IsFirst result.outcome }
     ensures ends { EndsBy (bounds.now.steps - 1) result.outcome }
+    ensures few { bounds.now.is_deep ≡ false → result.states ≤ bounds.now.states + most_ways }
+    ensures few_by_both { result.states ≤ 2 * (bounds.now.states + most_ways) }
 {
     if let Some(met) = question.target.met_in(start) {
         let outcome = Outcome::Found {
@@ -267,11 +272,13 @@ fn deepened<W: Watcher>(
     requires stays { StaysAmong setting.now.rate setting.now.allowed first.executed start.now
         covered }
     requires short { covered ≤ bounds.now.steps - 1 }
+    requires few { first.states ≤ bounds.now.states + most_ways }
     ensures answers { Answers setting.now.rate setting.now.allowed setting.now.target start.now
         result.outcome }
     ensures executed { AreExecuted setting.now.rate setting.now.allowed result.executed start.now
         result.outcome }
     ensures ends { EndsBy (bounds.now.steps - 1) result.outcome }
+    ensures few { result.states ≤ 2 * (bounds.now.states + most_ways) }
 {
     let order = Order::GreatestStep;
     let seen = first.seen;
@@ -306,6 +313,7 @@ fn search<W: Watcher>(
     ensures first { IfOk result (λ explored. bounds.now.is_deep ≡ false
         → IsFirst explored.outcome) }
     ensures ends { IfOk result (λ explored. EndsBy (bounds.now.steps - 1) explored.outcome) }
+    ensures few { IfOk result (λ explored. explored.states ≤ bounds.now.states + most_ways) }
 {
     let guesses = Guesses::new(alloc)?;
     let mut last = search_once(alloc, start, setting, bounds, watcher, order, seen, guesses)?;
@@ -363,6 +371,7 @@ fn search_once<W: Watcher>(
         → IsFirst attempt.explored.outcome) }
     ensures ends { IfOk result (λ attempt. EndsBy (bounds.now.steps - 1)
         attempt.explored.outcome) }
+    ensures few { IfOk result (λ attempt. attempt.explored.states ≤ bounds.now.states + most_ways) }
 {
     let finder = Finder::new(alloc, order, seen, guesses);
     let end = finder.end(bounds.steps);
@@ -394,9 +403,11 @@ fn search_all<W: Watcher>(
 ) -> Result<(), AllocError>
     requires rate { 0 < setting.now.rate }
     requires holds { Holds setting.now search.old.members }
+    requires none { search.old.members.steps.items ≡ [] }
     ensures goes { Goes setting.now search.old.members search.new.members }
     ensures begun { Safe setting.now (view_of search.new.members) search.old.runner.forgotten
         search.old.runner.machine 0 }
+    ensures few { length search.new.members.steps.items ≤ bounds.now.states + most_ways }
 {
     search.run_on(setting, 0, Origin::START)?;
     search.run(setting, bounds.states, watcher)
@@ -458,6 +469,7 @@ fn explored_by(
         search.now.members.start result.outcome }
     ensures first { bounds.now.is_deep ≡ false → IsFirst result.outcome }
     ensures ends { EndsBy (bounds.now.steps - 1) result.outcome }
+    ensures states { result.states ≡ length search.now.members.steps.items }
 {
     let members = &search.members;
     if members.limit == 0 {

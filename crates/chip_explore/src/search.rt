@@ -3,6 +3,7 @@
 ghost use Rattle.std.specs.Prelude.{◌≡◌, ◌<◌, ◌≤◌, ◌+◌, ◌-◌, ◌^◌, ℕ, length, IfOk, IfSome, OnOk, IsTrue, true};
 ghost use Rattle.chip_machine.specs.Step.{step_of};
 ghost use Rattle.chip_machine.specs.Step as spec;
+ghost use Rattle.chip_explore.specs.Answers.{most_ways};
 ghost use Rattle.chip_explore.specs.inner.Cover.{forgotten_at, view_of, Holds, HasChoices, Goes, IsFine, Leads, Safe};
 
 use crate::backdrop::Backdrops;
@@ -68,6 +69,8 @@ impl Search {
         ensures goes { Goes setting.now self.old.members self.new.members }
         ensures safe { OnOk result (Safe setting.now (view_of self.new.members)
             self.old.runner.forgotten self.old.runner.machine step) }
+        ensures few { length self.new.members.steps.items
+            ≤ length self.old.members.steps.items + 1 }
     {
         let forgotten = self.runner.forgotten;
         let parts = self.finder.parts_to_forget(&self.runner);
@@ -128,6 +131,8 @@ impl Search {
         ensures goes { Goes setting.now self.old.members self.new.members }
         ensures safe { Safe setting.now (view_of self.new.members) self.old.runner.forgotten
             self.old.runner.machine from }
+        ensures few { length self.new.members.steps.items
+            ≤ length self.old.members.steps.items + 1 }
     {
         let members = &mut self.members;
         let limit = members.limit.min(self.end);
@@ -178,6 +183,8 @@ impl Search {
         ensures goes { Goes setting.now self.old.members self.new.members }
         ensures leads { IfOk result (λ answer. IsTrue answer
             → Leads setting.now self.old.members self.new.members place step keys) }
+        ensures few { length self.new.members.steps.items
+            ≤ length self.old.members.steps.items + 1 }
     {
         let runner = &mut self.runner;
         let origin = self.finder.origin(place, step, keys);
@@ -223,6 +230,8 @@ impl Search {
         ensures leads { IfOk result (λ answer. IsTrue answer
             → (key : ℕ) → key < 16 → spec.is_key_down choices key ≡ true
             → Leads setting.now self.old.members self.new.members place step (2 ^ key)) }
+        ensures few { length self.new.members.steps.items
+            ≤ length self.old.members.steps.items + 16 }
     {
         for key in 0..16u32 {
             if is_down(choices, key) && !self.follow(setting, place, step, alone(key))? {
@@ -273,7 +282,9 @@ impl Search {
         requires rate { 0 < setting.now.rate }
         requires holds { Holds setting.now self.old.members }
         requires kept { place < length self.old.members.steps.items }
-        ensures { Goes setting.now self.old.members self.new.members }
+        ensures goes { Goes setting.now self.old.members self.new.members }
+        ensures few { length self.new.members.steps.items
+            ≤ length self.old.members.steps.items + most_ways }
     {
         let step = self.members.step(place);
         if step >= self.members.limit {
@@ -311,7 +322,9 @@ impl Search {
     ) -> Result<(), AllocError>
         requires rate { 0 < setting.now.rate }
         requires holds { Holds setting.now self.old.members }
-        ensures { Goes setting.now self.old.members self.new.members }
+        requires begun { length self.old.members.steps.items ≤ 1 }
+        ensures goes { Goes setting.now self.old.members self.new.members }
+        ensures few { length self.new.members.steps.items ≤ most_states + most_ways }
     {
         let mut told = 0;
         for turns in 0..u64::MAX {

@@ -1,5 +1,5 @@
-use Rattle.std.proofs.Common.{◌≡◌, ◌-◌, false}
-use Rattle.chip_explore.specs.Answers.{Answers, AreExecuted, EndsBy, IsFirst}
+use Rattle.std.proofs.Common.{◌≡◌, ◌-◌, ◌+◌, ◌≤◌, false}
+use Rattle.chip_explore.specs.Answers.{Answers, AreExecuted, EndsBy, IsFirst, most_ways}
 use Rattle.chip_explore.proofs.question.search.Given as goal
 
 abbrev pub invariant-loop-attempt : goal.invariant-loop-attempt
@@ -9,4 +9,5 @@ invariant-loop-attempt g l =
       executed : AreExecuted l.setting.rate l.setting.allowed l.last.explored.executed l.start l.last.explored.outcome;
       first : l.bounds.is_deep ≡ false → IsFirst l.last.explored.outcome;
       ends : EndsBy (l.bounds.steps - 1) l.last.explored.outcome;
+      few : l.last.explored.states ≤ l.bounds.states + most_ways;
     }

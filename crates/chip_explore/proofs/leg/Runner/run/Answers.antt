@@ -1,8 +1,8 @@
-use Rattle.std.proofs.Common.{◌≡◌, ◌+◌, ℕ, Bool, refl, ap, subst, sym, ◌∙◌}
+use Rattle.std.proofs.Common.{◌≡◌, ◌+◌, ℕ, Bool, refl, ap, subst, ◌∙◌}
 use Rattle.chip_machine.specs.Forgotten.{IsForgottenAfter, IsUnread}
 use Rattle.chip_machine.specs.State.{State}
 use Rattle.chip_machine.specs.Step.{step_of}
-use Rattle.chip_explore.specs.inner.Cover.{GoesTo, Safe, tick_at}
+use Rattle.chip_explore.specs.inner.Cover.{Safe, tick_at}
 use Rattle.chip_explore.proofs.Growth.{one_move, still_moves}
 use Rattle.chip_explore.proofs.leg.Runner.run.Goals as goal
 

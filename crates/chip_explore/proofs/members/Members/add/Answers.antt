@@ -94,3 +94,11 @@ returns-clause-joins c =
           (subst (λ (s : State). Alike c.args.parts s c.args.machine.now) (sym member)
           (alike_within 0 _ _ (c.in_ok-is_same.ensures (search rules)) c.args.parts (all_within c.args.parts)));
     }
+
+pub returns-clause-few : goal.returns-clause-few
+returns-clause-few c =
+    let m = c.args.self.now in
+    let steps : c.push-4.new.self.items ≡ m.steps.items ++ c.args.step ∷ [] =
+    pushed _ _ _ _ _ c.push-4.ensures.items (c.push-4.ensures.succeeds (omega (arith, c.in_ok-reserve-4.ensures.ok))) c.reserve-4.ensures.items in
+    let more_steps = ap (length {A = ℕ}) steps ∙ length-append m.steps.items (c.args.step ∷ []) in
+    omega arith

@@ -4,8 +4,8 @@ use Rattle.chip_explore.specs.inner.Cover.{IsTaken, view_of}
 use Rattle.chip_explore.proofs.Growth.{closed_set, extends_same, goes}
 use Rattle.chip_explore.proofs.members.Members.close.Goals as goal
 
-pub returns : goal.returns
-returns c =
+pub returns-clause-goes : goal.returns-clause-goes
+returns-clause-goes c =
     let m = c.args.self.now in
     let p = c.args.setting.now in
     let place = c.args.place in

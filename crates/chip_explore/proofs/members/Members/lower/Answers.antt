@@ -30,3 +30,6 @@ returns-clause-goes c =
     (λ (here : (j ≡ place) × (false ≡ true)). absurd (cc))
     (λ (other : (j ≢ place) × (get_or m.closed.items j false ≡ true)). (other.1, get_or-set_other m.steps.items place j step 0 other.0))
     (closed_set m.closed.items place j false inside h)))
+
+pub returns-clause-count : goal.returns-clause-count
+returns-clause-count c = length-set c.args.self.now.steps.items c.args.place c.args.step

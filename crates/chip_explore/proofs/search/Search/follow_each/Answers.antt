@@ -1,4 +1,4 @@
-use Rattle.std.proofs.Common.{◌≡◌, ◌+◌, ◌<◌, ◌^◌, ℕ, true, false, rules, ap, sym, subst, ◌∙◌, below_more}
+use Rattle.std.proofs.Common.{◌≡◌, ◌+◌, ◌<◌, ◌≤◌, length, arith, ◌^◌, ℕ, true, false, rules, ap, sym, subst, ◌∙◌, below_more}
 use Rattle.chip_machine.specs.Step.{is_key_down}
 use Rattle.chip_explore.specs.declared.members.Members.{Members}
 use Rattle.chip_explore.specs.declared.search.Search.{Search}
@@ -37,6 +37,10 @@ loop-key-preserved c =
           (λ up. here) in
           record {
             goes = subst (λ (x : Members). Goes p l x) (sym is) (goes_more p l m n before.goes told.goes);
+            few =
+                let more : length n.steps.items ≤ length m.steps.items + 1 = told.few in
+                let few : length m.steps.items ≤ length l.steps.items + key = before.few in
+                subst (λ (x : Members). length x.steps.items ≤ length l.steps.items + (key + 1)) (sym is) (omega arith);
             leads = subst (λ (x : Members). Followed p l place step choices (key + 1) x) (sym is) all;
           })
       | else-is_down-via-else-is_down w ↦ (
@@ -47,6 +51,9 @@ loop-key-preserved c =
           (λ up. let not_down : is_key_down choices key ≡ false = sym c.is_down.ensures ∙ w.if-is_down.false in absurd (cc)) in
           record {
             goes = subst (λ (x : Members). Goes p l x) (sym is) before.goes;
+            few =
+                let few : length m.steps.items ≤ length l.steps.items + key = before.few in
+                subst (λ (x : Members). length x.steps.items ≤ length l.steps.items + (key + 1)) (sym is) (omega arith);
             leads = subst (λ (x : Members). Followed p l place step choices (key + 1) x) (sym is) all;
           })
     ]

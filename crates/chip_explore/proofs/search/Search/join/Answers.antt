@@ -1,6 +1,5 @@
 use Rattle.std.proofs.Common.{rules, ◌≡◌, Result, Ok, Err, OnOk, ap, subst}
 use Rattle.chip_explore.specs.declared.members.Members.{Members}
-use Rattle.chip_explore.specs.declared.search.Search.{Search}
 use Rattle.chip_explore.specs.inner.Cover.{Goes}
 use Rattle.chip_explore.proofs.Growth.{safe_joined, safe_lowered}
 use Rattle.chip_explore.proofs.search.Search.join.Goals as goal

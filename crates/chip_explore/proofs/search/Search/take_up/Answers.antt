@@ -16,18 +16,18 @@ close-requires-clause-taken c =
     (c.in_ok-follow.ensures.leads (search rules)) (c.in_ok-follow_each.ensures.leads (search rules))
     (sym c.step.ensures ∙ c.if-step.true)
 
-pub returns-then-step : goal.returns-then-step
-returns-then-step c =
+pub returns-then-step-clause-goes : goal.returns-then-step-clause-goes
+returns-then-step-clause-goes c =
     let p = c.args.setting.now in
     let l = c.choices.new.self.members in
     let n = c.follow_each.new.self.members in
     goes_more p c.args.self.now.members n c.close.new.self
     (subst (λ (m : Members). Goes p m n) c.choices.ensures.same
     (goes_more p l c.follow.new.self.members n c.in_ok-follow.ensures.goes c.in_ok-follow_each.ensures.goes))
-    c.close.ensures
+    c.close.ensures.goes
 
-pub returns-else-step : goal.returns-else-step
-returns-else-step c =
+pub returns-else-step-clause-goes : goal.returns-else-step-clause-goes
+returns-else-step-clause-goes c =
     let p = c.args.setting.now in
     let l = c.choices.new.self.members in
     let n = c.follow_each.new.self.members in
