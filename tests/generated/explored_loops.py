@@ -4,18 +4,18 @@ few states.
 How many it may keep is counted with the machine of tests/trace/emulator.py, which forgets nothing: each state that reads keys,
 and for each step from such a state, or from the start, that leads to the loop, those that every 1,001st step in it meets.
 
-    explored_loops.py PROGRAM FIRST END        says what is wrong with some of them, in a process of its own
+The first 1,000 are tried with the quick cases, and the others with the slow ones.
 """
 import importlib.util
 import math
 import pathlib
 import random
 import subprocess
-import sys
 
 EMULATOR = pathlib.Path(__file__).resolve().parent.parent / "trace" / "emulator.py"
 PROGRAMS = 5000
-GROUP = 500
+QUICK_PROGRAMS = 1000
+GROUP = 250
 KEYS = (0, 1, 2)
 ALLOWED = ("--keys-allowed", ",".join(map(str, KEYS)))
 # no program here keeps as many states
@@ -123,18 +123,20 @@ def wrong_answer(program, number):
 
 
 def wrong_group(program, numbers):
-    """What is wrong with the first of some programs whose answer is, found in a process of its own."""
-    words = [sys.executable, __file__, program.file, str(numbers[0]), str(numbers[-1] + 1)]
-    ran = subprocess.run(words, capture_output=True, timeout=600, check=False)
-    return (ran.stdout + ran.stderr).decode()
+    """What is wrong with the first of some programs whose answer is."""
+    wrongs = (wrong_answer(program.file, number) for number in numbers)
+    return next((wrong for wrong in wrongs if wrong), "")
 
 
-def checks(program):
-    for start in range(0, PROGRAMS, GROUP):
-        numbers = range(start, min(start + GROUP, PROGRAMS))
+def groups(program, start, end):
+    for first in range(start, end, GROUP):
+        numbers = range(first, min(first + GROUP, end))
         yield f"loops {numbers[0]} to {numbers[-1]}", lambda numbers=numbers: wrong_group(program, numbers)
 
 
-if __name__ == "__main__":
-    wrongs = (wrong_answer(sys.argv[1], number) for number in range(int(sys.argv[2]), int(sys.argv[3])))
-    print(next((wrong for wrong in wrongs if wrong), ""), end="")
+def checks(program):
+    yield from groups(program, 0, QUICK_PROGRAMS)
+
+
+def slow_checks(program):
+    yield from groups(program, QUICK_PROGRAMS, PROGRAMS)
