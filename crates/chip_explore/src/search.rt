@@ -118,7 +118,7 @@ impl Search {
     }
 
     /// Lets the runner make steps from a step on, and keeps the state in which they end. Where they
-    /// come to the end of the search, or there is no memory to keep it, the search speaks of the steps
+    /// come to the end of the search, or memory to keep it runs out, the search speaks of the steps
     /// below it alone.
     pub(crate) fn run_on(
         &mut self,
