@@ -1,6 +1,7 @@
 -- What the contracts of chip_bench speak of (own).
 --     Printing     what the commands print of a source, and how they end
 --     Running      what a run of the program reads, writes and answers
+--     Holding      a writer that holds bytes back
 --     SettingArguments what the arguments say of settings
 --     Tracing      what `trace` prints of a session's run
 --     Testing      what `test` finds of files of cases
@@ -8,6 +9,7 @@
 --     Doing        what the program does for each thing that its arguments can ask for
 --     inner        for private contracts: what was read, and what `explore` tells
 pub mod Running
+pub mod Holding
 pub mod SettingArguments
 pub mod Printing
 pub mod Tracing

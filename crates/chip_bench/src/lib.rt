@@ -10,6 +10,7 @@ mod ending;
 mod entry;
 mod exploring;
 mod file_access;
+mod held_writer;
 pub mod laws;
 pub mod limits;
 mod output;
@@ -29,3 +30,4 @@ pub use chip_session::{
     Refusal, ServeError, SetError, Settings, StateQuestion, read_command, serve, tape_of,
 };
 pub use entry::{Host, program, refuse_arguments};
+pub use held_writer::HeldWriter;

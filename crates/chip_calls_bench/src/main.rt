@@ -14,6 +14,9 @@
 //!   answers the script by `serve`; `each NAME FIRST LAST` does so with each of these numbers.
 //! - `program WORD..`: the status of the program with these arguments, and what it prints.
 //! - `refuse REASON`: the same where the arguments can't be read.
+//! - `held MOST WORD..`: hands the words, one after another, to a writer that holds back up to so many
+//!   bytes, where `.` is a flush: how many bytes each call took or `ok`, or `failed`; and once that
+//!   writer is dropped, which calls of the one inside these were, and what it took.
 //! - `counted`: a read, a write and a flush, which calls of the reader and the writer these were, and
 //!   which failures were counted.
 #![tactic(auto)]
@@ -24,7 +27,7 @@ mod streams;
 use crate::session::Session;
 use crate::streams::{Feed, Plan, Sink, each, talk};
 use anyhow::{Error, bail};
-use chip_bench::{Counted, Host, Settings, program, refuse_arguments, tape_of};
+use chip_bench::{Counted, HeldWriter, Host, Settings, program, refuse_arguments, tape_of};
 use std::alloc::Global;
 use std::io;
 use std::io::{BufRead, BufReader, Read, Write};
@@ -60,6 +63,7 @@ impl Calls {
             "each" => each(alloc, &self.source, &self.script, &self.plan, rest),
             "program" => run(rt, rest, &self.script, &self.plan),
             "refuse" => refuse(alloc, rest),
+            "held" => held(alloc, &self.plan, rest),
             "counted" => counted(alloc, &self.plan),
             _ => {
                 self.prepare(alloc, word, rest)?;
@@ -174,6 +178,38 @@ fn counted(alloc: Global, plan: &Plan) -> Result<String, Error> {
     Ok(format!(in alloc;
         "went well: read {read}, write {written}, flush {flushed}\n{reads} reads, {unread} failures\n{writes} writes, {flushes} flushes, {unwritten} failures"
     )?)
+}
+
+/// Hands words to a writer that holds bytes back, and tells how each call went and what came of them.
+fn held(alloc: Global, plan: &Plan, rest: &str) -> Result<String, Error> {
+    let (most, words) = rest.split_once(" ").unwrap_or((rest, ""));
+    let mut sink = Sink::new(alloc, plan);
+    let mut lines = String::new(alloc);
+    let mut writer = HeldWriter::with_capacity(alloc, most.parse::<usize>()?, &mut sink)?;
+    for word in words.split_whitespace() {
+        lines.push_str(&hand_over(alloc, &mut writer, word)?)?;
+    }
+    drop(writer);
+    let (writes, flushes) = (sink.calls, sink.flushes);
+    let taken = String::from_utf8_lossy(alloc, &sink.taken)?;
+    lines.push_str(&format!(in alloc; "{writes} writes, {flushes} flushes: {taken:?}")?)?;
+    Ok(lines)
+}
+
+/// How a write of a word went, or a flush for `.`.
+fn hand_over(alloc: Global, writer: &mut impl Write, word: &str) -> Result<String, Error> {
+    if word == "." {
+        let flushed = if writer.flush().is_ok() {
+            "ok"
+        } else {
+            "failed"
+        };
+        return Ok(format!(in alloc; "{flushed}\n")?);
+    }
+    match writer.write(word.as_bytes()) {
+        Ok(count) => Ok(format!(in alloc; "{count}\n")?),
+        Err(_) => Ok(String::from_str(alloc, "failed\n")?),
+    }
 }
 
 /// Answers each line of the input.

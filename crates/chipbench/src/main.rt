@@ -1,9 +1,9 @@
 //! An assembler and replay debugger for SUPER-CHIP 1.1.
 #![tactic(auto)]
 
-use chip_bench::{Counted, Host, program, refuse_arguments};
+use chip_bench::{Counted, HeldWriter, Host, program, refuse_arguments};
 use std::fs::Files;
-use std::io::{BufWriter, IsTerminal};
+use std::io::IsTerminal;
 use std::process::ExitCode;
 use std::random::RandomSource;
 use std::rt::Env;
@@ -16,7 +16,7 @@ fn main(rt: HostRuntime) -> ExitCode {
         Ok(arguments) => arguments,
         Err(error) => return ExitCode::from(refuse_arguments(alloc, &error, &mut errors)),
     };
-    let output = match BufWriter::with_capacity(alloc, held_bytes(&rt), rt.stdout()) {
+    let output = match HeldWriter::with_capacity(alloc, held_bytes(&rt), rt.stdout()) {
         Ok(output) => output,
         Err(error) => return ExitCode::from(refuse_arguments(alloc, &error, &mut errors)),
     };

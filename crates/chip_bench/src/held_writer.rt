@@ -1,0 +1,219 @@
+//! A writer that holds bytes back, and gives them up where a write or a flush fails.
+ghost use Rattle.std.specs.Prelude.{◌≡◌, ◌+◌, ◌<◌, ◌≤◌, ◌↔◌, [], ◌++◌, length, IsTrue, IfOk, IfErr, OnOk, OnErr, vec_len, vec_capacity};
+ghost use Rattle.std.specs.IoError.{error_kind};
+ghost use Rattle.std.specs.Io.{WritesAtMost};
+ghost use Rattle.std.specs.Io.KnownBytes.{Keeps, WriteAppends};
+
+use chip_session::Counted;
+use std::alloc::Global;
+use std::io::{Error, ErrorKind, Result, Write};
+use std::marker::Model;
+
+// A writer that is called up to its first failure, and never again. A write that takes none of some
+// bytes has failed, and so has one that was interrupted.
+#[derive(Drop)]
+struct UntilFailure<W> {
+    inner: Counted<W>,
+}
+
+impl<W> Model for UntilFailure<W> {
+    ghost use Rattle.std.specs.Prelude.{◌≤◌};
+    ghost use Rattle.chip_session.specs.Tally.{Tally};
+
+    ghost Value = { Tally W };
+
+    ghost view = { λ writer. writer.inner };
+
+    ghost invariant = { λ writer. writer.inner.failures ≤ 1 };
+}
+
+impl<W> UntilFailure<W> {
+    fn new(inner: W) -> Self
+        ensures inner { result.inner ≡ inner }
+        ensures failures { result.failures ≡ 0 }
+    {
+        UntilFailure {
+            inner: Counted::new(inner),
+        }
+    }
+
+    fn has_failed(&self) -> bool
+        ensures failed { IsTrue result ↔ (self.now.failures ≡ 1) }
+        ensures once { self.now.failures ≤ 1 }
+    {
+        self.inner.failures() > 0
+    }
+}
+
+impl<W: Write> UntilFailure<W> {
+    // One write of the writer inside, or none where one of its calls has failed.
+    fn write(&mut self, buf: &[u8]) -> Result<usize>
+        ensures bound { WritesAtMost result buf.now }
+        ensures bytes { WriteAppends (W.contents self.old.inner) (W.contents self.new.inner)
+            result buf.now }
+        ensures some { IfOk result (λ count. 0 < length buf.now → 0 < count) }
+        ensures ok { OnOk result ((self.old.failures ≡ 0) × (self.new.failures ≡ 0)) }
+        ensures err { OnErr result (self.new.failures ≡ 1) }
+        ensures given_up { self.old.failures ≡ 1 → self.new ≡ self.old }
+    {
+        if self.has_failed() {
+            return Err(given_up());
+        }
+        match self.inner.write(buf) {
+            Ok(0) if !buf.is_empty() => Err(Error::from(ErrorKind::WriteZero)),
+            written => written,
+        }
+    }
+
+    // One flush of the writer inside, or none where one of its calls has failed.
+    fn flush(&mut self) -> Result<()>
+        ensures bytes { Keeps (W.contents self.old.inner) (W.contents self.new.inner) }
+        ensures ok { OnOk result ((self.old.failures ≡ 0) × (self.new.failures ≡ 0)) }
+        ensures err { OnErr result (self.new.failures ≡ 1) }
+        ensures given_up { self.old.failures ≡ 1 → self.new ≡ self.old }
+    {
+        if self.has_failed() {
+            return Err(given_up());
+        }
+        self.inner.flush()
+    }
+}
+
+// The answer to a call after a failure.
+fn given_up() -> Error {
+    Error::new(ErrorKind::BrokenPipe, "an earlier write failed")
+}
+
+/// A writer that holds bytes back, up to a number, and writes them together.
+///
+/// Once a write or a flush of the writer inside fails, an interrupted one too, it isn't called
+/// again: what is held is given up, and each later write and flush fails. What reached the writer
+/// inside is a front of the bytes that were taken, and after a flush that went well it is all of
+/// them. Bytes that are still held when this is dropped are written nowhere.
+#[derive(Drop)]
+pub struct HeldWriter<W> {
+    inner: UntilFailure<W>,
+    held: Vec<u8>,
+    most: usize,
+}
+
+impl<W> Model for HeldWriter<W> {
+    ghost use Rattle.std.specs.Prelude.{◌≤◌, length, vec_capacity};
+    ghost use Rattle.chip_bench.specs.Holding.{Holding};
+
+    ghost Value = { Holding W };
+
+    ghost view = { λ writer. record {
+      inner = writer.inner.inner;
+      failures = writer.inner.failures;
+      held = writer.held.items;
+      most = writer.most;
+    } };
+
+    // The buffer has room for as many bytes as may be held, so it never grows.
+    ghost invariant = { λ writer. (length writer.held.items ≤ writer.most)
+        × (writer.most ≤ vec_capacity writer.held) };
+}
+
+impl<W> HeldWriter<W> {
+    /// The writer, of whose bytes up to `most` are held back. With 0 none is.
+    ///
+    /// # Errors
+    ///
+    /// Out of memory.
+    pub fn with_capacity(alloc: Global, most: usize, inner: W) -> Result<Self>
+    where
+        W: Drop,
+        ensures inner { IfOk result (λ writer. writer.inner ≡ inner) }
+        ensures failures { IfOk result (λ writer. writer.failures ≡ 0) }
+        ensures held { IfOk result (λ writer. writer.held ≡ []) }
+        ensures most { IfOk result (λ writer. writer.most ≡ most) }
+        ensures err { IfErr result (λ error. error_kind error ≡ ErrorKind.OutOfMemory) }
+    {
+        let held = Vec::with_capacity(alloc, most)?;
+        Ok(HeldWriter {
+            inner: UntilFailure::new(inner),
+            held,
+            most,
+        })
+    }
+}
+
+impl<W: Write> HeldWriter<W> {
+    ghost use Rattle.chip_bench.specs.Holding.{taken_bytes};
+
+    // Writes all that is held, unless a write fails.
+    fn write_held(&mut self) -> Result<()>
+        ensures bytes { Keeps (taken_bytes W.contents self.old)
+            (taken_bytes W.contents self.new) }
+        ensures ok { OnOk result (self.new.held ≡ []) }
+        ensures failures { OnOk result (self.new.failures ≡ self.old.failures) }
+        ensures err { OnErr result (self.new.failures ≡ 1) }
+        ensures given_up { self.old.failures ≡ 1 → self.new ≡ self.old }
+        ensures most { self.new.most ≡ self.old.most }
+        ensures bounded { length self.new.held ≤ self.new.most }
+    {
+        while !self.held.is_empty() {
+            let count = self.inner.write(&self.held)?;
+            self.held.drain(..count);
+        }
+        Ok(())
+    }
+}
+
+impl<W: Write> Write for HeldWriter<W> {
+    ghost use Rattle.chip_bench.specs.Holding.{taken_bytes};
+
+    ghost contents = { λ writer. taken_bytes W.contents writer };
+
+    /// Takes all the bytes and holds them, where there is room once what was held is written. More
+    /// than may be held goes to the writer inside at once.
+    fn write(&mut self, buf: &[u8]) -> Result<usize>
+        ensures bound { WritesAtMost result buf.now }
+        ensures bytes { WriteAppends (taken_bytes W.contents self.old)
+            (taken_bytes W.contents self.new) result buf.now }
+        // No call of the writer inside has failed where this goes well, and else just one has.
+        ensures ok { OnOk result ((self.old.failures ≡ 0) × (self.new.failures ≡ 0)) }
+        ensures err { OnErr result (self.new.failures ≡ 1) }
+        // Then the writer inside isn't called again.
+        ensures given_up { self.old.failures ≡ 1 → self.new ≡ self.old }
+        ensures most { self.new.most ≡ self.old.most }
+        ensures bounded { length self.new.held ≤ self.new.most }
+    {
+        if self.inner.has_failed() {
+            return Err(given_up());
+        }
+        if buf.len() > self.most - self.held.len() {
+            self.write_held()?;
+            if buf.len() > self.most {
+                return self.inner.write(buf);
+            }
+        }
+        hold(&mut self.held, buf);
+        Ok(buf.len())
+    }
+
+    /// Writes all that is held, and flushes the writer inside.
+    fn flush(&mut self) -> Result<()>
+        ensures bytes { Keeps (taken_bytes W.contents self.old) (taken_bytes W.contents self.new) }
+        ensures all { OnOk result (self.new.held ≡ []) }
+        ensures ok { OnOk result ((self.old.failures ≡ 0) × (self.new.failures ≡ 0)) }
+        ensures err { OnErr result (self.new.failures ≡ 1) }
+        ensures given_up { self.old.failures ≡ 1 → self.new ≡ self.old }
+        ensures most { self.new.most ≡ self.old.most }
+    {
+        self.write_held()?;
+        self.inner.flush()
+    }
+}
+
+// Adds bytes for which there is room.
+fn hold(held: &mut Vec<u8>, bytes: &[u8])
+    requires { vec_len held.old + length bytes.now ≤ vec_capacity held.old }
+    ensures items { held.new.items ≡ held.old.items ++ bytes.now }
+    ensures room { vec_capacity held.old ≤ vec_capacity held.new }
+{
+    let Ok(()) = held.extend_from_slice(bytes) else {
+        unreachable!()
+    };
+}
