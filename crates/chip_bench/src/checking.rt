@@ -1,7 +1,9 @@
 //! `check`: the faults of sources with their places, and their warnings.
 ghost use Rattle.std.specs.Prelude.{◌≡◌, Err, IfOk};
 ghost use Rattle.chip_asm.specs.Lines.{lines_of};
+ghost use Rattle.chip_asm.specs.Program.{image_of};
 ghost use Rattle.chip_bench.specs.Doing.{Checks, ChecksEach, ChecksOne, paints, worse};
+ghost use Rattle.chip_bench.specs.inner.Covering.{IsCovered};
 ghost use Rattle.chip_bench.specs.Printing.{IsCheckText, IsPrintedCheck, Prints, PrintsSuch, printed, unopened_check};
 
 use crate::covering::Covered;
@@ -172,14 +174,32 @@ impl Checker {
         source: &Source,
         watcher: &mut W,
     ) -> Result<Vec<Warning>, AllocError> {
-        match source.image() {
-            Some(image) if self.is_covering => {
-                let covered = Covered::of(alloc, image, self.profile, watcher)?;
+        match self.covered(alloc, source, watcher)? {
+            Some(covered) => {
                 let coverage = Some(covered.coverage());
                 warnings(alloc, bytes, source, self.profile, self.allowed, coverage)
             }
-            _ => warnings(alloc, bytes, source, self.profile, self.allowed, None),
+            None => warnings(alloc, bytes, source, self.profile, self.allowed, None),
         }
+    }
+
+    // What key scripts execute of a source's image, where that is asked for.
+    fn covered<W: Watcher>(
+        self,
+        alloc: Global,
+        source: &Source,
+        watcher: &mut W,
+    ) -> Result<Option<Covered>, AllocError>
+        ensures { IfOk result (IsCovered self.is_covering self.profile
+            (image_of source.now.lines)) }
+    {
+        if !self.is_covering {
+            return Ok(None);
+        }
+        let Some(image) = source.image() else {
+            return Ok(None);
+        };
+        Ok(Some(Covered::of(alloc, image, self.profile, watcher)?))
     }
 
     // What is printed of a source and its warnings.

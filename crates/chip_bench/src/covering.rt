@@ -1,5 +1,5 @@
 //! `check --cover`: which addresses of a source's image key scripts execute.
-ghost use Rattle.std.specs.Prelude.{◌≡◌, ◌∷◌, [], IfOk};
+ghost use Rattle.std.specs.Prelude.{◌≡◌, ◌↔◌, ◌∷◌, [], IfOk, IsErr, IsTrue};
 ghost use Rattle.chip_arguments.specs.SettingArguments.{default_arguments};
 ghost use Rattle.chip_machine.specs.Start.{start_of};
 ghost use Rattle.chip_bench.specs.Exploring.{usual_keys};
@@ -8,7 +8,9 @@ ghost use Rattle.chip_bench.specs.inner.Covering.{IsCoverage, covered_step};
 use crate::exploring::machine_of;
 use crate::sets::ALL_KEYS;
 use chip_arguments::{SettingArguments, USUAL_STATES};
-use chip_explore::{Bounds, Causes, END, Executed, Outcome, Question, Target, Watcher, explore};
+use chip_explore::{
+    Bounds, Causes, END, Executed, Explored, Outcome, Question, Target, Watcher, explore,
+};
 use chip_machine::Profile;
 use chip_warnings::Coverage;
 use std::alloc::{AllocError, Global};
@@ -26,7 +28,7 @@ pub(crate) struct Covered {
 
 impl Covered {
     /// What a search over the key scripts of all keys saw, which had the tape, the rate and the
-    /// bounds that `explore` has where no word gives others.
+    /// bounds that `explore` has where no word gives others. Where memory runs out there is none.
     pub(crate) fn of<W: Watcher>(
         alloc: Global,
         image: &[u8],
@@ -50,7 +52,18 @@ impl Covered {
             states: USUAL_STATES as usize,
             is_deep: false,
         };
-        let explored = explore(alloc, &start, &question, &bounds, watcher);
+        Covered::seen_by(explore(alloc, &start, &question, &bounds, watcher))
+    }
+
+    // What a search saw, unless memory ran out in it.
+    fn seen_by(explored: Explored) -> Result<Covered, AllocError>
+        ensures executed { IfOk result (λ covered. covered.executed ≡ explored.executed) }
+        ensures within { IfOk result (λ covered. covered.within ≡ covered_step explored.outcome) }
+        ensures short { IsErr result ↔ IsTrue explored.is_short }
+    {
+        if explored.is_short {
+            return Err(AllocError);
+        }
         Ok(Covered {
             within: covered_by(&explored.outcome),
             executed: explored.executed,

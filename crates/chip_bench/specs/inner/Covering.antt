@@ -3,12 +3,18 @@
 --                     of all steps
 --     IsCoverage      under no key script is a step made at another address than these, up to a step,
 --                     or at any step below the end
-use Rattle.std.specs.Prelude.{ℕ, ◌<◌, ◌-◌, Bool, List, Option, Some, None}
+--     IsCovered       that of a source's machine, where it is asked for and the source has an image
+use Rattle.std.specs.Prelude.{◌≡◌, ℕ, ◌<◌, ◌-◌, Bool, true, false, List, [], ◌∷◌, Option, Some, None}
+use Rattle.chip_arguments.specs.SettingArguments.{default_arguments}
 use Rattle.chip_explore.specs.Executed.{StaysAmong}
 use Rattle.chip_explore.specs.declared.limits.TheConstants.{END}
 use Rattle.chip_explore.specs.declared.question.Outcome.{Outcome}
 use Rattle.chip_explore.specs.declared.question.Outcome.TheVariants.{Found, Later, Within, Never}
+use Rattle.chip_machine.specs.Start.{start_of}
 use Rattle.chip_machine.specs.State.{State}
+use Rattle.chip_machine.specs.declared.profile.Profile.{Profile}
+use Rattle.chip_bench.specs.Exploring.{usual_keys}
+use Rattle.chip_bench.specs.declared.covering.Covered.{Covered}
 
 abbrev pub covered_step : Outcome → Option ℕ
 covered_step (Found events step met) = Some (step - 1)
@@ -20,3 +26,14 @@ abbrev pub IsCoverage : (rate keys : ℕ) → (executed : List Bool) → State �
 IsCoverage rate keys executed start (Some n) = StaysAmong rate keys executed start n
 IsCoverage rate keys executed start None =
     (n : ℕ) → n < END → StaysAmong rate keys executed start n
+
+-- what `check` takes as executed: nothing, unless it is asked for and there is an image; then that of
+-- its machine under the profile, with the tape 00 and the usual rate, for all keys
+abbrev pub IsCovered : (is_covering : Bool) → Profile → (image : Option (List ℕ)) → Option Covered
+    → Type 0
+IsCovered true profile (Some image) (Some covered) =
+    IsCoverage default_arguments.rate usual_keys covered.executed (start_of image (0 ∷ []) profile)
+    covered.within
+IsCovered true profile (Some image) None = ⊥
+IsCovered true profile None covered = covered ≡ None
+IsCovered false profile image covered = covered ≡ None

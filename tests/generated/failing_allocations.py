@@ -1,0 +1,91 @@
+"""`check --cover` where one allocation fails, each in turn: what it prints with enough memory, or that memory ran out.
+
+A small library that a C compiler makes here has an allocation fail; without a compiler there is nothing to try.
+"""
+import functools
+import os
+import pathlib
+import shutil
+import subprocess
+import tempfile
+
+SOURCES = {
+    "a loop": "LD V0, 1\nLOOP: SE V0, 0\nJP LOOP\nCLS\nSTOP: JP STOP\n",
+    "keys": "LOOP: SKP V0\nJP LOOP\nMORE: LD V1, K\nSE V1, 4\nJP MORE\nLD V1, K\nSE V1, 6\nJP MORE\nCLS\nSTOP: JP STOP\n",
+}
+NO_MEMORY = b"chipbench: out of memory\n"
+SECONDS = 60
+# The library: the allocation of the number FAILS fails.
+LIBRARY = """
+#define _GNU_SOURCE
+#include <dlfcn.h>
+#include <stdlib.h>
+
+static long calls;
+
+static int is_failing(void) {
+    const char *fails = getenv("FAILS");
+    return fails && ++calls == atol(fails);
+}
+
+void *malloc(size_t size) {
+    static void *(*next)(size_t);
+    if (!next)
+        next = (void *(*)(size_t))dlsym(RTLD_NEXT, "malloc");
+    return is_failing() ? NULL : next(size);
+}
+
+void *realloc(void *old, size_t size) {
+    static void *(*next)(void *, size_t);
+    if (!next)
+        next = (void *(*)(void *, size_t))dlsym(RTLD_NEXT, "realloc");
+    return is_failing() ? NULL : next(old, size);
+}
+"""
+
+
+@functools.cache
+def library():
+    """The library, or nothing where there is no compiler."""
+    compiler = shutil.which("cc") or shutil.which("gcc")
+    if not compiler:
+        return None
+    folder = tempfile.TemporaryDirectory(prefix="chipbench-failing-")
+    source = pathlib.Path(folder.name, "failing.c")
+    source.write_text(LIBRARY)
+    made = source.with_suffix(".so")
+    ran = subprocess.run([compiler, "-shared", "-fPIC", "-o", made, source, "-ldl"], capture_output=True, check=False)
+    # The folder goes with the function's value, when Python ends.
+    return (made, folder) if ran.returncode == 0 else None
+
+
+def ran(program, folder, environment):
+    """The status, the output and the errors of a check."""
+    command = [program.file, "check", "--cover", "source"]
+    done = subprocess.run(command, cwd=folder, env=environment, capture_output=True, timeout=SECONDS, check=False)
+    return done.returncode, done.stdout, done.stderr
+
+
+def wrong_check(program, source):
+    """What is wrong with the checks of a source in which one allocation fails."""
+    with tempfile.TemporaryDirectory() as folder:
+        pathlib.Path(folder, "source").write_text(source)
+        whole = ran(program, folder, None)
+        failed = 0
+        for number in range(1, 100_000):
+            environment = {**os.environ, "LD_PRELOAD": str(library()[0]), "FAILS": str(number)}
+            found = ran(program, folder, environment)
+            if found == (4, b"", NO_MEMORY):
+                failed = number
+            elif found != whole:
+                return f"allocation {number}: {found} and not {whole}"
+            # The last allocations that can fail are those for what is printed.
+            elif number > failed + 50:
+                return "" if failed > 0 else "no allocation failed"
+    return "the allocations have no end"
+
+
+def checks(program):
+    if library():
+        for name, source in SOURCES.items():
+            yield name, lambda source=source: wrong_check(program, source)
