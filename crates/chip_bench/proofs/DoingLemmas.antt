@@ -12,7 +12,8 @@ use Rattle.chip_pages.specs.Pages.{IsExplained}
 use Rattle.chip_bench.specs.Printing.{Printed, Prints, PrintsUnder, printed_picture, printed, printed_of, printed_run}
 use Rattle.chip_arguments.specs.declared.command_line.PictureArguments.{PictureArguments}
 use Rattle.chip_session.specs.declared.question.PictureForm.{PictureForm}
-use Rattle.chip_bench.specs.Running.{AnswersScript, IsUnread}
+use Rattle.chip_bench.specs.Running.{AnswersScript, IsUnread, IsUnreadWithin}
+use Rattle.chip_bench.specs.declared.limits.TheConstants.{KEY_FILE_BYTES}
 use Rattle.chip_session.specs.Settings.{SessionSettings}
 use Rattle.chip_bench.specs.SettingArguments.{settings_asked}
 use Rattle.chip_session.specs.Tally.{Tally}
@@ -64,12 +65,12 @@ module _ {R : Type 0} (remaining : R → Option (List ℕ)) (in_old in_new : Tal
   pub keys_unread : (keys : Option (Bor (List ℕ))) (Did : List ℕ → Outcome → Type 0) (ended : Outcome) (why : Failure) → ended ≡ Err why →
       in_new ≡ in_old → IsKeysUnread keys why → FromKeys remaining in_old in_new Unwritten keys Did ended
   keys_unread None Did ended why e same w = absurd w
-  keys_unread (Some name) Did ended why e same w = inr (declines (IsUnread name) ended why e w same)
+  keys_unread (Some name) Did ended why e same w = inr (declines (IsUnreadWithin KEY_FILE_BYTES name) ended why e w same)
 
   pub keys_read : (keys : Option (Bor (List ℕ))) (bytes : List ℕ) (Did : List ℕ → Outcome → Type 0) (ended : Outcome) →
-      (keys ≡ None → bytes ≡ []) → Did bytes ended → FromKeys remaining in_old in_new Unwritten keys Did ended
-  keys_read None bytes Did ended none did = subst (λ (b : List ℕ). Did b ended) (none refl) did
-  keys_read (Some name) bytes Did ended none did = inl (bytes, did)
+      (keys ≡ None → bytes ≡ []) → length bytes ≤ KEY_FILE_BYTES → Did bytes ended → FromKeys remaining in_old in_new Unwritten keys Did ended
+  keys_read None bytes Did ended none fits did = subst (λ (b : List ℕ). Did b ended) (none refl) did
+  keys_read (Some name) bytes Did ended none fits did = inl (bytes, fits, did)
 
 -- from what was read of one ending to another
 module _ {R : Type 0} (remaining : R → Option (List ℕ)) (in_old in_new : Tally R) (U V : Type 0) (ended other : Outcome)
@@ -97,8 +98,8 @@ module _ {R : Type 0} (remaining : R → Option (List ℕ)) (in_old in_new : Tal
   keys_next : (keys : Option (Bor (List ℕ))) (Did Next : List ℕ → Outcome → Type 0) → ((bytes : List ℕ) → Did bytes ended → Next bytes other) →
       FromKeys remaining in_old in_new U keys Did ended → FromKeys remaining in_old in_new V keys Next other
   keys_next None Did Next f did = f [] did
-  keys_next (Some name) Did Next f (inl (bytes, did)) = inl (bytes, f bytes did)
-  keys_next (Some name) Did Next f (inr d) = inr (declined_next (IsUnread name) d)
+  keys_next (Some name) Did Next f (inl (bytes, fits, did)) = inl (bytes, fits, f bytes did)
+  keys_next (Some name) Did Next f (inr d) = inr (declined_next (IsUnreadWithin KEY_FILE_BYTES name) d)
 
   settled_next : (asked : Option SessionSettings) (Did Next : SessionSettings → Outcome → Type 0) →
       ((settings : SessionSettings) → Did settings ended → Next settings other) →
@@ -353,15 +354,15 @@ module _ {R W : Type 0} (remaining : R → Option (List ℕ)) (contents : W → 
 module _ {R : Type 0} (remaining : R → Option (List ℕ)) (in_old in_new : Tally R) (arguments : RunArguments) where
   -- what a run's arguments ask for was read
   pub asked_is : (asked : Asked) → settings_asked arguments.settings ≡ Some asked.settings → (arguments.keys ≡ None → asked.keys.bytes.items ≡ []) →
-      IsGiven remaining in_old in_new arguments.is_image arguments.source asked.source.items → IsAsked remaining in_old in_new arguments asked
-  asked_is asked settled keys given = (
+      length asked.keys.bytes.items ≤ KEY_FILE_BYTES → IsGiven remaining in_old in_new arguments.is_image arguments.source asked.source.items → IsAsked remaining in_old in_new arguments asked
+  asked_is asked settled keys fits given = (
     settles remaining in_old in_new (Unit {0}) tt (settings_asked arguments.settings) asked.settings
         (λ settings. FromKeys remaining in_old in_new (Unit {0}) arguments.keys (λ keys. FromGiven remaining in_old in_new (Unit {0}) arguments.is_image arguments.source
         (λ source ended. (settings ≡ asked.settings) × (keys ≡ asked.keys.bytes.items) × (source ≡ asked.source.items))))
         (Ok Done) settled
         (keys_read remaining in_old in_new (Unit {0}) tt arguments.keys asked.keys.bytes.items
         (λ keys. FromGiven remaining in_old in_new (Unit {0}) arguments.is_image arguments.source
-        (λ source ended. (asked.settings ≡ asked.settings) × (keys ≡ asked.keys.bytes.items) × (source ≡ asked.source.items))) (Ok Done) keys
+        (λ source ended. (asked.settings ≡ asked.settings) × (keys ≡ asked.keys.bytes.items) × (source ≡ asked.source.items))) (Ok Done) keys fits
         (given_next remaining in_old in_new (Unit {0}) (Unit {0}) (Ok Done) (Ok Done) (λ Why h. (h, tt)) arguments.is_image arguments.source
         (λ source ended. source ≡ asked.source.items)
         (λ source ended. (asked.settings ≡ asked.settings) × (asked.keys.bytes.items ≡ asked.keys.bytes.items) × (source ≡ asked.source.items))
@@ -371,15 +372,15 @@ module _ {R : Type 0} (remaining : R → Option (List ℕ)) (in_old in_new : Tal
 
   -- the source wasn't
   pub unasked_source : {T : Type 0} (settings : SessionSettings) (bytes : List ℕ) (result : Result T Failure) (why : Failure) → result ≡ Err why →
-      settings_asked arguments.settings ≡ Some settings → (arguments.keys ≡ None → bytes ≡ []) → IsNotGiven remaining in_old in_new arguments.is_image arguments.source why →
+      settings_asked arguments.settings ≡ Some settings → (arguments.keys ≡ None → bytes ≡ []) → length bytes ≤ KEY_FILE_BYTES → IsNotGiven remaining in_old in_new arguments.is_image arguments.source why →
       IfErr result (λ y. IsUnasked remaining in_old in_new arguments y)
-  unasked_source {T} settings bytes result why e settled keys w =
+  unasked_source {T} settings bytes result why e settled keys fits w =
       subst (λ (r : Result T Failure). IfErr r (λ y. IsUnasked remaining in_old in_new arguments y)) (sym e)
       (settles remaining in_old in_new (Unit {0}) tt (settings_asked arguments.settings) settings
       (λ settings. FromKeys remaining in_old in_new (Unit {0}) arguments.keys (λ keys. FromGiven remaining in_old in_new (Unit {0}) arguments.is_image arguments.source (λ source ended. ⊥)))
       (Err why) settled
       (keys_read remaining in_old in_new (Unit {0}) tt arguments.keys bytes
-      (λ keys. FromGiven remaining in_old in_new (Unit {0}) arguments.is_image arguments.source (λ source ended. ⊥)) (Err why) keys w))
+      (λ keys. FromGiven remaining in_old in_new (Unit {0}) arguments.is_image arguments.source (λ source ended. ⊥)) (Err why) keys fits w))
 
 module _ {W : Type 0} (contents : W → Option (List ℕ)) (old new : Tally W) where
   -- there are no settings for a picture

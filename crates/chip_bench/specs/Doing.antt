@@ -3,8 +3,8 @@
 --     IsUnwritten, IsFileWritten     what hinders writing a file; that it was written
 --     GivesSource                    the bytes of a source of that name
 --     AsSource                       what a command did with the source that some bytes are
---     FromSource, FromGiven, FromFile, FromKeys, WithAsked    what a command did with the bytes that
---                                                  it read, or why it read none
+--     FromSource, FromGiven, FromFile, FromFileWithin, FromKeys, WithAsked    what a command did with
+--                                    the bytes that it read, or why it read none
 --     worse, with_ending              how a list of sources ends
 --     paints                         whether what `check` prints has colours
 --     ChecksOne, ChecksEach          what `check` did with a source, and with each of some
@@ -42,7 +42,8 @@ use Rattle.chip_bench.specs.declared.tracing.Shown.{Shown}
 use Rattle.chip_pages.specs.Pages.{IsContents, IsExplained}
 use Rattle.chip_arguments.specs.Version.{version_text}
 use Rattle.chip_bench.specs.Printing.{IsPrintedCheckOf, Printed, PrintsSuch, PrintsSuchUnder, PrintsUnder, Prints, RefusesKeys, StreamsUnder, fault_under, printed_faults, printed_listing, printed_picture, printed, printed_of, printed_run, printed_symbols}
-use Rattle.chip_bench.specs.Running.{AnswersIfAsked, AnswersScript, IsUnread, source_bytes_read, status_of}
+use Rattle.chip_bench.specs.Running.{AnswersIfAsked, AnswersScript, IsUnread, IsUnreadWithin, source_bytes_read, status_of}
+use Rattle.chip_bench.specs.declared.limits.TheConstants.{KEY_FILE_BYTES, TRACE_FILE_BYTES}
 use Rattle.chip_bench.specs.SettingArguments.{settings_asked}
 use Rattle.chip_session.specs.Settings.{SessionSettings}
 use Rattle.chip_session.specs.Tally.{Tally, failures_after_flush}
@@ -215,10 +216,17 @@ module _ {R : Type 0} (remaining : R → Option (List ℕ)) (in_old in_new : Tal
   abbrev pub FromFile : Bor (List ℕ) → (List ℕ → Outcome → Type 0) → Outcome → Type 0
   FromFile name Did ended = ((bytes : List ℕ) × Did bytes ended) ⊎ Declined (IsUnread name) ended
 
+  -- with the bytes of a file that has at most so many
+  abbrev pub FromFileWithin : (most : ℕ) → Bor (List ℕ) → (List ℕ → Outcome → Type 0) → Outcome
+      → Type 0
+  FromFileWithin most name Did ended =
+      ((bytes : List ℕ) × (length bytes ≤ most) × Did bytes ended)
+      ⊎ Declined (IsUnreadWithin most name) ended
+
   -- with the bytes of a file of key events, or none without the file
   abbrev pub FromKeys : Option (Bor (List ℕ)) → (List ℕ → Outcome → Type 0) → Outcome → Type 0
   FromKeys None Did ended = Did [] ended
-  FromKeys (Some name) Did ended = FromFile name Did ended
+  FromKeys (Some name) Did ended = FromFileWithin KEY_FILE_BYTES name Did ended
 
   -- under the settings that the arguments ask for
   abbrev pub IfSettled : Option SessionSettings → (SessionSettings → Outcome → Type 0) → Outcome
@@ -334,8 +342,9 @@ module _ {W : Type 0} (contents : W → Option (List ℕ)) (out_old out_new : Ta
       → (keys source : List ℕ) → Outcome → Type 0
   TracesBy arguments None settings keys source ended = TracesAlone arguments settings keys source ended
   TracesBy arguments (Some name) settings keys source ended =
-      ((bytes : List ℕ) × TracesBeside arguments settings keys source name (lines bytes) ended)
-      ⊎ Fails (IsUnread name) ended
+      ((bytes : List ℕ) × (length bytes ≤ TRACE_FILE_BYTES)
+      × TracesBeside arguments settings keys source name (lines bytes) ended)
+      ⊎ Fails (IsUnreadWithin TRACE_FILE_BYTES name) ended
 
   -- what a search over all key scripts of a machine answers is printed, and where it is asked for
   -- the listing of these lines with what is executed

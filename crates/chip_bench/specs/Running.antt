@@ -44,6 +44,7 @@ failure_status (failure.BadKeys name number code) = 2
 failure_status (failure.BadTrace name fault) = 2
 failure_status (failure.NoPage code) = 2
 failure_status (failure.CannotRead name error) = 3
+failure_status (failure.TooLong name most) = 3
 failure_status (failure.CannotWrite name error) = 3
 failure_status (failure.BadTest name line fault) = 3
 failure_status (failure.UnreadInTest name line error) = 3
@@ -154,6 +155,11 @@ abbrev pub IsUnread : Bor (List ℕ) → Failure → Type 0
 IsUnread name hindrance =
     (hindrance ≡ failure.OutOfMemory)
     ⊎ ((why : IoError) × (hindrance ≡ failure.CannotRead name why))
+
+-- the same of a file that may have so many bytes
+abbrev pub IsUnreadWithin : (most : ℕ) → Bor (List ℕ) → Failure → Type 0
+IsUnreadWithin most name hindrance =
+    IsUnread name hindrance ⊎ (hindrance ≡ failure.TooLong name most)
 
 -- how many bytes of a source are read; one of that length or more doesn't open
 abbrev pub source_bytes_read : ℕ

@@ -31,6 +31,7 @@ use Rattle.chip_bench.specs.declared.case_run.Verdict.TheVariants as verdict
 use Rattle.chip_bench.specs.declared.ending.Ending.{Ending}
 use Rattle.chip_bench.specs.declared.ending.Ending.TheVariants.{Done, Faulty}
 use Rattle.chip_bench.specs.declared.ending.Failure.{Failure}
+use Rattle.chip_bench.specs.declared.limits.TheConstants.{KEY_FILE_BYTES, TEST_FILE_BYTES}
 
 -- the answer of the session to each of these commands, one after another, is as expected
 abbrev pub Passes : Session → List Expectation → Type 0
@@ -83,10 +84,10 @@ IsCaseSource (case_source.Lines lines) source = source ≡ lines.now
 IsCaseSource (case_source.File name) source = Unit {0}
 IsCaseSource (case_source.Image name) source = IsSourceOfImage source
 
--- its key events: none, or those of a file
+-- its key events: none, or those of a file that isn't too long
 abbrev pub IsCaseKeys : Option Placed → List ℕ → Type 0
 IsCaseKeys None keys = keys ≡ []
-IsCaseKeys (Some name) keys = Unit {0}
+IsCaseKeys (Some name) keys = length keys ≤ KEY_FILE_BYTES
 
 -- whether a case passes, on the source, the key events and the settings that its lines ask for
 pub record JudgesCase (case : Case) (passes : Bool) : Type 0 where
@@ -108,10 +109,10 @@ JudgesAll Judges (x ∷ xs) passes =
     (one : Bool) × ((others : Bool)
     × Judges x one × JudgesAll Judges xs others × (passes ≡ (one && others)))
 
--- the cases of a file, of whose bytes no contract speaks
+-- the cases of a file, of whose bytes no contract says more than how many they are at most
 abbrev pub JudgesFile : Bor (List ℕ) → Bool → Type 0
 JudgesFile name passes =
-    (text : List ℕ) × ((cases : List Case)
+    (text : List ℕ) × ((cases : List Case) × (length text ≤ TEST_FILE_BYTES)
     × AreCases text cases × JudgesAll JudgesCase cases passes)
 
 -- what hinders a test: a file that can't be read or written, one that isn't of cases, an output

@@ -81,6 +81,9 @@ pub(crate) enum Failure<'a> {
     NoPage(&'a str),
     #[error("chipbench: cannot read {0}\nreason: {1}\n")]
     CannotRead(&'a str, io::Error),
+    /// The file has over so many bytes.
+    #[error("chipbench: cannot read {0}\nreason: it has over {1} bytes\n")]
+    TooLong(&'a str, u32),
     #[error("chipbench: cannot write {0}\nreason: {1}\n")]
     CannotWrite(&'a str, io::Error),
     #[error("chipbench: input fault\n")]
@@ -120,6 +123,7 @@ impl<'a> Failure<'a> {
             | Failure::BadTrace(_, _)
             | Failure::NoPage(_) => 2,
             Failure::CannotRead(_, _)
+            | Failure::TooLong(_, _)
             | Failure::CannotWrite(_, _)
             | Failure::BadTest(_, _, _)
             | Failure::UnreadInTest(_, _, _)

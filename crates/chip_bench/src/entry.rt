@@ -400,13 +400,7 @@ fn trace<'a, F: FileAccess, I: Read, O: Write, E: Write>(
     match arguments.against {
         None => trace_alone(alloc, arguments, asked, output),
         Some(name) => {
-            let theirs = read_bounded(
-                alloc,
-                files,
-                name,
-                TRACE_FILE_BYTES,
-                "it has over 250000000 bytes",
-            )?;
+            let theirs = read_bounded(alloc, files, name, TRACE_FILE_BYTES)?;
             trace_beside(alloc, arguments, asked, name, &theirs, output)
         }
     }

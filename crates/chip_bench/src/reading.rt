@@ -1,10 +1,10 @@
 //! What the commands read: settings, sources, images and files of key events.
-ghost use Rattle.std.specs.Prelude.{◌≡◌, ◌≤◌, ◌⊎◌, [], Ok, None, Some, length, take, IfOk, IfErr, IsErr, IfSome};
+ghost use Rattle.std.specs.Prelude.{◌≡◌, ◌<◌, ◌≤◌, ◌⊎◌, [], Ok, None, Some, length, take, IfOk, IfErr, IsErr, IfSome};
 ghost use Rattle.hex.specs.Hex.{decode_of};
 ghost use Rattle.chip_lang.specs.declared.limits.TheConstants.{IMAGE_BYTES};
 ghost use Rattle.chip_views.specs.Dis.{source_of_image};
 ghost use Rattle.chip_bench.specs.SettingArguments.{settings_asked, tape_asked};
-ghost use Rattle.chip_bench.specs.Running.{IsUnread, source_bytes_read};
+ghost use Rattle.chip_bench.specs.Running.{IsUnread, IsUnreadWithin, source_bytes_read};
 ghost use Rattle.chip_bench.specs.inner.Reads.{IsAsked, IsGiven, IsKeysUnread, IsNotGiven, IsNotTaken, IsTaken, IsUnasked};
 ghost use Rattle.chip_bench.specs.Doing.{GivesSource, IsImageRefused, IsInputUnread, IsSourceUnread};
 
@@ -122,6 +122,7 @@ fn read_keys<'a, F: FileAccess>(
     name: Option<&'a str>,
 ) -> Result<KeyFile<'a>, Failure<'a>>
     ensures ok { IfOk result (λ keys. name.entry ≡ None → keys.bytes.items ≡ []) }
+    ensures bound { IfOk result (λ keys. length keys.bytes.items ≤ KEY_FILE_BYTES) }
     ensures err { IfErr result (IsKeysUnread name.entry) }
 {
     match name {
@@ -139,15 +140,10 @@ fn read_key_file<'a, F: FileAccess>(
     files: &F,
     name: &'a str,
 ) -> Result<KeyFile<'a>, Failure<'a>>
-    ensures { IfErr result (IsUnread name.entry) }
+    ensures ok { IfOk result (λ keys. length keys.bytes.items ≤ KEY_FILE_BYTES) }
+    ensures err { IfErr result (IsUnreadWithin KEY_FILE_BYTES name.entry) }
 {
-    let bytes = read_bounded(
-        alloc,
-        files,
-        name,
-        KEY_FILE_BYTES,
-        "it has over 10000000 bytes",
-    )?;
+    let bytes = read_bounded(alloc, files, name, KEY_FILE_BYTES)?;
     Ok(KeyFile { name, bytes })
 }
 
@@ -157,14 +153,22 @@ pub(crate) fn read_bounded<'a, F: FileAccess>(
     files: &F,
     name: &'a str,
     most: u32,
-    over: &'static str,
 ) -> Result<Vec<u8>, Failure<'a>>
-    ensures { IfErr result (IsUnread name.entry) }
+    ensures ok { IfOk result (λ bytes. length bytes.items ≤ most) }
+    ensures err { IfErr result (IsUnreadWithin most name.entry) }
 {
     let bytes = read_file(alloc, files, name, most.saturating_add(1))?;
+    unless_longer(bytes, name, most)
+}
+
+// The bytes that were read of a file, unless these are over so many.
+fn unless_longer<'a>(bytes: Vec<u8>, name: &'a str, most: u32) -> Result<Vec<u8>, Failure<'a>>
+    ensures ok { IfOk result (λ kept. (kept ≡ bytes) × (length bytes.items ≤ most)) }
+    ensures err { IfErr result (λ why. (why ≡ Failure.TooLong name.entry most)
+        × (most < length bytes.items)) }
+{
     if bytes.len() > most as usize {
-        let error = io::Error::new(io::ErrorKind::InvalidData, over);
-        return Err(Failure::CannotRead(name, error));
+        return Err(Failure::TooLong(name, most));
     }
     Ok(bytes)
 }

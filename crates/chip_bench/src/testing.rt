@@ -77,13 +77,7 @@ fn test_file<'a, F: FileAccess>(
     ensures ok { IfOk result (JudgesFile name.entry) }
     ensures err { IfErr result IsHindrance }
 {
-    let text = read_bounded(
-        alloc,
-        files,
-        name,
-        TEST_FILE_BYTES,
-        "it has over 10000000 bytes",
-    )?;
+    let text = read_bounded(alloc, files, name, TEST_FILE_BYTES)?;
     let cases = match read_cases(alloc, &text) {
         Ok(cases) => cases,
         Err(FileFault::OutOfMemory) => return Err(Failure::OutOfMemory),

@@ -5,7 +5,8 @@ use Rattle.std.specs.Borrow.{Bor}
 use Rattle.chip_asm.specs.Lines.{lines_of, open_fault}
 use Rattle.chip_bench.specs.Doing.{AsSource, FromGiven, IsShort, Outcome, WithAsked, image_in}
 use Rattle.chip_bench.specs.Printing.{Prints, printed_faults, printed_of}
-use Rattle.chip_bench.specs.Running.{IsUnread, failure_status}
+use Rattle.chip_bench.specs.Running.{IsUnreadWithin, failure_status}
+use Rattle.chip_bench.specs.declared.limits.TheConstants.{KEY_FILE_BYTES}
 use Rattle.chip_bench.specs.SettingArguments.{settings_asked}
 use Rattle.chip_session.specs.Tally.{Tally}
 use Rattle.chip_arguments.specs.declared.command_line.RunArguments.{RunArguments}
@@ -21,7 +22,7 @@ IsUsage (Err failure) = (failure_status failure ≡ 2) ⊎ (failure_status failu
 -- what hinders reading a file of key events
 abbrev pub IsKeysUnread : Option (Bor (List ℕ)) → Failure → Type 0
 IsKeysUnread None why = ⊥
-IsKeysUnread (Some name) why = IsUnread name why
+IsKeysUnread (Some name) why = IsUnreadWithin KEY_FILE_BYTES name why
 
 -- the source that some bytes are
 abbrev pub IsTaken : Bool → Bor (List ℕ) → (bytes source : List ℕ) → Type 0
