@@ -15,7 +15,7 @@
 --     Ends                           how the program ended after that
 -- No contract says what bytes a file gives or takes: of a file's bytes these definitions say that
 -- there are some.
-use Rattle.std.specs.Prelude.{◌≡◌, ◌≢◌, ◌⊎◌, ℕ, ◌<◌, ◌≤◌, ◌==◌, Bool, true, false, List, [], ◌∷◌, codes, length, take, Option, Some, None, option_copied, IfSome, Result, Ok, Err, IsErrAnd, if◌then◌else◌}
+use Rattle.std.specs.Prelude.{◌≡◌, ◌≢◌, ◌⊎◌, ℕ, ◌<◌, ◌≤◌, ◌==◌, min, Bool, true, false, List, [], ◌∷◌, codes, length, take, Option, Some, None, option_copied, IfSome, Result, Ok, Err, IsErrAnd, if◌then◌else◌}
 use Rattle.std.specs.Borrow.{Bor}
 use Rattle.std.specs.Io.KnownBytes.{Keeps}
 use Rattle.std.specs.declared.io.Error.{Error as IoError}
@@ -161,12 +161,16 @@ module _ {R : Type 0} (in_old in_new : Tally R) where
 abbrev pub form_of : (is_json : Bool) → Form
 form_of is_json = if is_json then Json else Fields
 
+-- the first step that a trace shows: its last one, where the arguments name a later one
+abbrev pub first_shown : TraceArguments → ℕ
+first_shown arguments = min arguments.from arguments.run.steps
+
 -- the part of a run that a trace with these columns shows
 abbrev pub shown_by : TraceArguments → List Column → Shown
 shown_by arguments columns = record {
   columns = columns;
   form = form_of arguments.is_json;
-  from = arguments.from;
+  from = first_shown arguments;
   to = arguments.run.steps;
 }
 

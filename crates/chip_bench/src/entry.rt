@@ -7,7 +7,7 @@ ghost use Rattle.chip_bench.specs.Printing.{Prints, printed, printed_listing, pr
 ghost use Rattle.chip_session.specs.Settings.{default_settings};
 ghost use Rattle.chip_bench.specs.Running.{AnswersScript, RunsSession, status_of, failure_status, AreFaulty, IsWithoutArguments};
 ghost use Rattle.chip_bench.specs.inner.Reads.{IsUsage};
-ghost use Rattle.chip_bench.specs.Doing.{Assembles, Debugs, Disassembles, Does, Ends, IsFileWritten, Performs, PrintsText, Runs, ShowsHelp, ShowsVersion, Tells, Traces, TracesAlone, TracesBeside, form_of};
+ghost use Rattle.chip_bench.specs.Doing.{Assembles, Debugs, Disassembles, Does, Ends, IsFileWritten, Performs, PrintsText, Runs, ShowsHelp, ShowsVersion, Tells, Traces, TracesAlone, TracesBeside, first_shown, form_of};
 ghost use Rattle.chip_arguments.specs.CommandArguments.{argument_faults};
 ghost use Rattle.std.specs.Io.KnownBytes.{Keeps};
 ghost use Rattle.std.specs.IoError.{error_kind};
@@ -418,7 +418,7 @@ fn trace_alone<'a, O: Write>(
     let shown = Shown {
         columns: Columns::usual(alloc, arguments.sums)?,
         form: form_of(arguments.is_json),
-        from: arguments.from,
+        from: first_shown(arguments),
         to: arguments.run.steps,
     };
     let Asked {
@@ -427,6 +427,13 @@ fn trace_alone<'a, O: Write>(
         settings,
     } = asked;
     trace_source(alloc, &source, &keys, &shown, settings, output)
+}
+
+// The first step that a trace shows: its last one, where the arguments name a later one.
+fn first_shown(arguments: &TraceArguments<'_>) -> u32
+    ensures { result ≡ first_shown arguments.now }
+{
+    arguments.from.min(arguments.run.steps)
 }
 
 // How the lines of a trace show their columns.
@@ -461,7 +468,7 @@ fn trace_beside<'a, O: Write>(
     let shown = Shown {
         columns,
         form: Form::Fields,
-        from: arguments.from,
+        from: first_shown(arguments),
         to: arguments.run.steps,
     };
     let Asked {

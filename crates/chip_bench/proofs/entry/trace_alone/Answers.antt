@@ -13,4 +13,4 @@ returns-in_err-usual g c =
     (λ session. printed_trace session (shown_by c.args.arguments.now (usual_columns c.args.arguments.now.sums))) c.from_residual.result short refl
 
 pub returns : goal.returns
-returns g c = rw (sym c.form_of.ensures, sym c.in_ok-usual.ensures, sym c.deref.ensures.value) c.trace_source.ensures
+returns g c = rw (sym c.form_of.ensures, sym c.first_shown.ensures, sym c.in_ok-usual.ensures, sym c.deref.ensures.value) c.trace_source.ensures
