@@ -1,11 +1,14 @@
 -- What `explore` did, from what its steps did.
-use Rattle.std.proofs.Common.{◌≡◌, ◌⊎◌, inl, inr, ℕ, List, ◌++◌, Option, Some, None, Ok, Err, sym, subst}
+use Rattle.std.proofs.Common.{◌≡◌, ◌⊎◌, inl, inr, ℕ, Bool, true, false, List, ◌++◌, Option, Some, None, Ok, Err, sym, subst}
 use Rattle.std.specs.Prelude.{MatchOption, option_copied}
+use Rattle.std.specs.Borrow.{Bor}
 use Rattle.chip_arguments.specs.declared.command_line.ExploreArguments.{ExploreArguments}
 use Rattle.chip_asm.specs.Lines.{lines_of, open_fault}
 use Rattle.chip_asm.specs.Program.{image_of, symbols_of}
 use Rattle.chip_explore.specs.Answers.{Answers, AreExecuted}
 use Rattle.chip_explore.specs.declared.question.Explored.{Explored}
+use Rattle.chip_explore.specs.declared.question.Outcome.{Outcome as SearchOutcome}
+use Rattle.chip_explore.specs.declared.question.Outcome.TheVariants.{Found, Later, Within, Never}
 use Rattle.chip_explore.specs.declared.target.Target.{Target}
 use Rattle.chip_machine.specs.Start.{start_of}
 use Rattle.chip_machine.specs.State.{State}
@@ -16,14 +19,25 @@ use Rattle.chip_bench.specs.Exploring.{AsksCauses, AsksKeys, covering_text, firs
 use Rattle.chip_bench.specs.Printing.{Prints, printed, printed_faults}
 use Rattle.chip_bench.specs.SettingArguments.{settings_asked}
 use Rattle.chip_bench.specs.declared.ending.Ending.{Ending}
-use Rattle.chip_bench.specs.declared.ending.Ending.TheVariants.{Done}
+use Rattle.chip_bench.specs.declared.ending.Ending.TheVariants.{Done, Faulty}
 use Rattle.chip_bench.specs.declared.ending.Failure.{Failure}
 use Rattle.chip_bench.specs.inner.Reads.{IsGiven, IsNotGiven}
 use Rattle.chip_bench.specs.inner.Sets.{IsBadSets}
+use Rattle.chip_bench.specs.inner.Written.{IsNamedWritten, IsScriptWritten}
 use Rattle.chip_bench.proofs.DoingLemmas.{Unsettles, declines, fails, given_next, settles, unsettles}
 
 some_is_none : {k : ℕ} → Some k ≡ None → ⊥
 some_is_none h = cc
+
+-- the program ends as faulty after a search where a script was found, whose key events were written
+pub found_written : (wrote : List ℕ → List ℕ → Type 0) (outcome : SearchOutcome) (is_short : Bool) (name : Option (Bor (List ℕ))) →
+    Faulty ≡ search_ending outcome is_short → IsScriptWritten wrote outcome name → IsNamedWritten wrote name
+found_written wrote (Found events step met) is_short name faulty written = written
+found_written wrote (Later events step met covered) is_short name faulty written = written
+found_written wrote (Within n) true name faulty written = cc
+found_written wrote (Within n) false name faulty written = cc
+found_written wrote Never true name faulty written = cc
+found_written wrote Never false name faulty written = cc
 
 module _ {W : Type 0} (contents : W → Option (List ℕ)) (out_old out_new : Tally W) where
   -- what is printed of a search

@@ -1,5 +1,6 @@
--- What private contracts say: what was read for a command, what `explore` tells, and what
--- `check --cover` takes as executed.
+-- What private contracts say: what was read for a command, what `explore` tells, what
+-- `check --cover` takes as executed, and what was written to files.
 pub mod Reads
 pub mod Sets
 pub mod Covering
+pub mod Written

@@ -1,5 +1,5 @@
 //! The program behind `main`.
-ghost use Rattle.std.specs.Prelude.{◌≡◌, [], ◌∷◌, ◌⊎◌, map};
+ghost use Rattle.std.specs.Prelude.{◌≡◌, [], ◌∷◌, ◌⊎◌, map, Ok, OnOk};
 ghost use Rattle.std.specs.Str.Lines.{lines};
 ghost use Rattle.clap.specs.Words.{kind_of};
 ghost use Rattle.chip_arguments.specs.Version.{version_text};
@@ -7,6 +7,7 @@ ghost use Rattle.chip_bench.specs.Printing.{Prints, printed, printed_listing, pr
 ghost use Rattle.chip_session.specs.Settings.{default_settings};
 ghost use Rattle.chip_bench.specs.Running.{AnswersScript, RunsSession, status_of, failure_status, AreFaulty, IsWithoutArguments};
 ghost use Rattle.chip_bench.specs.inner.Reads.{IsUsage};
+ghost use Rattle.chip_bench.specs.inner.Written.{IsImageWritten};
 ghost use Rattle.chip_bench.specs.Doing.{Assembles, Debugs, Disassembles, Does, Ends, IsFileWritten, Performs, PrintsText, Runs, ShowsHelp, ShowsVersion, Tells, Traces, TracesAlone, TracesBeside, first_shown, form_of};
 ghost use Rattle.chip_arguments.specs.CommandArguments.{argument_faults};
 ghost use Rattle.std.specs.Io.KnownBytes.{Keeps};
@@ -291,8 +292,9 @@ fn asm<'a, F: FileAccess, I: Read, O: Write>(
     input: &mut Counted<I>,
     output: &mut Counted<O>,
 ) -> Result<Ending, Failure<'a>>
-    ensures { Assembles I.remaining O.contents input.old input.new output.old output.new
+    ensures did { Assembles I.remaining O.contents input.old input.new output.old output.new
         source.entry image.entry result }
+    ensures written { result ≡ Ok Ending.Done → IsImageWritten (F.wrote files.now image.entry.now) }
 {
     let bytes = read_source(alloc, files, source, input)?;
     let Some(assembled) = image_or_faults(alloc, bytes, output)? else {
@@ -339,7 +341,8 @@ pub(crate) fn write_image<'a, F: FileAccess>(
     image: &'a str,
     bytes: &[u8],
 ) -> Result<Ending, Failure<'a>>
-    ensures { IsFileWritten image.entry result }
+    ensures ended { IsFileWritten image.entry result }
+    ensures written { OnOk result (F.wrote files.now image.entry.now bytes.now) }
 {
     match files.write(alloc, taken, image, bytes) {
         Ok(()) => Ok(Ending::Done),

@@ -1,8 +1,9 @@
 //! `explore`: what a search over all key scripts answers of a source's image.
-ghost use Rattle.std.specs.Prelude.{◌≡◌, ◌⊎◌, ◌<◌, ◌++◌, ℕ, List, IfOk, IfErr, MatchOption, OnOk, option_copied};
+ghost use Rattle.std.specs.Prelude.{◌≡◌, ◌⊎◌, ◌<◌, ◌++◌, ℕ, List, Ok, IfOk, IfErr, MatchOption, OnOk, option_copied};
 ghost use Rattle.chip_asm.specs.Program.{image_of, symbols_of};
 ghost use Rattle.chip_machine.specs.Start.{start_of};
 ghost use Rattle.chip_bench.specs.Doing.{Explores, Fails, IsBadPlace, IsScriptUnwritten, IsShort, Searches, SearchesFrom, image_in};
+ghost use Rattle.chip_bench.specs.inner.Written.{IsNamedWritten, IsScriptWritten};
 ghost use Rattle.chip_bench.specs.Printing.{Prints, printed_faults};
 ghost use Rattle.chip_bench.specs.Exploring.{address_of, cause_word, covering_text, first_lines, in_memory, met_word, number_line, search_ending, target_asked};
 
@@ -190,8 +191,11 @@ fn search<'a, F: FileAccess, O: Write, W: Watcher>(
 ) -> Result<Ending, Failure<'a>>
     requires rate { 0 < question.now.rate }
     requires fresh { start.now.core.draws ≡ 0 }
-    ensures { SearchesFrom O.contents output.old output.new arguments.entry.now source.now.lines
-        question.now.rate question.now.allowed question.now.target start.now result }
+    ensures searched { SearchesFrom O.contents output.old output.new arguments.entry.now
+        source.now.lines question.now.rate question.now.allowed question.now.target start.now result }
+    // Where a script was found, the program ends so.
+    ensures written { result ≡ Ok Ending.Faulty
+        → IsNamedWritten (F.wrote files.now) arguments.entry.now.keys_to }
 {
     let bounds = Bounds {
         steps: match arguments.steps {
@@ -214,7 +218,9 @@ fn write_script<'a, F: FileAccess>(
     arguments: &ExploreArguments<'a>,
     outcome: &Outcome,
 ) -> Result<Ending, Failure<'a>>
-    ensures { IfErr result (IsScriptUnwritten arguments.entry.now.keys_to) }
+    ensures ok { OnOk result (IsScriptWritten (F.wrote files.now) outcome.now
+        arguments.entry.now.keys_to) }
+    ensures err { IfErr result (IsScriptUnwritten arguments.entry.now.keys_to) }
 {
     let (Outcome::Found { events, .. } | Outcome::Later { events, .. }) = outcome else {
         return Ok(Ending::Done);

@@ -1,4 +1,5 @@
 //! What commands do with files.
+ghost use Rattle.std.specs.Prelude.{ℕ, List, OnOk};
 
 use chip_files::{read_file, write_file};
 use std::alloc::Global;
@@ -7,6 +8,9 @@ use std::rt::Files;
 
 /// Files that can be read and written as a whole. The commands need no more of `Files`.
 pub(crate) trait FileAccess {
+    // That a file of this name took these bytes. Nothing says so but a write that went well.
+    ghost wrote: { Self → (name bytes : List ℕ) → Type 0 };
+
     /// What the file of a name has, up to `most` bytes.
     fn read(&self, alloc: Global, name: &str, most: u32) -> io::Result<Vec<u8>>;
 
@@ -18,10 +22,14 @@ pub(crate) trait FileAccess {
         taken: &[Option<&str>],
         name: &str,
         bytes: &[u8],
-    ) -> io::Result<()>;
+    ) -> io::Result<()>
+        ensures { OnOk result (wrote self.now name.now bytes.now) };
 }
 
 impl<F: Files> FileAccess for F {
+    // What a file of the system takes no contract says.
+    ghost wrote = { λ files name bytes. Unit {0} };
+
     fn read(&self, alloc: Global, name: &str, most: u32) -> io::Result<Vec<u8>> {
         read_file(alloc, self, name, most)
     }

@@ -1,6 +1,7 @@
 //! `picture`: the screen after some steps, printed or written to files.
-ghost use Rattle.std.specs.Prelude.{◌≡◌, Some};
+ghost use Rattle.std.specs.Prelude.{◌≡◌, Ok, Some};
 ghost use Rattle.chip_bench.specs.SettingArguments.{settings_asked};
+ghost use Rattle.chip_bench.specs.inner.Written.{IsSomeWritten};
 ghost use Rattle.chip_bench.specs.Doing.{Pictures, PicturesBy, PrintsPicture, WritesPicture, letters_of};
 
 use crate::ending::{Ending, Failure};
@@ -110,9 +111,10 @@ impl<'a> Shot<'a> {
         name: &'a str,
         output: &mut Counted<O>,
     ) -> Result<Ending, Failure<'a>>
-        ensures { WritesPicture O.contents output.old output.new
+        ensures did { WritesPicture O.contents output.old output.new
             (settings_asked self.now.arguments.run.settings) self.now.asked.source.items
             self.now.asked.keys.bytes.items self.now.arguments.run.steps form name.entry result }
+        ensures written { result ≡ Ok Ending.Done → IsSomeWritten (F.wrote files.now name.entry.now) }
     {
         let mut picture = Counted::new(Vec::new(alloc));
         match self.print(alloc, form, &mut picture) {

@@ -10,7 +10,7 @@ returns-in-Debug g c =
 pub returns-in-Asm : goal.returns-in-Asm
 returns-in-Asm g c =
     does_it g.I.Read.remaining g.O.Write.contents c.args.input.now c.asm.new.input c.args.output.now c.asm.new.output c.args.host.takes_color c.args.line.now _ c.asm.result
-    c.in-Asm.is c.asm.ensures
+    c.in-Asm.is c.asm.ensures.did
 
 pub returns-in-List : goal.returns-in-List
 returns-in-List g c =
