@@ -33,6 +33,14 @@ def shown(path: Path | str) -> str:
     return os.fsencode(path).decode("utf-8", "replace")
 
 
+def encoded(name: str) -> bytes:
+    """The bytes of a file's name. JSON can hold one half of a pair of surrogates, which is no text and stands for no byte."""
+    try:
+        return os.fsencode(name)
+    except UnicodeEncodeError:
+        raise Refused(400, "a file's name has a character that can't be in one") from None
+
+
 class Files:
     """SOURCE, where there is one, and the folder that the page may read files from and save them to, by their plain names: that of
     SOURCE, else `folder`, else the current one."""
@@ -45,7 +53,7 @@ class Files:
         """The path of a plain name in the folder. SOURCE's own name is always one."""
         if self.source is not None and name == self.source.name:
             return self.source
-        if not isinstance(name, str) or not 0 < len(os.fsencode(name)) < 256 or name.startswith("."):
+        if not isinstance(name, str) or not 0 < len(encoded(name)) < 256 or name.startswith("."):
             raise Refused(400, "a file's name has 1 to 255 bytes and doesn't begin with a full stop")
         if any(character in name for character in "/\\\0\n\r"):
             raise Refused(400, "a file's name has no slash: files are read from and saved to one folder")

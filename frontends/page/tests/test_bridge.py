@@ -557,6 +557,20 @@ class OtherFiles(Running):
             for request in ("read", "save"):
                 self.assertEqual(self.ask(request, name=name, text="", known=None)[0], 400, name)
 
+    def test_a_name_that_no_file_can_have(self) -> None:
+        """JSON can hold one half of a pair of surrogates, which no bytes of a name stand for. The response says so."""
+        for name in ("\ud800", "\udfff", "\udc7f", "\udd00", "game\ud83d.asm", "\udc80\ud800.asm"):
+            for request in ("read", "save"):
+                status, reason = self.ask(request, name=name, text="CLS\n", known=None)
+                self.assertEqual((status, reason.strip()), (400, "a file's name has a character that can't be in one"), ascii(name))
+        self.assertEqual(os.listdir(self.folder).count("game.asm"), 1)
+        self.assertEqual(len(os.listdir(self.folder)), 2, "the source and the fake program")
+        # both halves of a pair are a character, which is a good name
+        raw = b'{"name":"\\ud83d\\ude00.asm","text":"CLS\\n","known":null}'
+        status, _, content = self.send("POST", "save", raw, Origin=f"http://{self.host}")
+        self.assertEqual((status, json.loads(content)["saved"]), (200, True))
+        self.assertEqual((self.folder / "\U0001f600.asm").read_bytes(), b"CLS\n")
+
     def test_a_name_that_is_no_text(self) -> None:
         """Names are bytes: each comes to the page and back as it is."""
         name = os.fsdecode(b"g\xe4me\xff.asm")
