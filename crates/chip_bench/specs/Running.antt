@@ -140,7 +140,7 @@ arguments_failure kind.OutOfMemory error = failure.OutOfMemory
 arguments_failure _ error = failure.Usage error
 
 -- the status where the system can't give the program's arguments as text; 4 after any error where
--- there is no memory to say so
+-- memory runs out to say so
 abbrev pub IsWithoutArguments : IoErrorKind → ℕ → Type 0
 IsWithoutArguments io_kind.OutOfMemory status = status ≡ 4
 IsWithoutArguments _ status = (status ≡ 2) ⊎ (status ≡ 4)

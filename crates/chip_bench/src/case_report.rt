@@ -2,6 +2,7 @@
 
 use crate::case_run::Verdict;
 use chip_cases::{Case, Given, Step, difference_text};
+use chip_check::push_as_shown;
 use chip_pages::page_on;
 use itoa::Buffer;
 use std::alloc::{AllocError, Global};
@@ -52,12 +53,12 @@ impl Report {
             self.failed = self.failed.saturating_add(1);
         }
         if self.is_tap {
-            self.push_tap_line(file, case, has_passed)?;
+            self.push_tap_line(alloc, file, case, has_passed)?;
         }
         if !has_passed {
             let mut details = Vec::new(alloc);
             push_failure(alloc, &mut details, file, case, verdict)?;
-            self.push_details(&details)?;
+            self.push_details(alloc, &details)?;
         }
         Ok(())
     }
@@ -81,6 +82,7 @@ impl Report {
 
     fn push_tap_line(
         &mut self,
+        alloc: Global,
         file: &str,
         case: &Case<'_>,
         has_passed: bool,
@@ -91,33 +93,45 @@ impl Report {
         let number = digits.format(self.passed.saturating_add(self.failed));
         push_parts(
             &mut self.text,
-            &[
-                outcome.as_bytes(),
-                number.as_bytes(),
-                b" - ",
-                file.as_bytes(),
-                colon.as_bytes(),
-                case.name,
-                b"\n",
-            ],
-        )
+            &[outcome.as_bytes(), number.as_bytes(), b" - "],
+        )?;
+        push_tap_text(alloc, &mut self.text, file.as_bytes())?;
+        self.text.extend_from_slice(colon.as_bytes())?;
+        push_tap_text(alloc, &mut self.text, case.name)?;
+        self.text.push(b'\n')?;
+        Ok(())
     }
 
-    // Adds lines, which are comments in the Test Anything Protocol.
-    fn push_details(&mut self, details: &[u8]) -> Result<(), AllocError> {
-        if !self.is_tap {
-            return self.text.extend_from_slice(details);
-        }
-        let mut is_begun = true;
-        for byte in details {
-            if is_begun {
-                self.text.extend_from_slice(b"# ")?;
+    // Adds lines as they are shown, which are comments in the Test Anything Protocol. The last one has
+    // its end too.
+    fn push_details(&mut self, alloc: Global, details: &[u8]) -> Result<(), AllocError> {
+        let mut start = 0;
+        for (end, byte) in details.iter().enumerate() {
+            if *byte == b'\n' {
+                if self.is_tap {
+                    self.text.extend_from_slice(b"# ")?;
+                }
+                let line = details.get(start..end).unwrap_or(&[]);
+                push_as_shown(alloc, &mut self.text, line)?;
+                self.text.push(b'\n')?;
+                start = end + 1;
             }
-            self.text.push(*byte)?;
-            is_begun = *byte == b'\n';
         }
         Ok(())
     }
+}
+
+// Adds a name on a line of the Test Anything Protocol, where a number sign begins a directive unless a
+// backslash stands before it.
+fn push_tap_text(alloc: Global, text: &mut Vec<u8>, name: &[u8]) -> Result<(), AllocError> {
+    let mut marked = Vec::new(alloc);
+    for byte in name {
+        if matches!(*byte, b'#' | b'\\') {
+            marked.push(b'\\')?;
+        }
+        marked.push(*byte)?;
+    }
+    push_as_shown(alloc, text, &marked)
 }
 
 // Adds why a case failed.

@@ -15,7 +15,7 @@ use chip_machine::Profile;
 use chip_warnings::Coverage;
 use std::alloc::{AllocError, Global};
 
-// The tape where no word gives one.
+// The tape where no argument gives one.
 const USUAL_TAPE: &[u8] = &[0];
 
 /// What key scripts execute of an image.
@@ -28,7 +28,7 @@ pub(crate) struct Covered {
 
 impl Covered {
     /// What a search over the key scripts of all keys saw, which had the tape, the rate and the
-    /// bounds that `explore` has where no word gives others. Where memory runs out there is none.
+    /// bounds that `explore` has where no argument gives others. Where memory runs out there is none.
     pub(crate) fn of<W: Watcher>(
         alloc: Global,
         image: &[u8],

@@ -74,11 +74,11 @@ pub fn program<F: Files, S: AsStr, I: Read, O: Write, E: Write>(
 ) -> u8
     ensures session { arguments.now ≡ [] → RunsSession I.remaining O.contents input.old input.new
         output.old output.new result }
-    // Words with a fault are refused, and nothing is read or written.
+    // Arguments with a fault are refused, and nothing is read or written.
     ensures usage { AreFaulty (argument_faults (map S.text arguments.now)) → ((result ≡ 2) ⊎ (result ≡ 4))
         × (input.new ≡ input.old)
         × Keeps (O.contents output.old.inner) (O.contents output.new.inner) }
-    // Words without a fault ask for something, and that is done.
+    // Arguments without a fault ask for something, and that is done.
     ensures good { argument_faults (map S.text arguments.now) ≡ [] → Ends O.contents (λ written ended.
         Performs I.remaining O.contents input.old input.new output.old written host.takes_color
         (map S.text arguments.now) ended)

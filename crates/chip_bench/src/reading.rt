@@ -214,10 +214,11 @@ pub(crate) fn as_source<'a, E: Write>(
     Ok(bytes)
 }
 
-// Whether one of the first bytes is a control byte that no text has.
+// Whether one of the first bytes is a control byte that neither a text has nor the language takes for a
+// blank, as it does 26.
 fn looks_like_image(bytes: &[u8]) -> bool {
     bytes.iter().take(FIRST_BYTES).any(|byte| *byte < b' '
-        && !matches!(*byte, b'\t' | b'\n' | b'\r' | 0x0c | 0x1b))
+        && !matches!(*byte, b'\t' | b'\n' | b'\r' | 0x0c | 0x1a | 0x1b))
 }
 
 // The source that `dis` prints of an image.

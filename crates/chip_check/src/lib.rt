@@ -20,3 +20,4 @@ mod report;
 mod words;
 
 pub use check::{check_json, check_text, unopened_json};
+pub use quoted::push_as_shown;

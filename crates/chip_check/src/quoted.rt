@@ -18,6 +18,20 @@ pub(crate) enum ShownByte {
     Escaped(u8),
 }
 
+/// Adds bytes as `check` quotes a line: a control byte but the tab, and a byte that is not part of
+/// UTF-8, as `\x` and two digits.
+///
+/// # Errors
+///
+/// Out of memory.
+pub fn push_as_shown(alloc: Global, text: &mut Vec<u8>, bytes: &[u8]) -> Result<(), AllocError>
+    ensures { OnOk result (text.new.items
+        ≡ text.old.items ++ flat_map byte_text (shown_bytes bytes.now)) }
+{
+    let shown = shown_bytes(alloc, bytes)?;
+    push_shown(text, &shown)
+}
+
 /// What is shown of each byte of a line: control bytes but the tab are escaped, and bytes that are
 /// not part of UTF-8.
 pub(crate) fn shown_bytes(alloc: Global, line: &[u8]) -> Result<Vec<ShownByte>, AllocError>
