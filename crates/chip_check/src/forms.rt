@@ -1,79 +1,82 @@
 //! The forms of instructions and directives, as help shows them.
 
 use crate::hint::{Hint, push_help};
-use crate::near::{is_near, most_edits};
+use crate::near::{fewest_edits, most_edits};
 use crate::words::{is_one_of, is_register, is_special, is_word, split_operand, words_of};
 use std::alloc::{AllocError, Global};
 
-/// Each form: the instruction or the directive, and its operands. `Vx` and `Vy` are registers,
-/// `nibble` is a value from 0 to 15, `byte` one from -128 to 255, `addr` one from 0 to 4095.
-const FORMS: &[&str] = &[
-    "CLS",
-    "RET",
-    "JP addr",
-    "JP V0, addr",
-    "CALL addr",
-    "SE Vx, byte",
-    "SE Vx, Vy",
-    "SNE Vx, byte",
-    "SNE Vx, Vy",
-    "LD Vx, byte",
-    "LD Vx, Vy",
-    "LD I, addr",
-    "LD Vx, DT",
-    "LD Vx, K",
-    "LD DT, Vx",
-    "LD ST, Vx",
-    "LD F, Vx",
-    "LD B, Vx",
-    "LD [I], Vx",
-    "LD Vx, [I]",
-    "LD HF, Vx",
-    "LD R, Vx",
-    "LD Vx, R",
-    "ADD Vx, byte",
-    "ADD Vx, Vy",
-    "ADD I, Vx",
-    "OR Vx, Vy",
-    "AND Vx, Vy",
-    "XOR Vx, Vy",
-    "SUB Vx, Vy",
-    "SUBN Vx, Vy",
-    "SHR Vx",
-    "SHR Vx, Vy",
-    "SHL Vx",
-    "SHL Vx, Vy",
-    "RND Vx, byte",
-    "DRW Vx, Vy, nibble",
-    "SKP Vx",
-    "SKNP Vx",
-    "SCD nibble",
-    "SCR",
-    "SCL",
-    "EXIT",
-    "LOW",
-    "HIGH",
-    "SYS addr",
-    "EQU value",
-    "ORG value",
-    "ALIGN ON",
-    "ALIGN OFF",
-    "DB value, ..",
-    "DW value, ..",
-    "DA 'text'",
-    "DS value",
-    "IFDEF name",
-    "IFUND name",
-    "ELSE",
-    "ENDIF",
-    "END",
-    "OPTION BINARY",
-    "OPTION CHIP8",
-    "OPTION CHIP48",
-    "OPTION SCHIP10",
-    "OPTION SCHIP11",
-    "XREF name",
-    "DEFINE name",
+/// The instructions and directives with their forms: each is the word and its operands. `Vx` and
+/// `Vy` are registers, `nibble` is a value from 0 to 15, `byte` one from -128 to 255, `addr` one
+/// from 0 to 4095.
+const HEADINGS: &[(&str, &[&str])] = &[
+    ("CLS", &["CLS"]),
+    ("RET", &["RET"]),
+    ("JP", &["JP addr", "JP V0, addr"]),
+    ("CALL", &["CALL addr"]),
+    ("SE", &["SE Vx, byte", "SE Vx, Vy"]),
+    ("SNE", &["SNE Vx, byte", "SNE Vx, Vy"]),
+    (
+        "LD",
+        &[
+            "LD Vx, byte",
+            "LD Vx, Vy",
+            "LD I, addr",
+            "LD Vx, DT",
+            "LD Vx, K",
+            "LD DT, Vx",
+            "LD ST, Vx",
+            "LD F, Vx",
+            "LD B, Vx",
+            "LD [I], Vx",
+            "LD Vx, [I]",
+            "LD HF, Vx",
+            "LD R, Vx",
+            "LD Vx, R",
+        ],
+    ),
+    ("ADD", &["ADD Vx, byte", "ADD Vx, Vy", "ADD I, Vx"]),
+    ("OR", &["OR Vx, Vy"]),
+    ("AND", &["AND Vx, Vy"]),
+    ("XOR", &["XOR Vx, Vy"]),
+    ("SUB", &["SUB Vx, Vy"]),
+    ("SUBN", &["SUBN Vx, Vy"]),
+    ("SHR", &["SHR Vx", "SHR Vx, Vy"]),
+    ("SHL", &["SHL Vx", "SHL Vx, Vy"]),
+    ("RND", &["RND Vx, byte"]),
+    ("DRW", &["DRW Vx, Vy, nibble"]),
+    ("SKP", &["SKP Vx"]),
+    ("SKNP", &["SKNP Vx"]),
+    ("SCD", &["SCD nibble"]),
+    ("SCR", &["SCR"]),
+    ("SCL", &["SCL"]),
+    ("EXIT", &["EXIT"]),
+    ("LOW", &["LOW"]),
+    ("HIGH", &["HIGH"]),
+    ("SYS", &["SYS addr"]),
+    ("EQU", &["EQU value"]),
+    ("ORG", &["ORG value"]),
+    ("ALIGN", &["ALIGN ON", "ALIGN OFF"]),
+    ("DB", &["DB value, .."]),
+    ("DW", &["DW value, .."]),
+    ("DA", &["DA 'text'"]),
+    ("DS", &["DS value"]),
+    ("IFDEF", &["IFDEF name"]),
+    ("IFUND", &["IFUND name"]),
+    ("ELSE", &["ELSE"]),
+    ("ENDIF", &["ENDIF"]),
+    ("END", &["END"]),
+    (
+        "OPTION",
+        &[
+            "OPTION BINARY",
+            "OPTION CHIP8",
+            "OPTION CHIP48",
+            "OPTION SCHIP10",
+            "OPTION SCHIP11",
+        ],
+    ),
+    ("XREF", &["XREF name"]),
+    ("DEFINE", &["DEFINE name"]),
 ];
 
 /// The most forms that a line of help shows.
@@ -82,49 +85,44 @@ const MOST_SHOWN: usize = 5;
 /// How near a form is at most: its first operand counts twice, and no form has over three.
 const NEAREST: usize = 4;
 
-/// The instruction or the directive with which a form begins.
-fn heading(form: &str) -> &str {
-    match form.split_once(" ") {
-        Some((heading, _)) => heading,
-        None => form,
-    }
-}
-
-/// Whether a word is an instruction or a directive.
-fn is_heading(word: &[u8]) -> bool {
-    for form in FORMS {
-        if heading(*form).as_bytes() == word {
-            return true;
+/// The forms of an instruction or a directive; none of another word.
+fn forms_of(word: &[u8]) -> &'static [&'static str] {
+    for (heading, forms) in HEADINGS {
+        if heading.as_bytes() == word {
+            return *forms;
         }
     }
-    false
+    &[]
 }
 
 /// Whether an instruction or a directive can stand without operands.
 pub(crate) fn stands_alone(word: &[u8]) -> bool {
-    is_one_of(word, FORMS)
+    is_one_of(word, forms_of(word))
 }
 
 /// Whether a word has a meaning of its own, so that it can't be a name.
 pub(crate) fn is_reserved(word: &[u8]) -> bool {
-    is_register(word)
-        || is_special(word)
-        || is_heading(word)
-        || is_one_of(word, &["USED", "INCLUDE", "UNDEF"])
+    is_word(word)
+        && (is_register(word)
+            || is_special(word)
+            || !forms_of(word).is_empty()
+            || is_one_of(word, &["USED", "INCLUDE", "UNDEF"]))
 }
 
 /// The instruction or the directive that a word comes nearest to, if one is near.
 pub(crate) fn near_heading(word: &[u8]) -> Option<&str> {
-    let most = most_edits(word);
-    for edits in 1..=most {
-        for form in FORMS {
-            let heading = heading(*form);
-            if is_near(edits, word, heading.as_bytes()) {
-                return Some(heading);
+    let mut most = most_edits(word);
+    let mut nearest = None;
+    for (heading, _) in HEADINGS {
+        if let Some(edits) = fewest_edits(most, word, heading.as_bytes()) {
+            nearest = Some(*heading);
+            if edits <= 1 {
+                break;
             }
+            most = edits - 1;
         }
     }
-    None
+    nearest
 }
 
 /// Adds what an instruction or a directive takes, by its first forms: nothing for another word.
@@ -168,12 +166,14 @@ fn forms_by_nearness(
     word: &[u8],
     operands: &[&[u8]],
 ) -> Result<Vec<&'static str>, AllocError> {
+    let mut ranked = Vec::new(alloc);
+    for form in forms_of(word) {
+        ranked.push((nearness(alloc, *form, operands)?, *form))?;
+    }
     let mut forms = Vec::new(alloc);
     for missing in 0..=NEAREST {
-        for form in FORMS {
-            if heading(*form).as_bytes() == word
-                && nearness(alloc, *form, operands)? == NEAREST - missing
-            {
+        for (near, form) in &ranked {
+            if *near == NEAREST - missing {
                 forms.push(*form)?;
             }
         }

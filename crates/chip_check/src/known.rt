@@ -4,7 +4,7 @@ ghost use Rattle.std.specs.Prelude.{◌≡◌, IfOk};
 ghost use Rattle.chip_asm.specs.Names.{lookup_name, values_of};
 ghost use Rattle.chip_asm.specs.Program.{symbols_of};
 
-use crate::near::{is_near, most_edits};
+use crate::near::{fewest_edits, most_edits};
 use crate::words::{is_word, words_of};
 use chip_asm::{Source, Symbol};
 use chip_files::first_line;
@@ -88,15 +88,18 @@ impl Known {
         if self.lost.len().saturating_mul(self.symbols.len()) > MOST_PAIRS {
             return None;
         }
-        let most = most_edits(word);
-        for edits in 1..=most {
-            for (given, _) in &self.symbols {
-                if is_near(edits, word, given.get()) {
-                    return Some(given.get());
+        let mut most = most_edits(word);
+        let mut nearest = None;
+        for (given, _) in &self.symbols {
+            if let Some(edits) = fewest_edits(most, word, given.get()) {
+                nearest = Some(given.get());
+                if edits <= 1 {
+                    break;
                 }
+                most = edits - 1;
             }
         }
-        None
+        nearest
     }
 }
 
