@@ -5,6 +5,7 @@ ghost use Rattle.chip_asm.specs.Lines.{lines_of};
 ghost use Rattle.chip_asm.specs.Program.{fault_at, symbols_of};
 ghost use Rattle.chip_check.specs.Check.{AreReports, IsCheck, IsChecked, IsCheckedIn, report_of};
 ghost use Rattle.chip_check.specs.Json.{AreObjects, IsCheckJson, unopened_object};
+ghost use Rattle.chip_check.specs.inner.Known.{Agree, listed};
 ghost use Rattle.chip_check.specs.inner.Printing.{print_in};
 ghost use Rattle.chip_check.specs.declared.hint.Hint.{Hint};
 
@@ -142,7 +143,7 @@ fn push_fault(
     number: usize,
     line: &[u8],
 ) -> Result<(), AllocError>
-    requires { known.now.symbols.items ≡ symbols_of source.now.lines }
+    requires { Agree (listed known.now.symbols.entries) (symbols_of source.now.lines) }
     ensures { OnOk result ((hints : List Hint) × (text.new.items ≡ text.old.items
         ++ report_of (print_in style.entry.form style.entry.name.now) source.now.lines number line.now
         (fault_at source.now.lines number) hints)) }

@@ -6,6 +6,7 @@ ghost use Rattle.chip_asm.specs.Program.{symbols_of};
 ghost use Rattle.chip_check.specs.Check.{code_of, sentence_of, sentence_with};
 ghost use Rattle.chip_check.specs.Json.{unopened_code, unopened_sentence};
 ghost use Rattle.chip_check.specs.Place.{place_in};
+ghost use Rattle.chip_check.specs.inner.Known.{Agree, listed};
 
 use crate::advice::push_advice;
 use crate::hint::{Hint, push_help};
@@ -38,7 +39,7 @@ impl Finding {
         line: &[u8],
         fault: Fault,
     ) -> Result<Finding, AllocError>
-        requires { known.now.symbols.items ≡ symbols_of source.now.lines }
+        requires { Agree (listed known.now.symbols.entries) (symbols_of source.now.lines) }
         ensures span { IfOk result (λ finding.
             finding.span ≡ place_in fault source.now.lines number line.now) }
         ensures code { IfOk result (λ finding. finding.code.items ≡ code_of fault) }

@@ -1,14 +1,16 @@
 //! The names of a source that help looks up.
 
-ghost use Rattle.std.specs.Prelude.{◌≡◌, IfOk};
+ghost use Rattle.std.specs.Prelude.{◌≡◌, ◌++◌, ◌∷◌, [], IfOk, OnOk};
 ghost use Rattle.chip_asm.specs.Names.{lookup_name, values_of};
 ghost use Rattle.chip_asm.specs.Program.{symbols_of};
+ghost use Rattle.chip_check.specs.inner.Known.{Agree, listed};
 
 use crate::near::{fewest_edits, most_edits};
 use crate::words::{is_word, words_of};
-use chip_asm::{Source, Symbol};
+use chip_asm::{NameHasher, Source, Symbol};
 use chip_files::first_line;
 use chip_lang::{Bytes, Names};
+use indexmap::IndexMap;
 use std::alloc::{AllocError, Global};
 
 /// A name on a line with a fault, which gives it no value.
@@ -18,11 +20,14 @@ pub(crate) struct Lost {
     line: usize,
 }
 
+/// Symbols by their names in upper case.
+type Symbols = IndexMap<Vec<u8>, Symbol, NameHasher>;
+
 /// The names of a source.
 #[derive(Drop)]
 pub(crate) struct Known {
     /// Those with a value, in line order.
-    symbols: Vec<(Bytes, Symbol)>,
+    symbols: Symbols,
     /// Those that begin a line with a fault, in line order.
     lost: Vec<Lost>,
 }
@@ -32,7 +37,7 @@ pub(crate) struct Known {
 const MOST_PAIRS: usize = 100_000;
 
 impl Names for Known {
-    ghost symbols = { λ k. values_of k.symbols.items };
+    ghost symbols = { λ k. values_of (listed k.symbols.entries) };
 
     #[tactic(auto, using(crate::proofs::KnownNames::known_names))]
     fn value(&self, name: &[u8]) -> Option<i32> {
@@ -46,23 +51,23 @@ impl Names for Known {
 impl Known {
     /// The names of a source that was opened from these bytes.
     pub(crate) fn of(alloc: Global, bytes: &[u8], source: &Source) -> Result<Known, AllocError>
-        ensures { IfOk result (λ known. known.symbols.items ≡ symbols_of source.now.lines) }
+        ensures { IfOk result (λ known.
+            Agree (listed known.symbols.entries) (symbols_of source.now.lines)) }
     {
-        let symbols = source.symbols(alloc)?;
+        let listed = source.symbols(alloc)?;
+        let symbols = by_name(alloc, &listed)?;
         let lost = lost_names(alloc, bytes, source)?;
         Ok(Known { symbols, lost })
     }
 
     /// The value of a name, given in upper case, and its line.
-    fn find(&self, name: &[u8]) -> Option<Symbol>
-        ensures { result ≡ lookup_name self.now.symbols.items name.now }
+    pub(crate) fn find(&self, name: &[u8]) -> Option<Symbol>
+        ensures { result ≡ lookup_name (listed self.now.symbols.entries) name.now }
     {
-        for (given, symbol) in &self.symbols {
-            if name == given.get() {
-                return Some(*symbol);
-            }
+        match self.symbols.get(name) {
+            Some(symbol) => Some(*symbol),
+            None => None,
         }
-        None
     }
 
     /// The number of the line that gives a name, in upper case, a value.
@@ -91,8 +96,8 @@ impl Known {
         let mut most = most_edits(word);
         let mut nearest = None;
         for (given, _) in &self.symbols {
-            if let Some(edits) = fewest_edits(most, word, given.get()) {
-                nearest = Some(given.get());
+            if let Some(edits) = fewest_edits(most, word, given) {
+                nearest = Some(given.as_slice());
                 if edits <= 1 {
                     break;
                 }
@@ -100,6 +105,36 @@ impl Known {
             }
         }
         nearest
+    }
+}
+
+/// Symbols by their names. Of several of one name the first counts.
+fn by_name(alloc: Global, symbols: &[(Bytes, Symbol)]) -> Result<Symbols, AllocError>
+    ensures { IfOk result (λ found. Agree (listed found.entries) symbols.now) }
+{
+    let mut found = IndexMap::with_hasher(alloc, NameHasher::new(0));
+    for (name, symbol) in symbols {
+        add_last(alloc, &mut found, name.get(), *symbol)?;
+    }
+    Ok(found)
+}
+
+/// Adds the symbol of a name, which counts only where the name has none yet.
+fn add_last(
+    alloc: Global,
+    symbols: &mut Symbols,
+    name: &[u8],
+    symbol: Symbol,
+) -> Result<(), AllocError>
+    ensures { OnOk result (Agree (listed symbols.new.entries)
+        (listed symbols.old.entries ++ (name.now, symbol) ∷ [])) }
+{
+    match symbols.get(name) {
+        Some(_) => Ok(()),
+        None => {
+            symbols.insert(Vec::from_slice(alloc, name)?, symbol)?;
+            Ok(())
+        }
     }
 }
 

@@ -11,10 +11,12 @@ ghost use Rattle.chip_lang.specs.Scan.{AreTokens};
 ghost use Rattle.chip_lang.specs.Tree.{tree_of};
 ghost use Rattle.chip_asm.specs.Names.{values_of};
 ghost use Rattle.chip_asm.specs.Program.{symbols_of};
+ghost use Rattle.chip_check.specs.inner.Known.{Agree, listed};
 ghost use Rattle.chip_check.specs.Place.{sees_earlier, last_seen, is_unknown_name, is_unknown, first_unknown, undefined_place, is_out, number_in, first_data_out, first_out, out_operand, tokens_after, is_comma, operand_end, operand_span, out_of_range_place, place_in};
 
 use crate::known::Known;
 use chip_asm::Source;
+use chip_lang::short_bytes::ShortBytes;
 use chip_lang::{
     Body, Bytes, Expr, Fault, Kind, Line, Meter, Operand, Pattern, Span, Token, eval, fault_span,
     name_of_token, read_line, tokens,
@@ -31,14 +33,14 @@ pub(crate) fn place_in(
     line: &[u8],
     fault: Fault,
 ) -> Result<Span, AllocError>
-    requires { known.now.symbols.items ≡ symbols_of source.now.lines }
+    requires { Agree (listed known.now.symbols.entries) (symbols_of source.now.lines) }
     ensures span { IfOk result (λ span. span ≡ place_in fault source.now.lines number line.now) }
     ensures rises { IfOk result (λ span. span.start ≤ span.end) }
     ensures inside { IfOk result (λ span. span.end ≤ length line.now) }
 {
     let span = fault_span(alloc, line, fault)?;
     match fault {
-        Fault::UndefinedName => undefined_place(alloc, source, number, line, span),
+        Fault::UndefinedName => undefined_place(alloc, source, known, number, line, span),
         Fault::OutOfRange => out_of_range_place(alloc, known, line, span),
         _ => Ok(span),
     }
@@ -54,7 +56,7 @@ fn out_of_range_place(
     requires rises { span.start ≤ span.end }
     requires inside { span.end ≤ length line.now }
     ensures span { IfOk result (λ found.
-        found ≡ out_of_range_place (values_of known.now.symbols.items) line.now span) }
+        found ≡ out_of_range_place (values_of (listed known.now.symbols.entries)) line.now span) }
     ensures rises { IfOk result (λ found. found.start ≤ found.end) }
     ensures inside { IfOk result (λ found. found.end ≤ length line.now) }
 {
@@ -78,14 +80,15 @@ pub(crate) fn read(alloc: Global, line: &[u8]) -> Result<Box<Line>, AllocError>
 /// How many operands of a line stand before the first whose value is out of its place's range.
 fn out_operand(alloc: Global, line: &[u8], names: &Known) -> Result<usize, AllocError>
     ensures { IfOk result (λ index. index
-        ≡ out_operand (reading_of line.now) (values_of names.now.symbols.items)) }
+        ≡ out_operand (reading_of line.now) (values_of (listed names.now.symbols.entries))) }
 {
     let line = read(alloc, line)?;
     Ok(out_operand_of(&*line, names))
 }
 
 pub(crate) fn out_operand_of(line: &Line, names: &Known) -> usize
-    ensures { result ≡ out_operand (seen_line line.now) (values_of names.now.symbols.items) }
+    ensures { result
+        ≡ out_operand (seen_line line.now) (values_of (listed names.now.symbols.entries)) }
 {
     let Line::Read { body, .. } = line else {
         return 0;
@@ -102,8 +105,8 @@ pub(crate) fn out_operand_of(line: &Line, names: &Known) -> usize
 fn first_data_out(limit: u32, values: &[Expr], names: &Known) -> usize
     requires low { 0 < limit }
     requires high { limit ≤ 65536 }
-    ensures value { result
-        ≡ first_data_out limit (map tree_of values.now) (values_of names.now.symbols.items) }
+    ensures value { result ≡ first_data_out limit (map tree_of values.now)
+        (values_of (listed names.now.symbols.entries)) }
     ensures bound { result ≤ length values.now }
 {
     let Some((value, values)) = values.split_first() else {
@@ -120,7 +123,7 @@ fn is_datum_out(limit: u32, value: &Expr, names: &Known) -> bool
     requires low { 0 < limit }
     requires high { limit ≤ 65536 }
     ensures { result ≡ is_out
-        (datum_of limit (tree_of value.now) (values_of names.now.symbols.items)) }
+        (datum_of limit (tree_of value.now) (values_of (listed names.now.symbols.entries))) }
 {
     match eval(value, names) {
         Ok(number) if number >= 0 => number as u32 >= limit,
@@ -132,7 +135,7 @@ fn is_datum_out(limit: u32, value: &Expr, names: &Known) -> bool
 /// How many operands stand before the first whose value is out of its place's range.
 fn first_out(patterns: &[Pattern], operands: &[Operand], names: &Known) -> usize
     ensures value { result ≡ first_out patterns.now (map operand_of operands.now)
-        (values_of names.now.symbols.items) }
+        (values_of (listed names.now.symbols.entries)) }
     ensures bound { result ≤ length operands.now }
 {
     let Some((pattern, patterns)) = patterns.split_first() else {
@@ -151,7 +154,7 @@ fn first_out(patterns: &[Pattern], operands: &[Operand], names: &Known) -> usize
 #[tactic(auto, unfolding(chip_lang::specs::Encoding::field_of))]
 fn is_field_out(pattern: Pattern, operand: &Operand, names: &Known) -> bool
     ensures { result ≡ is_out (field_of pattern (operand_of operand.now)
-        (values_of names.now.symbols.items)) }
+        (values_of (listed names.now.symbols.entries))) }
 {
     let Operand::Value(expr) = operand else {
         return false;
@@ -167,7 +170,7 @@ fn is_field_out(pattern: Pattern, operand: &Operand, names: &Known) -> bool
 /// Whether a value that is not negative is out of range.
 fn is_number_out(limit: u16, expr: &Expr, names: &Known) -> bool
     ensures { result ≡ is_out
-        (number_in limit (tree_of expr.now) (values_of names.now.symbols.items)) }
+        (number_in limit (tree_of expr.now) (values_of (listed names.now.symbols.entries))) }
 {
     match eval(expr, names) {
         Ok(number) => match u16::try_from(number) {
@@ -229,10 +232,12 @@ fn is_comma(token: Token) -> bool
 fn undefined_place(
     alloc: Global,
     source: &Source,
+    known: &Known,
     number: usize,
     line: &[u8],
     span: Span,
 ) -> Result<Span, AllocError>
+    requires known { Agree (listed known.now.symbols.entries) (symbols_of source.now.lines) }
     requires rises { span.start ≤ span.end }
     requires inside { span.end ≤ length line.now }
     ensures span { IfOk result (λ found.
@@ -242,7 +247,7 @@ fn undefined_place(
 {
     let last = last_seen(alloc, number, source.lines(), line)?;
     let tokens = tokens(alloc, line)?;
-    match first_unknown(alloc, source, last, line, span.start, &tokens)? {
+    match first_unknown(alloc, known, last, line, span.start, &tokens)? {
         Some(found) => Ok(found),
         None => Ok(span),
     }
@@ -273,7 +278,7 @@ fn is_of_value(line: &Line) -> bool
 /// The first name from a place on that no line up to the last one seen gives a value.
 fn first_unknown(
     alloc: Global,
-    source: &Source,
+    known: &Known,
     last: usize,
     line: &[u8],
     place: usize,
@@ -281,12 +286,12 @@ fn first_unknown(
 ) -> Result<Option<Span>, AllocError>
     requires { AreTokens line.now 0 tokens.now }
     ensures value { IfOk result (λ found.
-        found ≡ first_unknown (symbols_of source.now.lines) last line.now place tokens.now) }
+        found ≡ first_unknown (listed known.now.symbols.entries) last line.now place tokens.now) }
     ensures rises { IfOk result (λ found. IfSome found (λ span. span.start ≤ span.end)) }
     ensures inside { IfOk result (λ found. IfSome found (λ span. span.end ≤ length line.now)) }
 {
     for token in tokens {
-        if is_unknown(alloc, source, last, line, place, *token)? {
+        if is_unknown(alloc, known, last, line, place, *token)? {
             return Ok(Some(Span {
                 start: token.start,
                 end: token.end,
@@ -298,7 +303,7 @@ fn first_unknown(
 
 fn is_unknown(
     alloc: Global,
-    source: &Source,
+    known: &Known,
     last: usize,
     line: &[u8],
     place: usize,
@@ -307,21 +312,30 @@ fn is_unknown(
     requires rises { token.start ≤ token.end }
     requires inside { token.end ≤ length line.now }
     ensures { IfOk result (λ answer.
-        answer ≡ is_unknown (symbols_of source.now.lines) last line.now place token) }
+        answer ≡ is_unknown (listed known.now.symbols.entries) last line.now place token) }
 {
+    if token.start < place {
+        return Ok(false);
+    }
     let name = name_of_token(alloc, line, token)?;
-    Ok(place <= token.start && is_unknown_name(source, last, name.as_ref()))
+    is_unknown_name(alloc, known, last, name.as_ref())
 }
 
-fn is_unknown_name(source: &Source, last: usize, name: Option<&Bytes>) -> bool
-    ensures { result
-        ≡ is_unknown_name (symbols_of source.now.lines) last (option_copied name.entry) }
+fn is_unknown_name(
+    alloc: Global,
+    known: &Known,
+    last: usize,
+    name: Option<&Bytes>,
+) -> Result<bool, AllocError>
+    ensures { IfOk result (λ answer. answer
+        ≡ is_unknown_name (listed known.now.symbols.entries) last (option_copied name.entry)) }
 {
     let Some(name) = name else {
-        return false;
+        return Ok(false);
     };
-    match source.symbol(name.get()) {
-        Some(symbol) => symbol.line > last,
-        None => true,
+    let name = ShortBytes::in_upper_case(alloc, name.get())?;
+    match known.find(name.get()) {
+        Some(symbol) => Ok(symbol.line > last),
+        None => Ok(true),
     }
 }
