@@ -87,17 +87,19 @@ impl Report {
         case: &Case<'_>,
         has_passed: bool,
     ) -> Result<(), AllocError> {
-        let outcome = if has_passed { "ok " } else { "not ok " };
-        let colon = if case.name.is_empty() { "" } else { ": " };
         let mut digits = Buffer::new();
         let number = digits.format(self.passed.saturating_add(self.failed));
-        push_parts(
-            &mut self.text,
-            &[outcome.as_bytes(), number.as_bytes(), b" - "],
-        )?;
+        if !has_passed {
+            self.text.extend_from_slice(b"not ")?;
+        }
+        self.text.extend_from_slice(b"ok ")?;
+        self.text.extend_from_slice(number.as_bytes())?;
+        self.text.extend_from_slice(b" - ")?;
         push_tap_text(alloc, &mut self.text, file.as_bytes())?;
-        self.text.extend_from_slice(colon.as_bytes())?;
-        push_tap_text(alloc, &mut self.text, case.name)?;
+        if !case.name.is_empty() {
+            self.text.extend_from_slice(b": ")?;
+            push_tap_text(alloc, &mut self.text, case.name)?;
+        }
         self.text.push(b'\n')?;
         Ok(())
     }
