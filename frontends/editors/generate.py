@@ -6,7 +6,8 @@
 
 The words of the language come from crates/chip_lang (src/form.rt, specs/Keyword.antt, src/statement.rt), those of the
 command line from crates/chip_arguments/src (arguments.rt, commands.rt), the names of the profiles from
-crates/chip_machine/src (profile.rt), and the options of chipbench-page and chipbench-lsp from their parsers.
+crates/chip_machine/src (profile.rt), and the options of chipbench-page, chipbench-lsp and
+chipbench-steps from their parsers.
 """
 import argparse
 import importlib
@@ -19,7 +20,11 @@ sys.dont_write_bytecode = True
 HERE = pathlib.Path(__file__).resolve().parent
 CRATES = HERE.parents[1] / "crates"
 # the launchers with a parser of their own: its module, and the folder from which that is imported
-LAUNCHERS = {"chipbench-page": ("bridge", "page"), "chipbench-lsp": ("chipbench_lsp.__main__", "python")}
+LAUNCHERS = {
+    "chipbench-page": ("bridge", "page"),
+    "chipbench-lsp": ("chipbench_lsp.__main__", "python"),
+    "chipbench-steps": ("chipbench_steps.__main__", "python"),
+}
 # a command of the shell that prints all codes
 CODES = "chipbench explain 2>/dev/null | cut -d ' ' -f 1"
 

@@ -1,0 +1,196 @@
+"""The states before and after a step, as the program answers them."""
+
+from __future__ import annotations
+
+from dataclasses import dataclass
+from typing import Any
+
+from chipbench import Bench, ChipbenchError, event_command
+
+from .cases import AFTER_INDEX, BEFORE_INDEX, Case, Row
+from .setup import MEMORY_BYTES, START, Setup
+
+# The image is as long as a program can be, and has lines of as many bytes.
+LINE_BYTES = 56
+# Without a tick the step comes before the first tick. With one it is the step at one of these rates.
+NO_TICK = 1000
+TICKS = (128, 370)
+# how many random bytes to come are shown
+RANDOM_BYTES = 2
+DARK = "0" * 32
+# the parts of a state that stand in a case as they are
+PARTS = ("pc", "v", "i", "dt", "st", "stack", "flags", "high")
+
+
+@dataclass(frozen=True)
+class Settings:
+    """The program and its profile, and the tape: each byte once."""
+
+    program: str
+    profile: str
+    tape: bytes
+
+
+def has_super(settings: Settings) -> bool:
+    """Whether the machine has the instructions of SUPER-CHIP: HIGH stops one that lacks them."""
+    with Bench("HIGH", profile=settings.profile, program=settings.program) as bench:
+        return bench.at(1).stopped is None
+
+
+def data_line(content: bytes) -> str:
+    """The line of a source that has these bytes, an even number of them."""
+    words = (content[at : at + 2].hex() for at in range(0, len(content), 2))
+    return "DW " + ",".join("#" + word for word in words)
+
+
+def lines_of(content: bytes) -> list[str]:
+    return [data_line(content[at : at + LINE_BYTES]) for at in range(0, len(content), LINE_BYTES)]
+
+
+class Session:
+    """One running program at a rate. Its image is edited from one case to the next."""
+
+    def __init__(self, settings: Settings, rate: int) -> None:
+        self._image = bytes(MEMORY_BYTES - START)
+        source = "\n".join(lines_of(self._image))
+        self._bench = Bench(source, profile=settings.profile, rate=rate, tape=settings.tape, program=settings.program)
+
+    def close(self) -> None:
+        self._bench.close()
+
+    def states(self, content: dict[int, int], keys: list[int], step: int) -> list[dict[str, Any]]:
+        """The parts of the states at a step and at the next one, for an image and the keys that are down in the step."""
+        image = bytearray(MEMORY_BYTES - START)
+        for at, byte in content.items():
+            image[at - START] = byte
+        commands = [*self._edits(bytes(image)), *(event_command(b"kins", step, key, True) for key in keys)]
+        for at in (step, step + 1):
+            commands += [b"regs %d" % at, b"mem %d 0 %d" % (at, MEMORY_BYTES), b"screen %d" % at]
+        asked = len(commands)
+        # the key events go again, for the next case
+        commands += [b"kdel %d %d" % (step, key) for key in keys]
+        answers = self._bench.exchange(commands)
+        refused = [(command, answer) for command, answer in zip(commands, answers) if answer.startswith(b"no ")]
+        if refused:
+            raise ChipbenchError(f"the program refused {refused[0][0].decode()}: {refused[0][1].decode().strip()}")
+        return [read_state(*answers[start : start + 3]) for start in (asked - 6, asked - 3)]
+
+    def text(self, step: int, pc: int) -> str:
+        """The instruction at pc as a source has it, or what it is where there is none."""
+        return self._bench.words(step, pc, 1)[0].text if pc < MEMORY_BYTES - 1 else ""
+
+    def _edits(self, image: bytes) -> list[bytes]:
+        """The commands that turn the image into another one."""
+        edits = []
+        for number, at in enumerate(range(0, len(image), LINE_BYTES), 1):
+            piece = image[at : at + LINE_BYTES]
+            if piece != self._image[at : at + LINE_BYTES]:
+                edits.append(f"rep {number} {data_line(piece)}".encode())
+        self._image = image
+        return edits
+
+
+def read_state(registers: bytes, memory: bytes, screen: bytes) -> dict[str, Any]:
+    """The parts of a state from the answers of `regs`, `mem` and `screen`, each as the program has it."""
+    values, counters, parts = registers.decode().splitlines()
+    flags, stack = parts.split(" stack")
+    words = counters.split()
+    named = dict(zip(words[:10:2], words[1:10:2]))
+    rows = screen.decode().splitlines()[1:-1]
+    return {
+        "pc": int(named["pc"], 16),
+        "v": [int(value, 16) for value in values.split()[1:]],
+        "i": int(named["i"], 16),
+        "dt": int(named["dt"], 16),
+        "st": int(named["st"], 16),
+        "stack": [int(address, 16) for address in stack.split()],
+        "flags": [int(value, 16) for value in flags.split()[1:]],
+        "high": words[10] == "high",
+        "memory": bytes.fromhex(memory.decode()),
+        "screen": {int(row[:2]): row[3:] for row in rows},
+        "used": int(named["draws"]),
+        "stops": None if words[11] == "run" else words[11],
+    }
+
+
+class Answers:
+    """The cases of a profile. Close it, which ends the programs that it runs."""
+
+    def __init__(self, settings: Settings) -> None:
+        self.settings = settings
+        self._sessions: dict[int, Session] = {}
+        self._has_super = has_super(settings)
+
+    def __enter__(self) -> Answers:
+        return self
+
+    def __exit__(self, *_: object) -> None:
+        for session in self._sessions.values():
+            session.close()
+
+    def _session(self, rate: int) -> Session:
+        if rate not in self._sessions:
+            self._sessions[rate] = Session(self.settings, rate)
+        return self._sessions[rate]
+
+    def record(self, row: Row, number: int, seed: int) -> dict[str, Any]:
+        """Case `number` of a row, counted from 0, as it stands in a file."""
+        case = row.case(number, seed, self._has_super)
+        rate, setup = NO_TICK, Setup(case.state)
+        if case.state.is_tick:
+            rate = next(rate for rate in TICKS if setup.steps < rate)
+            setup = Setup(case.state, idle=rate - 1 - setup.steps)
+        session = self._session(rate)
+        before, after = session.states(setup.bytes, case.state.keys, setup.steps)
+        if before["stops"] or (before["pc"], before["v"]) != (case.state.pc, case.state.v):
+            raise ChipbenchError(f"{row.name} case {number + 1}: its program does not lead to its state")
+        return {
+            "name": f"{row.name} {number + 1}",
+            "text": session.text(setup.steps, before["pc"]),
+            "about": case.about,
+            "initial": self._initial(row, case, before, after),
+            "final": self._final(before, after),
+            "stops": after["stops"],
+        }
+
+    def _initial(self, row: Row, case: Case, before: dict[str, Any], after: dict[str, Any]) -> dict[str, Any]:
+        memory = before["memory"]
+        initial = {name: before[name] for name in PARTS}
+        initial["memory"] = [[at, memory[at]] for at in sorted(shown(row, before, after))]
+        initial["screen"] = [[number, pixels] for number, pixels in before["screen"].items()]
+        initial["keys"] = case.state.keys
+        initial["random"] = self._random(before["used"])
+        initial["tick"] = case.state.is_tick
+        return initial
+
+    def _random(self, used: int) -> list[int]:
+        """The random bytes that come next."""
+        tape = self.settings.tape
+        return [tape[at % len(tape)] for at in range(used, used + RANDOM_BYTES)]
+
+    def _final(self, before: dict[str, Any], after: dict[str, Any]) -> dict[str, Any]:
+        """What the step changed."""
+        final = {name: after[name] for name in PARTS if after[name] != before[name]}
+        memory = [[at, after["memory"][at]] for at in changed(before, after)]
+        old, new = before["screen"], after["screen"]
+        rows = sorted(number for number in old.keys() | new.keys() if old.get(number) != new.get(number))
+        screen = [[number, new.get(number, DARK)] for number in rows]
+        final.update({name: value for name, value in (("memory", memory), ("screen", screen)) if value})
+        if after["used"] != before["used"]:
+            final["random"] = self._random(before["used"])[after["used"] - before["used"] :]
+        return final
+
+
+def changed(before: dict[str, Any], after: dict[str, Any]) -> list[int]:
+    """The addresses whose bytes differ."""
+    pairs = zip(before["memory"], after["memory"])
+    return [at for at, (old, new) in enumerate(pairs) if old != new] if before["memory"] != after["memory"] else []
+
+
+def shown(row: Row, before: dict[str, Any], after: dict[str, Any]) -> set[int]:
+    """The addresses of the bytes that a case shows: the word, and what the row's instruction accesses, with some around it."""
+    pc, index = before["pc"], before["i"]
+    found = {*range(pc, pc + (4 if row.shows_next else 2)), *changed(before, after)}
+    if row.shows_index:
+        found.update(range(index - BEFORE_INDEX, index + AFTER_INDEX))
+    return {at for at in found if 0 <= at < MEMORY_BYTES}
