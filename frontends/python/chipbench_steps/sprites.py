@@ -3,6 +3,7 @@
 from __future__ import annotations
 
 from .cases import F, LAST, SHEET, SOLID, Case, Kind
+from .kinds import AT_END, TICKS
 from .setup import MEMORY_BYTES
 
 # positions inside a screen of either size: column and row
@@ -12,7 +13,7 @@ INSIDE = (21, 9)
 # -- the screen before the step
 
 
-def prepare_screen(case: Case) -> None:
+def light_some(case: Case) -> None:
     case.draw_at_random(5)
 
 
@@ -37,15 +38,14 @@ def down(case: Case, n: int) -> None:
 
 
 SIZES = (True, False)
-AT_END = Kind("at the end of the memory", (LAST - 1,), lambda case, pc: setattr(case.state, "pc", pc))
-SCREENS = (
+SCREEN = (
     Kind("lit at all edges", SIZES, lit_around, 2),
     Kind("lit in the other size", SIZES, lit_in_the_other_size),
     Kind("dark", SIZES, dark),
     AT_END,
+    *TICKS,
 )
-SCROLL_KINDS = SIZE_KINDS = CLEAR_KINDS = SCREENS
-SCROLL_DOWN_KINDS = (Kind("each n, lit at all edges", (1, 0, 15, *range(2, 15)), down, 4), *SCREENS)
+SCROLL_DOWN = (Kind("each n, lit at all edges", (1, 0, 15, *range(2, 15)), down, 4), *SCREEN)
 
 
 # -- sprites
@@ -129,8 +129,9 @@ def no_set_bit(case: Case, n: int) -> None:
     case.state.v[F] = 1
 
 
-def edge(case: Case, from_right: int, from_below: int) -> None:
+def edge(case: Case, from_right: int, from_below: int, is_high: bool) -> None:
     """A sprite that is cut at an edge. Where a wrapped one would be, pixels are lit."""
+    case.state.is_high = is_high and case.has_super
     width, height = case.size
     place(case, width - from_right, height - from_below, 7)
     use(case, SOLID[:7])
@@ -139,25 +140,35 @@ def edge(case: Case, from_right: int, from_below: int) -> None:
 
 
 def right_edge(case: Case, columns: int) -> None:
-    edge(case, columns, 20)
+    edge(case, columns, 20, columns % 2 == 0)
 
 
 def lower_edge(case: Case, rows: int) -> None:
-    edge(case, 30, rows)
+    edge(case, 30, rows, rows % 2 == 1)
 
 
 def corner(case: Case, pixels: int) -> None:
-    edge(case, pixels, pixels)
+    edge(case, pixels, pixels, pixels > 2)
 
 
-def high_edge(case: Case, pixels: int) -> None:
-    case.state.is_high = case.has_super
-    edge(case, pixels, pixels)
+def corner_meets(case: Case, is_high: bool) -> None:
+    """The last pixel of the screen is lit."""
+    edge(case, 3, 4, is_high)
+    case.draw(case.size[0] - 1, case.size[1] - 1, [0x80])
+    case.state.v[F] = 0
+
+
+def first_corner(case: Case, position: tuple[int, int, bool]) -> None:
+    """A sprite at the upper or the left edge. Pixels are lit at the other edges."""
+    case.state.is_high = position[2] and case.has_super
+    place(case, *position[:2], 5)
+    use(case, SOLID[:5])
+    case.draw(case.size[0] - 8, position[1], SOLID[:1])
+    case.draw(position[0], case.size[1] - 1, SOLID[:1])
 
 
 def zero_at_edge(case: Case, is_high: bool) -> None:
-    case.state.is_high = is_high and case.has_super
-    edge(case, 5, 6)
+    edge(case, 5, 6, is_high)
     case.n = 0
 
 
@@ -216,29 +227,34 @@ def cut_past_end(case: Case, index: int) -> None:
     case.state.i = index
 
 
-DRAW_KINDS = (
+DRAW = (
     Kind("each height on a dark screen", (15, 1, *range(2, 15)), each_height, 2),
-    Kind("height 0", SIZES, height_zero),
-    Kind("height 0, one pixel met", ((15, 15), (7, 15), (8, 0), (0, 8)), height_zero_meets),
-    Kind("the same sprite again", (5, 15, 1, 10), erase),
+    Kind("height 0", SIZES, height_zero, 2),
+    Kind("height 0, one pixel met", ((15, 15), (7, 15), (8, 0)), height_zero_meets),
+    Kind("the same sprite again", (5, 15, 1), erase),
     Kind("one pixel met", ((0, 0), (7, 5), (7, 0), (0, 5)), meet_one),
-    Kind("lit beside, no pixel met", (6, 1, 15), lit_beside),
-    Kind("lit between the set bits", (0xAA, 0x55, 0x80, 0x01), between_bits),
+    Kind("lit beside, no pixel met", (6, 15), lit_beside),
+    Kind("lit between the set bits", (0xAA, 0x01), between_bits),
     Kind("no set bit on a lit screen", (3, 1), no_set_bit),
-    Kind("right edge", range(1, 8), right_edge),
-    Kind("lower edge", range(1, 7), lower_edge),
-    Kind("lower right corner", (1, 3), corner),
-    Kind("lower right corner, high size", (1, 5), high_edge),
+    Kind("right edge", (1, 4, 7, 2), right_edge),
+    Kind("lower edge", (1, 4, 6, 3), lower_edge),
+    Kind("lower right corner", (1, 6), corner),
+    Kind("lower right corner, a pixel met", SIZES, corner_meets),
+    Kind("left and upper edge", ((0, 0, False), (0, 0, True), (0, 9, False), (21, 0, True)), first_corner),
     Kind("height 0 at the corner", SIZES, zero_at_edge),
     Kind("column modulo the width", (0, 1, 63), column_modulo),
     Kind("row modulo the height", (0, 1, 31), row_modulo),
-    Kind("position far outside", ((255, 255), (127, 128), (128, 127)), far_position),
-    Kind("x = y", (0, 29, 200), same_register),
+    Kind("position far outside", ((255, 255), (128, 127)), far_position),
+    Kind("x = y", (0, 29), same_register),
     Kind("x = F", (5, 63), x_is_f),
     Kind("y = F", (4, 31), y_is_f),
     Kind("half a pixel met in the low size", ((1, 1), (0, 0), (3, 2)), half_pixel),
     Kind("bytes up to the end of the memory", ((LAST, 1), (MEMORY_BYTES - 15, 15), (MEMORY_BYTES - 6, 6)), bytes_at_end),
-    Kind("bytes past the end of the memory", ((LAST, 2), (65535, 1), (MEMORY_BYTES, 1), (MEMORY_BYTES - 14, 15), (65535, 15)), bytes_at_end),
+    Kind(
+        "bytes past the end of the memory",
+        ((LAST, 2), (65535, 1), (MEMORY_BYTES - 14, 15), (65535, 15)),
+        bytes_at_end,
+    ),
     Kind(
         "height 0 near the end of the memory",
         ((0xFF1, False), (0xFE1, True), (0xFF0, False), (0xFE0, True), (65535, False)),
@@ -246,4 +262,5 @@ DRAW_KINDS = (
     ),
     Kind("rows below the screen past the end of the memory", (LAST, MEMORY_BYTES - 2), cut_past_end),
     AT_END,
+    *TICKS,
 )
