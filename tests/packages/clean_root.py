@@ -223,6 +223,9 @@ class TestRootWithPython(unittest.TestCase):
         for user in (USER, None):
             answers_initialize(self, *self.root.command("chipbench-lsp", user=user))
 
+    def test_steps(self):
+        self.root.shell("chipbench-steps --count 1 --instruction DXYN steps && test -s steps/DXYN.json && rm -r steps")
+
 
 class TestArchive(unittest.TestCase):
     """The archive in an empty folder of a user."""

@@ -78,11 +78,12 @@ class TestList(unittest.TestCase):
         named = {name for line in re.findall(r"^Files: (.*)", text, re.M) for name in line.split()}
         self.assertEqual(named - {"*"}, ported_crates("chipbench"))
 
-    def test_manual_of_the_page_has_its_options(self):
-        manual = (TOP / "packaging/chipbench-page.1").read_text(encoding="utf-8").replace("\\-", "-")
-        printed = run(sys.executable, "-B", TOP / "frontends/page/bridge.py", "--help").decode()
-        for option in set(re.findall(r"--[a-z-]+", printed)):
-            self.assertRegex(manual, rf"(?m)^\.B .*{option}\b")
+    def test_manuals_of_launchers_have_their_options(self):
+        for name, program_of in (("page", "frontends/page/bridge.py"), ("steps", "frontends/python/chipbench_steps")):
+            manual = (TOP / f"packaging/chipbench-{name}.1").read_text(encoding="utf-8").replace("\\-", "-")
+            printed = run(sys.executable, "-B", TOP / program_of, "--help").decode()
+            for option in set(re.findall(r"--[a-z-]+", printed)):
+                self.assertRegex(manual, rf"(?m)^\.B .*{option}\b")
 
 
 class TestRelease(unittest.TestCase):
@@ -265,6 +266,12 @@ class TestLaunchers(unittest.TestCase):
 
     def test_language_server_answers(self):
         answers_initialize(self, self.link(self.folder / "prefix/bin/chipbench-lsp"))
+
+    def test_steps_are_written_and_agree(self):
+        made, examples = self.folder / "steps", self.folder / "prefix" / DOCUMENTS / "examples"
+        run(self.link(self.folder / "prefix/bin/chipbench-steps"), "--count", "2", "--programs", "1", made, cwd="/")
+        printed = run(sys.executable, "-B", examples / "emulator/run_steps.py", made).decode()
+        self.assertEqual(printed, "schip: 0 of 90 cases differ, 0 of 1 program\n")
 
     def test_page_says_that_python_is_missing(self):
         tools = self.folder / "tools"
