@@ -131,7 +131,13 @@ def print_trace(profile, program):
 
 
 def main(arguments):
+    if not arguments:
+        print(__doc__, file=sys.stderr)
+        return 2
     folder = pathlib.Path(arguments[0])
+    if not (folder / "index.json").is_file():
+        print(f"{folder} has no index.json: chipbench-steps writes it last, into the folder that it is given", file=sys.stderr)
+        return 2
     index = json.loads((folder / "index.json").read_text())
     profile = index["profile"]
     programs = json.loads((folder / index["programs"]["file"]).read_text()) if "programs" in index else []

@@ -158,6 +158,9 @@ def plants_of_memory():
     yield Plant("FX33", "I moves", f"self.store({BCD})", f"self.store({BCD}); self.i += 3")
     yield Plant("FX33", "one byte past the memory", FITS, FITS.replace("4096", "4097"))
     yield Plant("FX33", "no bound for the tens and ones", "        self.load(len(content))\n", "        self.load(1)\n")
+
+
+def plants_of_index():
     yield Plant("FX1E", "twelve bits", "self.i + v[x] & 0xFFFF", "self.i + v[x] & 0xFFF")
     yield Plant("FX1E", "no modulo", "self.i + v[x] & 0xFFFF", "self.i + v[x]")
     yield Plant("FX1E", "a flag past 4095", "self.i = self.i + v[x] & 0xFFFF",
@@ -218,6 +221,9 @@ def plants_of_the_screen():
     yield Plant("00FB", "eight columns in the low size", "[row >> 4 for", "[row >> (4 if self.high else 8) for")
     yield Plant("00FC", "pixels come in again", "[row << 4 &", "[(row << 4 | row >> 124) &")
     yield Plant("00FC", "two columns", "[row << 4 &", "[row << 2 &")
+
+
+def plants_of_sprites():
     yield Plant("DXYN", "wraps at the right edge", CUT,
                 CUT.replace("min(8 * wide, width - column)", "8 * wide")
                 + "\n                if column + right == width: column -= width")
@@ -253,6 +259,8 @@ PLANTS = [
     *plants_of_skips(),
     *plants_of_arithmetic(),
     *plants_of_memory(),
+    *plants_of_index(),
     *plants_of_timers_and_keys(),
     *plants_of_the_screen(),
+    *plants_of_sprites(),
 ]

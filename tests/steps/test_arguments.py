@@ -8,6 +8,11 @@ import unittest
 from common import PROGRAM, STEPS, run, steps, work
 
 
+def take_interrupts():
+    """What a shell begins in the background ignores them."""
+    signal.signal(signal.SIGINT, signal.SIG_DFL)
+
+
 class TestArguments(unittest.TestCase):
     def refused(self, status, expected, *words):
         printed = steps(*words, status=status)
@@ -38,7 +43,9 @@ class TestArguments(unittest.TestCase):
     def test_an_interrupted_run_leaves_no_index(self):
         out = work() / "interrupted"
         steps("--count", "1", "--instruction", "6XKK", out)
-        running = subprocess.Popen([STEPS, "--program", PROGRAM, "--count", "10000", out], stderr=subprocess.PIPE, text=True)
+        words = [STEPS, "--program", PROGRAM, "--count", "10000", out]
+        running = subprocess.Popen(words, stderr=subprocess.PIPE, text=True, preexec_fn=take_interrupts)
+        self.addCleanup(running.kill)
         while (out / "index.json").exists() and running.poll() is None:
             time.sleep(0.01)
         os.kill(running.pid, signal.SIGINT)

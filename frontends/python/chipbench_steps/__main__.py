@@ -12,6 +12,7 @@ sys.path.insert(0, str(Path(__file__).resolve().parent.parent))
 from chipbench import ChipbenchError, Ended, find_program  # noqa: E402
 
 from chipbench_steps.files import Asked, rows_named, write_all  # noqa: E402
+from chipbench_steps.writing import progress  # noqa: E402
 
 MOST_CASES = 10_000
 MOST_PROGRAMS = 1000
@@ -58,6 +59,7 @@ def asked_for(words: argparse.Namespace) -> Asked:
 
 
 def fail(reason: str, status: int) -> int:
+    progress("")
     print(f"chipbench-steps: {reason}", file=sys.stderr)
     return status
 
@@ -76,6 +78,7 @@ def main(arguments: list[str]) -> int:
         return fail(f"cannot write {error.filename or words.out}: {error.strerror}", 3)
     except KeyboardInterrupt:
         return fail("interrupted: the files in OUT are not complete", 130)
+    progress("")
     return 0
 
 

@@ -151,7 +151,7 @@ class Row:
     pattern: str
     kinds: Sequence[Kind]
     # what each case of the row needs, also the random ones
-    prepare: Callable[[Case], None] = lambda case: None
+    prepare: Callable[[Case], None]
     # whether the bytes at I are shown, and those behind the word
     shows_index: bool = False
     shows_next: bool = False

@@ -6,7 +6,6 @@ import contextlib
 import json
 import random
 import re
-import sys
 from collections import Counter
 from dataclasses import dataclass
 from pathlib import Path
@@ -18,7 +17,7 @@ from .answers import Answers, Settings
 from .cases import Row
 from .programs import write_programs
 from .rows import rows
-from .writing import lines, replace
+from .writing import lines, progress, replace
 
 INDEX = "index.json"
 
@@ -50,12 +49,6 @@ def version(program: str) -> tuple[str, str]:
     return found.group(1), found.group(2)
 
 
-def progress(text: str) -> None:
-    """Shows on a terminal what is being made."""
-    if sys.stderr.isatty():
-        print(f"\r\x1b[K{text}", end="", file=sys.stderr, flush=True)
-
-
 def write_all(folder: Path, program: str, asked: Asked) -> None:
     """Writes all that is asked for. The index goes first and comes last: without it the files aren't complete."""
     name, logic = version(program)
@@ -67,16 +60,16 @@ def write_all(folder: Path, program: str, asked: Asked) -> None:
         listed = [write_row(folder, answers, row, asked) for row in asked.rows]
     index = {"program": name, "logic": logic, "profile": asked.profile, "seed": asked.seed, "files": listed}
     if asked.programs:
-        progress("programs")
         index["programs"] = write_programs(folder, settings, asked.seed, asked.programs)
     replace(folder / INDEX, json.dumps(index, indent=1) + "\n")
-    progress("")
 
 
 def write_row(folder: Path, answers: Answers, row: Row, asked: Asked) -> dict[str, Any]:
     """Writes the file of a row, and gives its entry in the index."""
-    progress(row.name)
-    records = [answers.record(row, number, asked.seed) for number in range(asked.count)]
+    records = []
+    for number in range(asked.count):
+        progress(f"{row.name} {number + 1}")
+        records.append(answers.record(row, number, asked.seed))
     replace(folder / f"{row.name}.json", lines(records))
     kinds = Counter(record["about"] for record in records)
     return {"row": row.name, "file": f"{row.name}.json", "cases": len(records), "kinds": dict(kinds)}

@@ -11,7 +11,7 @@ from chipbench import Ended, run_once
 
 from .answers import Settings, has_super
 from .setup import START
-from .writing import lines, replace
+from .writing import lines, progress, replace
 
 STEPS = 2000
 # a state is kept each so many steps, and the last one
@@ -152,6 +152,7 @@ def write_programs(folder: Path, settings: Settings, seed: int, count: int) -> d
     (folder / FOLDER).mkdir(exist_ok=True)
     records = []
     for number in range(1, count + 1):
+        progress(f"program {number}")
         rng = random.Random(f"{seed} program {number}")
         image, events = Writer(rng, with_super).image, key_events(rng)
         rate, tape = rng.randrange(1, 30), rng.randbytes(16)

@@ -13,12 +13,13 @@ def nothing(case: Case) -> None:
     """What the cases of most rows need before a kind sets anything."""
 
 
+def like(names: str, kinds: Sequence[Kind], prepare: Callable[[Case], None] = nothing, **shows: bool) -> Iterable[Row]:
+    """Rows with the same kinds of cases."""
+    return (Row(name, name, kinds, prepare, **shows) for name in names.split())
+
+
 def rows() -> list[Row]:
     """All rows, in the order of the table, and then what stops the machine without an instruction."""
-
-    def like(names: str, kinds: Sequence[Kind], prepare: Callable[[Case], None] = nothing, **shows: bool) -> Iterable[Row]:
-        return (Row(name, name, kinds, prepare, **shows) for name in names.split())
-
     return [
         *like("00CN", sprites.SCROLL_DOWN, sprites.light_some),
         *like("00E0", sprites.SCREEN, sprites.light_some),

@@ -1,12 +1,28 @@
-"""Files that are the old ones or the new ones at each moment, and lists in JSON."""
+"""Files that are the old ones or the new ones at each moment, lists in JSON, and progress on a terminal."""
 
 from __future__ import annotations
 
 import contextlib
 import json
 import os
+import sys
+import time
 from pathlib import Path
 from typing import Any
+
+
+# how often progress is shown
+SECONDS = 0.2
+shown_at = 0.0
+
+
+def progress(text: str) -> None:
+    """Shows on a terminal what is being made; an empty text clears it."""
+    global shown_at
+    now = time.monotonic()
+    if sys.stderr.isatty() and (not text or now > shown_at + SECONDS):
+        shown_at = now
+        print(f"\r\x1b[K{text}", end="", file=sys.stderr, flush=True)
 
 
 def replace(path: Path, text: str | bytes) -> None:
