@@ -145,11 +145,12 @@ def main(arguments):
         print_trace(profile, programs[int(arguments[2]) - 1])
         return 0
     differ = sum(run_file(folder, profile, listed) for listed in index["files"])
-    found = [(program["name"], program_difference(profile, program)) for program in programs]
-    for name, difference in found:
+    bad = 0
+    for program in programs:
+        difference = program_difference(profile, program)
         if difference:
-            print(f"{name} {difference}")
-    bad = sum(difference is not None for _, difference in found)
+            print(f"{program['name']} {difference}    (in {folder}: {program['command']} --against TRACE)")
+        bad += difference is not None
     cases = sum(listed["cases"] for listed in index["files"])
     print(f"{profile}: {differ} of {cases} cases differ, {bad} of {len(programs)} program{'s' * (len(programs) != 1)}")
     return 1 if differ or bad else 0

@@ -13,7 +13,7 @@ TOP = pathlib.Path(__file__).resolve().parents[2]
 STEPS = TOP / "packaging" / "chipbench-steps"
 EXAMPLE = TOP / "examples" / "emulator"
 BUILT = TOP / "crates" / "chipbench" / "out" / "chipbench"
-PROGRAM = pathlib.Path(os.environ.get("CHIPBENCH") or BUILT)
+PROGRAM = pathlib.Path(os.environ.get("CHIPBENCH") or BUILT).absolute()
 PROFILES = ("schip", "vip")
 # as many cases of each row as the planted bugs have to be found by
 COUNT = int(os.environ.get("STEPS_COUNT") or 30)

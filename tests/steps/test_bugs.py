@@ -69,18 +69,18 @@ class TestPlants(unittest.TestCase):
 
 
 class TestPrograms(unittest.TestCase):
-    def words(self, profile, number, program):
-        image = folder(profile) / f"programs/{number}.ch8"
-        last = program["states"][-1]["step"]
-        return [PROGRAM, "trace", image, "--image", "--steps", last, "--profile", profile, "--rate", program["rate"],
-                "--tape", program["tape"], "--keys", image.with_suffix(".keys")]
+    def against(self, profile, program, traced, status=0):
+        """What the program's command prints of a trace."""
+        first, *words = program["command"].split()
+        self.assertEqual(first, "chipbench")
+        return run(PROGRAM, *words, "--against", traced, status=status, cwd=folder(profile))
 
     def test_the_trace_of_the_example_is_that_of_the_program(self):
         for profile in PROFILES:
             for number, program in enumerate(programs(profile), 1):
                 traced = work() / f"{profile}-{number}.trace"
                 traced.write_text(python(EXAMPLE / "run_steps.py", folder(profile), "--trace", number))
-                self.assertEqual(run(*self.words(profile, number, program), "--against", traced), "")
+                self.assertEqual(self.against(profile, program, traced), "")
 
     def test_they_run_on(self):
         for profile in PROFILES:
@@ -106,4 +106,4 @@ class TestPrograms(unittest.TestCase):
             run_steps.print_trace(profile, program)
         traced.write_text(text.getvalue())
         self.assertRegex(difference, r"^at step \d+: \w+ is \w+, and has to be \w+$")
-        self.assertRegex(run(*self.words(profile, 1, program), "--against", traced, status=1), r"^differs at step \d+: ")
+        self.assertRegex(self.against(profile, program, traced, status=1), r"^differs at step \d+: ")

@@ -159,17 +159,18 @@ def write_programs(folder: Path, settings: Settings, seed: int, count: int) -> d
         place = folder / FOLDER / f"{number}.ch8"
         replace(place, image)
         replace(place.with_suffix(".keys"), "".join(f"{step} {key} {'down' if down else 'up'}\n" for step, key, down in events))
+        options = ["--image", "--steps", str(STEPS), "--rate", str(rate), "--tape", tape.hex(), "--profile", settings.profile]
+        command = ["chipbench", "trace", f"{FOLDER}/{number}.ch8", *options, "--keys", f"{FOLDER}/{number}.keys"]
         record = {"name": f"program {number}", "image": image.hex(), "keys": events, "rate": rate, "tape": tape.hex()}
-        records.append({**record, "states": states(place, settings, rate, tape)})
+        records.append({**record, "command": " ".join(command), "states": states(folder, settings, command[1:])})
     replace(folder / INDEX, lines(records))
     return {"file": INDEX, "folder": FOLDER, "programs": count, "steps": STEPS}
 
 
-def states(image: Path, settings: Settings, rate: int, tape: bytes) -> list[dict[str, Any]]:
-    """Lines of the trace of a program: each so many steps, and the last one."""
-    options = ["--image", "--steps", str(STEPS), "--rate", str(rate), "--tape", tape.hex(), "--hash", "--json"]
-    keys = ["--keys", str(image.with_suffix(".keys"))]
-    status, output, errors = run_once([settings.program, "trace", str(image), "--profile", settings.profile, *options, *keys])
+def states(folder: Path, settings: Settings, command: list[str]) -> list[dict[str, Any]]:
+    """Lines of the trace of a program: each so many steps, and the last one. The command names files below the folder."""
+    words = [str(folder / word) if word.startswith(f"{FOLDER}/") else word for word in command]
+    status, output, errors = run_once([settings.program, *words, "--hash", "--json"])
     if status != 0:
         raise Ended(status, errors.strip(), [])
     traced = [json.loads(line) for line in output.decode().splitlines()]
