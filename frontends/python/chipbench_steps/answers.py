@@ -3,9 +3,9 @@
 from __future__ import annotations
 
 from dataclasses import dataclass
-from typing import Any
+from typing import Any, NamedTuple
 
-from chipbench import Bench, ChipbenchError, event_command
+from chipbench import Bench, ChipbenchError, State, event_command
 
 from .cases import AFTER_INDEX, BEFORE_INDEX, Case, Row
 from .setup import MEMORY_BYTES, START, Setup
@@ -15,6 +15,8 @@ LINE_BYTES = 56
 # Without a tick the step comes before the first tick. With one it is the step at one of these rates.
 NO_TICK = 1000
 TICKS = (128, 370)
+# What is asked at a step, and what stands behind the step.
+QUESTIONS = ((b"regs", b""), (b"mem", b" 0 %d" % MEMORY_BYTES), (b"screen", b""))
 # how many random bytes to come are shown
 RANDOM_BYTES = 2
 DARK = "0" * 32
@@ -39,12 +41,19 @@ def has_super(settings: Settings) -> bool:
 
 def data_line(content: bytes) -> str:
     """The line of a source that has these bytes, an even number of them."""
-    words = (content[at : at + 2].hex() for at in range(0, len(content), 2))
-    return "DW " + ",".join("#" + word for word in words)
+    return "DW #" + content.hex(",", 2).replace(",", ",#")
 
 
 def lines_of(content: bytes) -> list[str]:
     return [data_line(content[at : at + LINE_BYTES]) for at in range(0, len(content), LINE_BYTES)]
+
+
+class Answered(NamedTuple):
+    """The states before and after a step, and the text of its instruction."""
+
+    before: dict[str, Any]
+    after: dict[str, Any]
+    text: str
 
 
 class Session:
@@ -58,26 +67,26 @@ class Session:
     def close(self) -> None:
         self._bench.close()
 
-    def states(self, content: dict[int, int], keys: list[int], step: int) -> list[dict[str, Any]]:
-        """The parts of the states at a step and at the next one, for an image and the keys that are down in the step."""
+    def ask(self, content: dict[int, int], keys: list[int], step: int, pc: int) -> Answered:
+        """The states at a step and at the next one, for an image and the keys that are down in the step, and the text of the
+        instruction at pc."""
         image = bytearray(MEMORY_BYTES - START)
         for at, byte in content.items():
             image[at - START] = byte
-        commands = [*self._edits(bytes(image)), *(event_command(b"kins", step, key, True) for key in keys)]
-        for at in (step, step + 1):
-            commands += [b"regs %d" % at, b"mem %d 0 %d" % (at, MEMORY_BYTES), b"screen %d" % at]
-        asked = len(commands)
+        edits = [*self._edits(bytes(image)), *(event_command(b"kins", step, key, True) for key in keys)]
+        questions = [b"%s %d%s" % (word, at, more) for at in (step, step + 1) for word, more in QUESTIONS]
+        if pc < MEMORY_BYTES - 1:
+            questions.append(b"dis %d %d 1" % (step, pc))
         # the key events go again, for the next case
-        commands += [b"kdel %d %d" % (step, key) for key in keys]
-        answers = self._bench.exchange(commands)
-        refused = [(command, answer) for command, answer in zip(commands, answers) if answer.startswith(b"no ")]
-        if refused:
-            raise ChipbenchError(f"the program refused {refused[0][0].decode()}: {refused[0][1].decode().strip()}")
-        return [read_state(*answers[start : start + 3]) for start in (asked - 6, asked - 3)]
-
-    def text(self, step: int, pc: int) -> str:
-        """The instruction at pc as a source has it, or what it is where there is none."""
-        return self._bench.words(step, pc, 1)[0].text if pc < MEMORY_BYTES - 1 else ""
+        after = [b"kdel %d %d" % (step, key) for key in keys]
+        answers = self._bench.exchange([*edits, *questions, *after])
+        for command, answer in zip([*edits, *questions, *after], answers):
+            if answer.startswith(b"no "):
+                raise ChipbenchError(f"the program refused {command.decode()}: {answer.decode().strip()}")
+        before, memory, screen, *rest = answers[len(edits) : len(edits) + len(questions)]
+        text = rest[3].decode().splitlines()[0].split(" ", 2)[2] if len(rest) > 3 else ""
+        first = read_state(State(self._bench, step, before), memory, screen)
+        return Answered(first, read_state(State(self._bench, step + 1, rest[0]), *rest[1:3]), text)
 
     def _edits(self, image: bytes) -> list[bytes]:
         """The commands that turn the image into another one."""
@@ -90,26 +99,22 @@ class Session:
         return edits
 
 
-def read_state(registers: bytes, memory: bytes, screen: bytes) -> dict[str, Any]:
-    """The parts of a state from the answers of `regs`, `mem` and `screen`, each as the program has it."""
-    values, counters, parts = registers.decode().splitlines()
-    flags, stack = parts.split(" stack")
-    words = counters.split()
-    named = dict(zip(words[:10:2], words[1:10:2]))
+def read_state(state: State, memory: bytes, screen: bytes) -> dict[str, Any]:
+    """The parts of a state, with the answers of `mem` and `screen`, by the names that a case has for them."""
     rows = screen.decode().splitlines()[1:-1]
     return {
-        "pc": int(named["pc"], 16),
-        "v": [int(value, 16) for value in values.split()[1:]],
-        "i": int(named["i"], 16),
-        "dt": int(named["dt"], 16),
-        "st": int(named["st"], 16),
-        "stack": [int(address, 16) for address in stack.split()],
-        "flags": [int(value, 16) for value in flags.split()[1:]],
-        "high": words[10] == "high",
+        "pc": state.pc,
+        "v": list(state.v),
+        "i": state.i,
+        "dt": state.delay_timer,
+        "st": state.sound_timer,
+        "stack": list(state.call_stack),
+        "flags": list(state.flags),
+        "high": state.is_high,
         "memory": bytes.fromhex(memory.decode()),
         "screen": {int(row[:2]): row[3:] for row in rows},
-        "used": int(named["draws"]),
-        "stops": None if words[11] == "run" else words[11],
+        "used": state.random_bytes_used,
+        "stops": state.stopped,
     }
 
 
@@ -140,13 +145,12 @@ class Answers:
         if case.state.is_tick:
             rate = next(rate for rate in TICKS if setup.steps < rate)
             setup = Setup(case.state, idle=rate - 1 - setup.steps)
-        session = self._session(rate)
-        before, after = session.states(setup.bytes, case.state.keys, setup.steps)
+        before, after, text = self._session(rate).ask(setup.bytes, case.state.keys, setup.steps, case.state.pc)
         if before["stops"] or (before["pc"], before["v"]) != (case.state.pc, case.state.v):
             raise ChipbenchError(f"{row.name} case {number + 1}: its program does not lead to its state")
         return {
             "name": f"{row.name} {number + 1}",
-            "text": session.text(setup.steps, before["pc"]),
+            "text": text,
             "about": case.about,
             "initial": self._initial(row, case, before, after),
             "final": self._final(before, after),
