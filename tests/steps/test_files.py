@@ -103,6 +103,11 @@ class TestSameBytes(unittest.TestCase):
         fewer = self.made("fewer", "--count", 5, "--instruction", "FX55")
         self.assertEqual(json.loads((fewer / "FX55.json").read_text()), cases("schip", "FX55")[:5])
 
+    def test_profiles_have_the_same_states(self):
+        for first, second in zip(all_cases("schip"), all_cases("vip"), strict=True):
+            for name in ("pc", "i", "dt", "st", "stack", "keys", "random", "tick"):
+                self.assertEqual(first["initial"][name], second["initial"][name], first["name"])
+
     def test_another_seed_gives_others(self):
         other = self.made("other", "--seed", 2**64 - 1, "--count", COUNT, "--instruction", "8XY4")
         self.assertEqual(json.loads((other / "index.json").read_text())["seed"], 2**64 - 1)

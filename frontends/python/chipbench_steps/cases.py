@@ -41,9 +41,10 @@ class Case:
         state.is_tick = rng.randrange(4) == 0
         state.random_bytes_used = rng.randrange(4)
         state.keys = sorted(rng.sample(range(16), rng.randrange(4)))
+        # drawn under each profile, so that all else is the same
+        flags, is_high = [self.byte() for _ in range(8)], rng.randrange(2) == 0
         if has_super:
-            state.flags = [self.byte() for _ in range(8)]
-            state.is_high = rng.randrange(2) == 0
+            state.flags, state.is_high = flags, is_high
         # what is made from the rest once a kind has set it
         self.depth = rng.choice((0, 0, 1, 2, 3, 5))
         self.last_call: int | None = None
@@ -165,7 +166,8 @@ class Row:
         return [(kind, variant) for _, _, kind, variant in turns]
 
     def case(self, number: int, seed: int, has_super: bool) -> Case:
-        """Case `number`, counted from 0, of a seed. Neither the profile nor how many there are changes what is asked."""
+        """Case `number`, counted from 0, of a seed. How many are asked for changes nothing, and the profile only the parts that
+        SUPER-CHIP alone has, and the screen."""
         for attempt in range(ATTEMPTS):
             with contextlib.suppress(NoRoom):
                 return self._attempt(number, random.Random(f"{seed} {self.name} {number} {attempt}"), has_super)
