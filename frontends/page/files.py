@@ -5,12 +5,17 @@ from __future__ import annotations
 import contextlib
 import hashlib
 import os
-import stat
-import tempfile
+import sys
 from pathlib import Path
 from typing import Any
 
-MAX_FILE = 2_000_000
+sys.path.append(str(Path(__file__).resolve().parent.parent / "python"))
+
+import chipbench_files  # noqa: E402
+from chipbench_files import MAX_FILE, FileError, replace_file, shown  # noqa: E402
+
+__all__ = ["MAX_FILE", "Files", "Refused", "digest_of", "encoded", "read_file", "shown"]
+
 MAX_NAMES = 1000
 KINDS = (".asm", ".s", ".txt", ".ch8", ".rom", ".bin", ".keys")
 
@@ -26,11 +31,6 @@ class Refused(Exception):
 
 def digest_of(content: bytes | None) -> str | None:
     return None if content is None else hashlib.sha256(content).hexdigest()
-
-
-def shown(path: Path | str) -> str:
-    """A name as text that can be printed and sent, whatever bytes it has."""
-    return os.fsencode(path).decode("utf-8", "replace")
 
 
 def encoded(name: str) -> bytes:
@@ -79,72 +79,13 @@ class Files:
         """Writes the content, unless the file is no longer the one with the digest `known`."""
         if digest_of(self.read(name)) != known:
             return False
-        target = self.path_of(name).resolve()
-        try:
-            before = target.stat()
-        except FileNotFoundError:
-            before = None
-        handle, part = tempfile.mkstemp(prefix=".chipbench-page-", dir=target.parent)
-        try:
-            with os.fdopen(handle, "wb") as file:
-                write_through(file, content)
-                is_replaced = before is None or takes_its_place(os.fstat(file.fileno()), before)
-            if is_replaced:
-                os.chmod(part, stat.S_IMODE(before.st_mode) if before is not None else 0o666 & ~current_umask())
-                os.replace(part, target)
-                return True
-            write_in_place(target, content)
-        finally:
-            with contextlib.suppress(OSError):
-                os.unlink(part)
+        replace_file(self.path_of(name), content)
         return True
 
 
 def read_file(path: Path) -> bytes | None:
     """The content of a file, or none where there is no such file."""
     try:
-        # a pipe without a writer must not block
-        handle = os.open(path, os.O_RDONLY | os.O_NONBLOCK | os.O_CLOEXEC)
-    except FileNotFoundError:
-        return None
-    except OSError as error:
-        raise Refused(409, f"{shown(path)} can't be read: {error.strerror}") from None
-    if not stat.S_ISREG(os.fstat(handle).st_mode):
-        os.close(handle)
-        raise Refused(409, f"{shown(path)} is not a file")
-    with os.fdopen(handle, "rb") as file:
-        content = file.read(MAX_FILE + 1)
-    if len(content) > MAX_FILE:
-        raise Refused(413, f"{shown(path)} is too long for a source")
-    return content
-
-
-def takes_its_place(new: os.stat_result, old: os.stat_result) -> bool:
-    """Whether a new file can take the place of one: it has no other name, and the same owner and group."""
-    return old.st_nlink == 1 and (new.st_uid, new.st_gid) == (old.st_uid, old.st_gid)
-
-
-def write_in_place(target: Path, content: bytes) -> None:
-    """Writes a file that keeps its names and its owner. Room is taken first: a full disk leaves it as it was."""
-    with target.open("r+b") as file:
-        size = os.fstat(file.fileno()).st_size
-        try:
-            if len(content) > size:
-                os.posix_fallocate(file.fileno(), size, len(content) - size)
-        except OSError:
-            file.truncate(size)
-            raise
-        write_through(file, content)
-        file.truncate(len(content))
-
-
-def write_through(file: Any, content: bytes) -> None:
-    file.write(content)
-    file.flush()
-    os.fsync(file.fileno())
-
-
-def current_umask() -> int:
-    mask = os.umask(0)
-    os.umask(mask)
-    return mask
+        return chipbench_files.read_file(path)
+    except FileError as error:
+        raise Refused(413 if error.is_too_long else 409, str(error)) from None

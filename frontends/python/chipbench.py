@@ -129,8 +129,14 @@ class Program:
     def __init__(self, arguments: Sequence[str], most_bytes: int = MOST_BYTES) -> None:
         self._errors = tempfile.TemporaryFile()
         try:
+            # in a session of its own: Ctrl+C at the terminal is for the script that reads the answers
             self._process = subprocess.Popen(
-                arguments, stdin=subprocess.PIPE, stdout=subprocess.PIPE, stderr=self._errors, bufsize=0
+                arguments,
+                stdin=subprocess.PIPE,
+                stdout=subprocess.PIPE,
+                stderr=self._errors,
+                bufsize=0,
+                start_new_session=True,
             )
         except OSError:
             self._errors.close()

@@ -1,0 +1,100 @@
+"""What all commands of the shell share: the session, the console, and the words for where one is."""
+
+from __future__ import annotations
+
+from collections.abc import Callable
+
+from chipbench import Refused, State, sentences
+
+from . import views
+from .console import Console
+from .game import Game
+from .values import Mistake
+
+
+class Snapshot:
+    """The state at a step, read to its end, so that it can be compared after an edit. There is none while a line has a fault."""
+
+    def __init__(self, game: Game) -> None:
+        self.step = game.step
+        self.image = b""
+        self.state = game.state_or_none()
+        if self.state is not None:
+            self.image = game.bench.image
+            # they are read now: after an edit they would be of another run
+            _ = self.state.screen, self.state.memory
+
+
+class Commands:
+    """The base of the commands. Those of a subject are a class on top of it."""
+
+    game: Game
+    console: Console
+
+    def say(self, *lines: str) -> None:
+        self.console.say(*lines)
+
+    # -- where one is
+
+    def stop_text(self, code: str) -> str:
+        sentence = sentences(self.game.bench.program).get(code, "")
+        return f"{code}: {sentence}" if sentence else code
+
+    def where(self, state: State) -> str:
+        """A line that says where a state is: its step, its address, and the line of the source or the instruction."""
+        if state.stopped:
+            return f"step {state.step}, {state.pc:04x}: the machine has stopped for {self.stop_text(state.stopped)}"
+        number = self.game.line_at(state.pc)
+        if number is None:
+            return f"step {state.step}, {state.pc:04x}: {self.instruction(state)}"
+        text = self.game.bench.listing[number - 1].text.strip()
+        return f"step {state.step}, {state.pc:04x}, line {number}: {views.printable(text)}"
+
+    def instruction(self, state: State) -> str:
+        words = self.game.bench.words(state.step, state.pc, 1) if state.pc < 4095 else []
+        return words[0].text if words else "past the memory"
+
+    def show_place(self, old: State | None = None) -> None:
+        """Says where one is, and which registers have changed since an older state."""
+        state = self.game.state()
+        changed = views.changes(old, state) if old is not None else ""
+        if changed:
+            self.say(views.cut(changed, self.console.width) if self.console.is_terminal else changed)
+        self.say(views.cut(self.where(state), self.console.width) if self.console.is_terminal else self.where(state))
+
+    # -- edits
+
+    def edit(self, change: Callable[[], None], done: str) -> None:
+        """Makes an edit that can be undone, and tells what differs at the step where one is."""
+        before, snapshot = self.game.edition(), Snapshot(self.game)
+        try:
+            change()
+        finally:
+            self.game.note(before)
+        self.tell_difference(done, snapshot)
+
+    def tell_difference(self, done: str, snapshot: Snapshot) -> None:
+        self.say(f"{done}; {self.difference(snapshot)}")
+
+    def difference(self, snapshot: Snapshot) -> str:
+        """What differs at the step where one is from a state before an edit."""
+        step = self.game.step
+        try:
+            state = self.game.state()
+        except Refused:
+            return self.game.sentence("Q1")
+        if snapshot.state is None:
+            return f"no line has a fault any more: the state at step {step} can be shown"
+        image = self.game.bench.image
+        size = max(len(image), len(snapshot.image))
+        old, new = snapshot.image.ljust(size, b"\0"), image.ljust(size, b"\0")
+        changed = {512 + place for place in range(size) if old[place] != new[place]}
+        found = views.differences(snapshot.state, state, changed)
+        return f"the state at step {step} " + (f"differs in {', '.join(found)}" if found else "is as it was")
+
+    def words_of(self, text: str, most: int, form: str) -> list[str]:
+        """The words of a command's text, at most so many."""
+        words = text.split()
+        if len(words) > most:
+            raise Mistake(f"there is too much behind the command: {form}")
+        return words

@@ -1,0 +1,151 @@
+"""The terminal or the pipe where the shell reads and writes: width, colours, the line that is edited, the history."""
+
+from __future__ import annotations
+
+import contextlib
+import os
+import shutil
+import sys
+from collections.abc import Iterator
+from pathlib import Path
+
+try:
+    import readline
+except ImportError:  # a Python that was built without it
+    readline = None  # type: ignore[assignment]
+
+PLAIN_WIDTH = 80
+HISTORY_LINES = 2000
+COLOURS = {"mark": "1;34", "error": "1;31", "strong": "1"}
+
+
+def state_folder() -> Path:
+    """Where the history is kept: $XDG_STATE_HOME/chipbench, by default ~/.local/state/chipbench. A relative path doesn't count."""
+    named = os.environ.get("XDG_STATE_HOME", "")
+    home = Path(named) if os.path.isabs(named) else Path.home() / ".local/state"
+    return home / "chipbench"
+
+
+class Console:
+    """Standard input and output. Only where both are a terminal is there a prompt, editing of the line and a history."""
+
+    def __init__(self) -> None:
+        self.is_terminal = sys.stdin.isatty() and sys.stdout.isatty()
+        is_dumb = os.environ.get("TERM", "dumb") in ("dumb", "")
+        self.has_colours = self.is_terminal and not is_dumb and not os.environ.get("NO_COLOR")
+        self.has_blocks = self._can_print("▀▄█▘")
+        self._tells = self.is_terminal and not is_dumb and sys.stderr.isatty()
+        self._is_told = False
+        self.line = 0
+
+    @staticmethod
+    def _can_print(letters: str) -> bool:
+        try:
+            letters.encode(sys.stdout.encoding or "ascii")
+        except (UnicodeEncodeError, LookupError):
+            return False
+        return True
+
+    @property
+    def width(self) -> int:
+        """The columns of the window, as it is now; 80 where there is none."""
+        if not self.is_terminal:
+            return PLAIN_WIDTH
+        # COLUMNS may be older than the window
+        with contextlib.suppress(OSError):
+            return os.get_terminal_size(sys.stdout.fileno()).columns or PLAIN_WIDTH
+        return shutil.get_terminal_size((PLAIN_WIDTH, 24)).columns
+
+    def paint(self, kind: str, text: str) -> str:
+        return f"\x1b[{COLOURS[kind]}m{text}\x1b[0m" if self.has_colours and text else text
+
+    def say(self, *lines: str) -> None:
+        for line in lines:
+            sys.stdout.write(line + "\n")
+        sys.stdout.flush()
+
+    def complain(self, text: str) -> None:
+        """A refusal, on standard error; from a pipe or a file with the number of its line."""
+        sys.stdout.flush()
+        if self.is_terminal:
+            sys.stderr.write(self.paint("error", text) + "\n")
+        else:
+            sys.stderr.write(f"line {self.line}: {text}\n")
+        sys.stderr.flush()
+
+    # -- progress of a search
+
+    def report(self, step: int) -> None:
+        if self._tells:
+            self._is_told = True
+            sys.stderr.write(f"\rsearching: step {step}; Ctrl+C stops")
+            sys.stderr.flush()
+
+    def end_report(self) -> None:
+        if self._is_told:
+            self._is_told = False
+            sys.stderr.write("\r\x1b[K")
+            sys.stderr.flush()
+
+    # -- lines
+
+    def read(self, prompt: str, text: str = "") -> str:
+        """A line without its LF; at a terminal after a prompt, with a text that can be edited. Raises EOFError at the end."""
+        self.line += 1
+        if not self.is_terminal:
+            line = sys.stdin.readline()
+            if not line:
+                raise EOFError
+            return line.removesuffix("\n").removesuffix("\r")
+        with self._prefilled(text):
+            return input(prompt)
+
+    @contextlib.contextmanager
+    def _prefilled(self, text: str) -> Iterator[None]:
+        if not text or readline is None:
+            yield
+            return
+        readline.set_startup_hook(lambda: readline.insert_text(text))
+        try:
+            yield
+        finally:
+            readline.set_startup_hook()
+
+    @contextlib.contextmanager
+    def without_history(self) -> Iterator[None]:
+        """What is read meanwhile isn't a command, and goes to no history."""
+        if readline is None or not self.is_terminal:
+            yield
+            return
+        readline.set_auto_history(False)
+        try:
+            yield
+        finally:
+            readline.set_auto_history(True)
+
+
+class History:
+    """The commands that were typed, kept in a file from one session to the next."""
+
+    def __init__(self, console: Console) -> None:
+        self.path = state_folder() / "history"
+        self._is_kept = console.is_terminal and readline is not None
+
+    def load(self) -> None:
+        if not self._is_kept:
+            return
+        readline.clear_history()
+        readline.set_history_length(HISTORY_LINES)
+        with contextlib.suppress(OSError, UnicodeDecodeError):
+            readline.read_history_file(self.path)
+
+    def save(self) -> None:
+        """Writes the file by a new one. Where it can't be written, the session goes on without it."""
+        if not self._is_kept:
+            return
+        part = self.path.with_name(f"history.{os.getpid()}")
+        with contextlib.suppress(OSError):
+            self.path.parent.mkdir(mode=0o700, parents=True, exist_ok=True)
+            readline.write_history_file(part)
+            part.chmod(0o600)
+            part.replace(self.path)

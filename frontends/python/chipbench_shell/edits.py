@@ -1,0 +1,182 @@
+"""Commands that edit the lines and the key events, and those that read and write the file."""
+
+from __future__ import annotations
+
+import re
+from pathlib import Path
+
+from chipbench import to_bytes, to_text
+
+from .base import Commands, Snapshot
+from .game import counted
+from .values import Mistake
+
+END = "."
+LAST_KEY = 15
+
+
+class Edits(Commands):
+    """edit, insert, delete, undo, redo, save, reload; press, release."""
+
+    def do_edit(self, text: str) -> None:
+        """edit LINE [TEXT]
+
+        Replaces a line by TEXT, blanks included. Without TEXT the line is offered at the terminal to be changed; Ctrl+C
+        leaves it. A label stands for its line.
+        """
+        number, given = self._line_and_text(text, "edit LINE [TEXT]")
+        old = to_text(self.game.bench.lines[number - 1])
+        if given is None:
+            if not self.console.is_terminal:
+                raise Mistake("edit takes the new text here: edit LINE TEXT")
+            with self.console.without_history():
+                given = self.console.read(f"{number}: ", old)
+        self.edit(lambda: self.game.bench.replace(number, to_bytes(given)), f"line {number} replaced")
+
+    def do_insert(self, text: str) -> None:
+        """insert LINE [TEXT]
+
+        Inserts TEXT before a line, blanks included. Without TEXT it reads lines up to one that is a full stop.
+        """
+        most = len(self.game.bench.lines) + 1
+        number, given = self._line_and_text(text, "insert LINE [TEXT]", most)
+        if given is not None:
+            texts = [given]
+        else:
+            texts = self._read_lines(number)
+        if not texts:
+            raise Mistake("no line was given: nothing is inserted")
+
+        def insert() -> None:
+            for place, line in enumerate(texts, number):
+                self.game.bench.insert(place, to_bytes(line))
+
+        self.edit(insert, f"{counted(len(texts), 'line')} inserted before line {number}")
+
+    def _read_lines(self, number: int) -> list[str]:
+        texts: list[str] = []
+        with self.console.without_history():
+            if self.console.is_terminal:
+                self.say(f"lines before line {number}; a line that is a full stop ends them")
+            while True:
+                try:
+                    line = self.console.read(f"{number + len(texts)}: ")
+                except EOFError:
+                    return texts
+                if line.strip() == END:
+                    return texts
+                texts.append(line)
+
+    def do_delete(self, text: str) -> None:
+        """delete LINE [LAST]
+
+        Deletes a line, or the lines from one to another. A label stands for its line.
+        """
+        words = self.words_of(text, 2, "delete LINE [LAST]")
+        if not words:
+            raise Mistake("delete takes a line: delete 12, delete 12 14")
+        first, last = self.game.line_number(words[0]), self.game.line_number(words[-1])
+        if last < first:
+            raise Mistake(f"line {last} stands before line {first}")
+
+        def delete() -> None:
+            for number in range(last, first - 1, -1):
+                self.game.bench.delete(number)
+
+        self.edit(delete, f"{counted(last - first + 1, 'line')} deleted")
+
+    def _line_and_text(self, text: str, form: str, most: int = 0) -> tuple[int, str | None]:
+        """The number of a line, and what stands behind the one blank after it; None where there is no such blank."""
+        found = re.fullmatch(r"(\S+)(?: (.*))?", text, re.DOTALL)
+        if found is None:
+            raise Mistake(f"which line? {form}")
+        word = found[1]
+        if most and word.isdecimal():
+            number = int(word)
+            if not 1 <= number <= most:
+                raise Mistake(f"no line {number} to insert before: 1 to {most}")
+            return number, found[2]
+        return self.game.line_number(word), found[2]
+
+    def do_undo(self, text: str) -> None:
+        """undo
+
+        Takes back the last edit of the lines or the keys.
+        """
+        self.words_of(text, 0, "undo")
+        snapshot = Snapshot(self.game)
+        self.game.undo()
+        self.tell_difference("undone", snapshot)
+
+    def do_redo(self, text: str) -> None:
+        """redo
+
+        Makes an edit again that was taken back.
+        """
+        self.words_of(text, 0, "redo")
+        snapshot = Snapshot(self.game)
+        self.game.redo()
+        self.tell_difference("made again", snapshot)
+
+    # -- keys
+
+    def do_press(self, text: str) -> None:
+        """press KEY [at STEP]
+
+        Holds a key, 0 to 15 or A to F, from a step on, or from the current one.
+        """
+        self._key_event(text, True, "press KEY [at STEP]")
+
+    def do_release(self, text: str) -> None:
+        """release KEY [at STEP]
+
+        Lets go of a key from a step on, or from the current one.
+        """
+        self._key_event(text, False, "release KEY [at STEP]")
+
+    def _key_event(self, text: str, down: bool, form: str) -> None:
+        found = re.fullmatch(r"(\S+)(?:\s+(?:at\s+)?(\S+))?", text)
+        if found is None:
+            raise Mistake(f"which key, and when? {form}")
+        key = self._key(found[1])
+        step = self.game.step_number(found[2]) if found[2] else self.game.step
+        bench = self.game.bench
+        known = bench.events.get((step, key))
+        told = f"key {key:X} is {'down' if down else 'up'} from step {step} on"
+        if known == down:
+            raise Mistake(f"{told} already")
+        if known is None:
+            self.edit(lambda: (bench.press if down else bench.release)(key, at=step), told)
+        else:
+            self.edit(lambda: bench.change_event(key, at=step, down=down), told)
+
+    def _key(self, text: str) -> int:
+        is_letter = re.fullmatch("[A-Fa-f]", text) is not None and text.upper() not in self.game.symbols()
+        key = int(text, 16) if is_letter else self.game.values().number(text)
+        if key > LAST_KEY:
+            raise Mistake(f"no key {key}: the keys are 0 to 15, or 0 to 9 and A to F")
+        return key
+
+    # -- the file
+
+    def do_save(self, text: str) -> None:
+        """save [FILE] [over]
+
+        Writes the lines to the source's file, or to FILE. What another program has written there since stays, unless
+        `over` is given.
+        """
+        words = text.split()
+        is_forced = words[-1:] == ["over"]
+        name = text.strip().removesuffix("over").strip() if is_forced else text.strip()
+        path = self.game.save(Path(name) if name else None, is_forced)
+        self.say(f"{path}: {counted(len(self.game.bench.lines), 'line')} written")
+
+    def do_reload(self, text: str) -> None:
+        """reload
+
+        Takes the lines of the file in the place of those here. undo brings these back.
+        """
+        self.words_of(text, 0, "reload")
+        snapshot = Snapshot(self.game)
+        count = self.game.take(self.game.file_content())
+        self.tell_difference(f"{counted(count, 'line')} taken from {self.game.name}", snapshot)

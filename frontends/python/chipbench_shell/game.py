@@ -1,0 +1,360 @@
+"""The session behind the shell: a source, key events, the step where one is, and what can be undone."""
+
+from __future__ import annotations
+
+import difflib
+import itertools
+import os
+from collections.abc import Sequence
+from dataclasses import dataclass, field
+from pathlib import Path
+
+from chipbench import Bench, Fault, Refused, State, Symbol, join_lines, refusal, split_lines
+from chipbench_files import read_file, replace_file
+from chipbench_lsp.document import line_edits, over_limits, same_ends
+
+from .console import state_folder
+from .values import Mistake, Values, counted
+
+Events = dict[tuple[int, int], bool]
+MEMORY_BYTES = 4096
+
+
+@dataclass
+class Settings:
+    """The options of `chipbench debug` that were given, as `Bench` takes them."""
+
+    profile: str | None = None
+    rate: int | None = None
+    tape: bytes | None = None
+    seed: int | None = None
+    every: int | None = None
+
+
+@dataclass
+class Breakpoint:
+    """A place where `continue` stops, as it was typed: a line by its number, or what has an address."""
+
+    place: str
+    line: int | None
+    condition: str = ""
+
+    def __str__(self) -> str:
+        where = f"line {self.line}" if self.line is not None else self.place
+        return f"{where} if {self.condition}" if self.condition else where
+
+
+@dataclass(frozen=True)
+class Edition:
+    """The lines and the key events between two edits."""
+
+    lines: tuple[bytes, ...]
+    events: Events = field(hash=False)
+
+
+def changed_count(old: Sequence[bytes], new: Sequence[bytes]) -> int:
+    """How many lines differ: of each replaced part the longer side counts.
+
+    >>> changed_count([b"A", b"B", b"C"], [b"A", b"X", b"Y", b"C"])
+    2
+    """
+    first, last = same_ends(old, new)
+    pieces = difflib.SequenceMatcher(None, old[first : len(old) - last], new[first : len(new) - last], autojunk=False)
+    return sum(max(i2 - i1, j2 - j1) for tag, i1, i2, j1, j2 in pieces.get_opcodes() if tag != "equal")
+
+
+class Game:
+    """A source as it is edited, its file, and the step that is shown."""
+
+    def __init__(
+        self,
+        path: Path | None,
+        image: bytes | None = None,
+        settings: Settings | None = None,
+        program: str | None = None,
+    ) -> None:
+        self.path = path
+        self.settings = settings or Settings()
+        self._program = program
+        content = read_file(path) if path is not None else None
+        self.is_new = path is not None and content is None
+        self.bench = self._open(content or b"", image)
+        self.step = 0
+        self.breakpoints: list[Breakpoint] = []
+        self.saved: tuple[bytes, ...] | None = tuple(self.bench.lines)
+        # what the file held when it was read or written last
+        self._content = content
+        self._stamp = self._file_stamp()
+        self._undone: list[Edition] = []
+        self._done: list[Edition] = []
+
+    def _open(self, source: bytes, image: bytes | None = None) -> Bench:
+        chosen = {name: value for name, value in vars(self.settings).items() if value is not None}
+        if image is not None:
+            return Bench(image=image, program=self._program, **chosen)
+        return Bench(source, program=self._program, **chosen)
+
+    @property
+    def name(self) -> str:
+        return os.fspath(self.path) if self.path is not None else "the source"
+
+    @property
+    def is_edited(self) -> bool:
+        """Whether the lines are other ones than the file's."""
+        return tuple(self.bench.lines) != self.saved
+
+    def run_options(self) -> list[str]:
+        """The options of a run, as `chipbench trace` takes them."""
+        tape = self.settings.tape
+        named = {"profile": self.settings.profile, "rate": self.settings.rate, "seed": self.settings.seed}
+        options = {**named, "tape": None if tape is None else tape.hex()}
+        return [f"--{name}={value}" for name, value in options.items() if value is not None]
+
+    def key_lines(self) -> str:
+        """The key events as the lines of a file of key events."""
+        events = sorted(self.bench.events.items())
+        return "".join(f"{step} {key} {'down' if down else 'up'}\n" for (step, key), down in events)
+
+    def read_keys(self, content: bytes, name: str) -> None:
+        """Adds the key events of a file."""
+        lines = [line.partition(b";")[0].strip(b" \t\r") for line in split_lines(content)]
+        for number, line in enumerate(lines, 1):
+            if not line:
+                continue
+            answer = self.bench.exchange([b"kins " + line])[0]
+            if answer != b"ok\n":
+                raise Mistake(f"{name}, line {number}: {self.sentence(answer.split()[1].decode())}")
+
+    def sentence(self, code: str) -> str:
+        """A code with its sentence, and where the source's faults are the cause, the first of them."""
+        said = str(refusal(self.bench.program, code))
+        if code != "Q1":
+            return said
+        fault = self.faults()[0]
+        return f"line {fault.line} has a fault: {fault.code}: {fault.sentence}; there are no states until it is fixed"
+
+    # -- what the source and the machine are
+
+    def faults(self) -> list[Fault]:
+        return self.bench.faults
+
+    def symbols(self) -> dict[str, Symbol]:
+        return self.bench.symbols
+
+    def state(self, step: int | None = None) -> State:
+        """The machine at a step, or where one is."""
+        return self.bench.at(self.step if step is None else step)
+
+    def state_or_none(self) -> State | None:
+        """The machine where one is; None while a line has a fault."""
+        try:
+            return self.state()
+        except Refused:
+            return None
+
+    def values(self) -> Values:
+        return Values(self.symbols(), self.state_or_none())
+
+    def step_number(self, text: str) -> int:
+        """A number of steps. A label is none: its value is an address."""
+        name = text.strip().upper()
+        symbols = self.symbols()
+        if name in symbols and self.bench.listing[symbols[name].line - 1].value is None:
+            raise Mistake(f"{name} is a label, not a step: until {name} goes to the next step there")
+        return self.values().number(text)
+
+    def line_number(self, text: str) -> int:
+        """The number of a line: a name stands for the line that defines it."""
+        plain = text.strip()
+        symbols = self.symbols()
+        number = symbols[plain.upper()].line if plain.upper() in symbols else self.values().number(plain)
+        if not 1 <= number <= len(self.bench.lines):
+            raise Mistake(f"no line {number}: the source has {counted(len(self.bench.lines), 'line')}")
+        return number
+
+    def place(self, text: str) -> tuple[int, int | None]:
+        """The address of a place, and its line where it was given by that: a decimal number is a line, all else an address."""
+        plain = text.strip()
+        if plain.isdecimal():
+            number = self.line_number(plain)
+            return self.address_of_line(number), number
+        return self.values().address(plain), None
+
+    def address_of_line(self, number: int) -> int:
+        """Where the code of a line, or of the first one with code after it, stands."""
+        for line in self.bench.listing[number - 1 :]:
+            if line.code and line.address is not None:
+                return line.address
+        raise Mistake(f"line {number} has no code, and no line after it has")
+
+    def line_at(self, address: int) -> int | None:
+        """The line whose code is at an address."""
+        found = None
+        for line in self.bench.listing:
+            if line.address is not None and line.code and line.address <= address:
+                found = line
+        if found is None or found.address is None:
+            return None
+        size = self._size_of(found.number, found.address, len(found.code), found.more)
+        return found.number if address < found.address + size else None
+
+    def _size_of(self, number: int, address: int, shown: int, is_longer: bool) -> int:
+        """How many bytes a line has: where the listing doesn't show all, up to the next address."""
+        if not is_longer:
+            return shown
+        later = [line.address for line in self.bench.listing[number:] if line.address is not None]
+        return (later[0] if later else MEMORY_BYTES) - address
+
+    # -- edits, and what can be undone
+
+    def edition(self) -> Edition:
+        return Edition(tuple(self.bench.lines), self.bench.events)
+
+    def note(self, before: Edition) -> bool:
+        """Keeps what was there before an edit, so that it can be undone. False where nothing changed."""
+        if before == self.edition():
+            return False
+        self._done.append(before)
+        self._undone.clear()
+        self._move_breakpoints(before.lines)
+        return True
+
+    def _move_breakpoints(self, old: Sequence[bytes]) -> None:
+        """Breakpoints on lines stay with their lines."""
+        new = self.bench.lines
+        first, last = same_ends(old, new)
+        for breakpoint in self.breakpoints:
+            if breakpoint.line is not None and breakpoint.line > len(old) - last:
+                breakpoint.line += len(new) - len(old)
+        self.breakpoints = [
+            point for point in self.breakpoints if point.line is None or point.line <= max(len(new), 1)
+        ]
+
+    def undo(self) -> None:
+        self._exchange_editions(self._done, self._undone, "nothing to undo")
+
+    def redo(self) -> None:
+        self._exchange_editions(self._undone, self._done, "nothing to redo")
+
+    def _exchange_editions(self, taken: list[Edition], given: list[Edition], refused: str) -> None:
+        if not taken:
+            raise Mistake(refused)
+        now, wanted = self.edition(), taken[-1]
+        self.become(wanted)
+        taken.pop()
+        given.append(now)
+        self._move_breakpoints(now.lines)
+
+    def become(self, wanted: Edition) -> None:
+        """Makes the lines and the key events others. A text that no command can hold restarts the session."""
+        edits = line_edits(self.bench.lines, wanted.lines)
+        events = self.bench.events
+        edits += [b"kdel %d %d" % event for event in events if event not in wanted.events]
+        for (step, key), down in wanted.events.items():
+            if events.get((step, key)) != down:
+                word = b"krep" if (step, key) in events else b"kins"
+                edits.append(b"%s %d %d %s" % (word, step, key, b"down" if down else b"up"))
+        if any(b"\r" in edit for edit in edits):
+            self._restart(wanted)
+            return
+        for answer in self.bench.exchange(edits):
+            if answer != b"ok\n":
+                raise Mistake(self.sentence(answer.split()[1].decode()))
+
+    def _restart(self, wanted: Edition) -> None:
+        bench = self._open(join_lines(wanted.lines))
+        bench.exchange(b"kins %d %d %s" % (*event, b"down" if down else b"up") for event, down in wanted.events.items())
+        self.bench.close()
+        self.bench = bench
+
+    def set_profile(self, name: str) -> None:
+        """Runs the same lines and key events under another profile."""
+        before = self.settings.profile
+        self.settings.profile = name
+        try:
+            self._restart(self.edition())
+        except BaseException:
+            self.settings.profile = before
+            raise
+
+    # -- the file
+
+    def _file_stamp(self) -> tuple[int, int, int] | None:
+        try:
+            found = self.path.stat() if self.path is not None else None
+        except OSError:
+            return None
+        return (found.st_mtime_ns, found.st_size, found.st_ino) if found is not None else None
+
+    def look_at_file(self) -> bytes | None:
+        """The file's content where it is another one than the last that was read or written; None otherwise."""
+        stamp = self._file_stamp()
+        if self.path is None or stamp is None or stamp == self._stamp:
+            return None
+        content = read_file(self.path)
+        self._stamp = stamp
+        if content is None or content == self._content:
+            return None
+        self._content = content
+        return content
+
+    def take(self, content: bytes) -> int:
+        """Takes the lines of the file, and returns how many differ. An edit that wasn't saved can be had back by `undo`."""
+        lines = split_lines(content)
+        faulty = over_limits(lines)
+        if faulty:
+            number, code, sentence = faulty[0]
+            raise Mistake(f"line {number + 1}: {sentence} ({code}); the lines stay as they were")
+        before = self.edition()
+        count = changed_count(before.lines, lines)
+        self.become(Edition(tuple(lines), before.events))
+        self.note(before)
+        self.saved = tuple(lines)
+        return count
+
+    def file_content(self) -> bytes:
+        """What the file holds now."""
+        content = read_file(self.path) if self.path is not None else None
+        if content is None:
+            raise Mistake(f"there is no file {self.name}")
+        self._content, self._stamp = content, self._file_stamp()
+        return content
+
+    def save(self, path: Path | None, is_forced: bool) -> Path:
+        """Writes the lines to the file, or to another one, atomically. What another program wrote there stays, unless forced."""
+        target = path or self.path
+        if target is None:
+            raise Mistake("the source has no file yet: save FILE")
+        is_own = self.path is not None and target == self.path
+        there = read_file(target)
+        known = self._content if is_own else None
+        if there is not None and there != known and not is_forced:
+            told = "has changed since it was read: reload takes it, " if is_own else "is there already: "
+            raise Mistake(f"{target} {told}save {'' if is_own else str(target) + ' '}over writes over it")
+        content = self.content()
+        replace_file(target, content)
+        if is_own or self.path is None:
+            self.path = target
+            self._content, self._stamp = content, self._file_stamp()
+            self.saved = tuple(self.bench.lines)
+        return target
+
+    def keep_edits(self) -> Path:
+        """Writes the lines to a new file beside the history, for edits that would be lost otherwise."""
+        folder = state_folder()
+        folder.mkdir(mode=0o700, parents=True, exist_ok=True)
+        name = self.path.name if self.path is not None else "source.asm"
+        places = (folder / (f"unsaved-{number}-{name}" if number else f"unsaved-{name}") for number in itertools.count())
+        path = next(place for place in places if not place.exists())
+        replace_file(path, self.content())
+        return path
+
+    def content(self) -> bytes:
+        """The lines as a file holds them: with CR where most lines of the file had one."""
+        lines = self.bench.lines
+        has_returns = self._content is not None and self._content.count(b"\r\n") * 2 > self._content.count(b"\n")
+        return b"".join(line + b"\r\n" for line in lines) if has_returns else join_lines(lines)
+
+    def close(self) -> None:
+        self.bench.close()
+

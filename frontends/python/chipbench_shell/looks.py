@@ -1,0 +1,235 @@
+"""Commands that show something, and change nothing but what is shown next."""
+
+from __future__ import annotations
+
+import os
+import tempfile
+from pathlib import Path
+
+from chipbench import ListingLine, join_lines, run_once
+
+from . import views
+from .base import Commands, Snapshot
+from .values import REGISTERS, Mistake
+
+LISTED = 11
+WORDS = 8
+PROFILES = ("schip", "vip")
+CHECK_SECONDS = 60.0
+
+
+class Looks(Commands):
+    """regs, screen, list, x, dis, print, backtrace, keys, check, explain, profile."""
+
+    # where the next `list`, `x` and `dis` go on, by an empty line
+    list_end: int | None = None
+    next_address: int | None = None
+
+    def do_regs(self, text: str) -> None:
+        """regs
+
+        Shows the registers, the timers, the call stack and the flags. regs STEP answers as the session does.
+        """
+        state = self.game.state()
+        self.show_place()
+        names = [f"keys down {self._keys_down(state.step) or 'none'}"]
+        self.say(*views.registers(state, self.console.width, names))
+
+    def _keys_down(self, step: int) -> str:
+        held = {key: down for (at, key), down in sorted(self.game.bench.events.items()) if at <= step}
+        return " ".join(f"{key:X}" for key in sorted(held) if held[key])
+
+    def do_screen(self, text: str) -> None:
+        """screen
+
+        Draws the screen, a character for two pixels, or for four where the window is narrow. screen STEP answers as
+        the session does.
+        """
+        state = self.game.state()
+        drawn = views.screen(state.screen, self.console.width, self.console.has_blocks)
+        self.say(f"step {state.step}, {state.screen.width} by {state.screen.height} pixels", *drawn)
+
+    def do_list(self, text: str) -> None:
+        """list [PLACE]
+
+        Shows the lines of the source around the current one, which has the mark =>, or around a place. A breakpoint
+        has the mark *. An empty line shows the lines after them. `session list` shows the whole listing.
+        """
+        listing = self.game.bench.listing
+        if not listing:
+            raise Mistake("the source is empty: insert 1 adds lines")
+        state = self.game.state_or_none()
+        current = self.game.line_at(state.pc) if state is not None else None
+        if text:
+            middle = self._line_of_place(text)
+        else:
+            middle = current or (self.game.faults()[0].line if state is None else 1)
+        self._show_lines(listing, max(1, middle - LISTED // 2), current)
+
+    def list_on(self) -> None:
+        """Shows the lines after those that were shown last."""
+        listing = self.game.bench.listing
+        if self.list_end is None or self.list_end > len(listing):
+            raise Mistake("this is the end of the source")
+        state = self.game.state_or_none()
+        self._show_lines(listing, self.list_end, self.game.line_at(state.pc) if state is not None else None)
+
+    def _line_of_place(self, text: str) -> int:
+        if text.upper() in self.game.symbols() or text.isdecimal():
+            return self.game.line_number(text)
+        address = self.game.values().address(text)
+        number = self.game.line_at(address)
+        if number is None:
+            raise Mistake(f"no line has the address {address:04x}")
+        return number
+
+    def _show_lines(self, listing: list[ListingLine], first: int, current: int | None) -> None:
+        breaks = {point.line for point in self.game.breakpoints} | self._lines_of_breakpoints()
+        width = self.console.width if self.console.is_terminal else 1000
+        for line in listing[first - 1 : first - 1 + LISTED]:
+            mark = "=>" if line.number == current else " *" if line.number in breaks else ""
+            shown = views.source_line(line, mark, width)
+            self.say(self.console.paint("strong", shown) if mark == "=>" else shown)
+        self.list_end = first + LISTED
+
+    def _lines_of_breakpoints(self) -> set[int | None]:
+        found: set[int | None] = set()
+        for point in self.game.breakpoints:
+            try:
+                found.add(self.game.line_at(self.game.place(point.place)[0]))
+            except Mistake:
+                continue
+        return found
+
+    def do_x(self, text: str) -> None:
+        """x ADDRESS [N]
+
+        Shows N bytes of the memory, or 16. An address is a number, a name, a register, or a sum: x BALL 2, x I+2.
+        """
+        words = self.words_of(text, 2, "x ADDRESS [N]")
+        if not words:
+            raise Mistake("x takes an address: x #300 16, x BALL 2, x I")
+        count = self.game.values().number(words[1]) if len(words) > 1 else views.BYTES_OF_ROW
+        self._show_memory(self.game.values().address(words[0]), count)
+
+    def _show_memory(self, address: int, count: int) -> None:
+        content = bytes.fromhex(self.game.bench.ask(f"mem {self.game.step} {address} {count}"))
+        self.say(*views.memory(content, address, self.console.width))
+        self.next_address = address + count
+
+    def do_dis(self, text: str) -> None:
+        """dis [ADDRESS [N]]
+
+        Shows N words of the memory as instructions, or 8, from pc or from an address on.
+        """
+        words = self.words_of(text, 2, "dis [ADDRESS [N]]")
+        state = self.game.state()
+        address = self.game.values().address(words[0]) if words else state.pc
+        count = self.game.values().number(words[1]) if len(words) > 1 else min(WORDS, (4096 - address) // 2)
+        self._show_words(address, count)
+
+    def _show_words(self, address: int, count: int) -> None:
+        state = self.game.state()
+        names = {symbol.value: name for name, symbol in self.game.symbols().items() if self._is_label(symbol.line)}
+        for word in self.game.bench.words(state.step, address, count):
+            mark = "=>" if word.address == state.pc else "  "
+            name = f"{names[word.address]}: " if word.address in names else ""
+            self.say(f"{mark} {word.address:04x} {word.word:04x}  {name}{word.text}")
+        self.next_address = address + 2 * count
+
+    def _is_label(self, line: int) -> bool:
+        return self.game.bench.listing[line - 1].value is None
+
+    def go_on(self, command: str) -> None:
+        """Shows the bytes or the words after those that were shown last."""
+        if self.next_address is None or self.next_address >= 4096:
+            raise Mistake("this is the end of the memory")
+        left = 4096 - self.next_address
+        if command == "x":
+            self._show_memory(self.next_address, min(views.BYTES_OF_ROW, left))
+        else:
+            self._show_words(self.next_address, min(WORDS, left // 2))
+
+    def do_print(self, text: str) -> None:
+        """print VALUE
+
+        Shows a number, a name, a register, a byte such as [BALL+1], or a sum: in decimal, hexadecimal and binary.
+        """
+        if not text:
+            raise Mistake("print takes a value: print V3, print BALL+1, print [#300]")
+        values = self.game.values()
+        is_subject = text.startswith("[") or (text.upper() in REGISTERS and text.upper() not in self.game.symbols())
+        number = values.subject(text).value(self.game.state()) if is_subject else values.number(text)
+        self.say(f"{text} = {number} = #{number:02x} = ${number:08b}")
+
+    def do_backtrace(self, text: str) -> None:
+        """backtrace
+
+        Shows the calls that lead to where one is, the newest first.
+        """
+        self.words_of(text, 0, "backtrace")
+        state = self.game.state()
+        self.show_place()
+        for address in reversed(state.call_stack):
+            # the call stands before the address to which it returns
+            number = self.game.line_at(address - 2)
+            source = f", line {number}: {self.game.bench.listing[number - 1].text.strip()}" if number else ""
+            self.say(f"called from {address - 2:04x}{source}")
+
+    def do_keys(self, text: str) -> None:
+        """keys
+
+        Shows the key events as the lines of a file for --keys. press, release and undo change them, and kdel STEP KEY
+        removes one.
+        """
+        self.words_of(text, 0, "keys")
+        lines = self.game.key_lines().splitlines()
+        self.say(*(lines or ["no key events"]))
+
+    def do_check(self, text: str) -> None:
+        """check
+
+        Shows the faults with their places, or the warnings, as chipbench check does.
+        """
+        self.words_of(text, 0, "check")
+        name = Path(self.game.name).name if self.game.path is not None else "source.asm"
+        with tempfile.TemporaryDirectory(prefix="chipbench-shell-") as folder:
+            path = Path(folder, name)
+            path.write_bytes(join_lines(self.game.bench.lines))
+            colour = "--color=always" if self.console.has_colours else "--color=never"
+            profile = [f"--profile={self.game.settings.profile}"] if self.game.settings.profile else []
+            answer = self._run(["check", colour, *profile, str(path)])
+        found = answer.replace(f"{folder}{os.sep}", "").splitlines()
+        self.say(*(found or ["no faults and no warnings"]))
+
+    def do_explain(self, text: str) -> None:
+        """explain CODE
+
+        Shows the page on a code such as F9, N1 or S2: what it means, an example and the fix.
+        """
+        words = self.words_of(text, 1, "explain CODE")
+        self.say(*self._run(["explain", *(word.upper() for word in words)]).splitlines())
+
+    def _run(self, arguments: list[str]) -> str:
+        status, output, errors = run_once([self.game.bench.program, *arguments], seconds=CHECK_SECONDS)
+        if status not in (0, 1):
+            raise Mistake(errors.strip().removeprefix("chipbench: "))
+        return output.decode("utf-8", "replace")
+
+    def do_profile(self, text: str) -> None:
+        """profile [schip | vip]
+
+        Shows the settings of the run; with a name the same lines and keys run under that profile from then on.
+        """
+        words = self.words_of(text, 1, "profile [schip | vip]")
+        settings = self.game.settings
+        if not words:
+            tape = settings.tape.hex() if settings.tape is not None else "00"
+            random = f"seed {settings.seed}" if settings.seed is not None else f"tape {tape}"
+            self.say(f"profile {settings.profile or PROFILES[0]}, rate {settings.rate or 10}, {random}")
+            return
+        if words[0] not in PROFILES:
+            raise Mistake(f"no profile {words[0]}: schip or vip")
+        snapshot = Snapshot(self.game)
+        self.game.set_profile(words[0])
+        self.tell_difference(f"profile {words[0]}", snapshot)

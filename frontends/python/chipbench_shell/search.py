@@ -1,0 +1,142 @@
+"""Finds steps of a run by the lines that `chipbench trace` prints, from the step where one is."""
+
+from __future__ import annotations
+
+import os
+import subprocess
+import tempfile
+import time
+from collections.abc import Callable, Iterator
+from dataclasses import dataclass
+from pathlib import Path
+
+from chipbench import ChipbenchError, Ended, join_lines
+
+from .game import Game
+
+LAST_STEP = 1_000_000
+BLOCK = 1 << 18
+# how long a search goes on before it says at which step it is, and how often it does so
+SILENT_SECONDS, TOLD_SECONDS = 0.7, 0.2
+
+#: Where the columns of a line stand behind its step (docs/FORMATS.md). `depth` is decimal, and goes on to the next blank.
+COLUMNS = {
+    "PC": slice(0, 4),
+    **{f"V{register:X}": slice(10 + 3 * register, 12 + 3 * register) for register in range(16)},
+    "I": slice(58, 62),
+    "DT": slice(63, 65),
+    "ST": slice(66, 68),
+}
+WORD = slice(5, 9)
+DEPTH = 69
+HEAD = b"# step pc word v0 v1 v2 v3 v4 v5 v6 v7 v8 v9 va vb vc vd ve vf i dt st depth draws text"
+
+#: A step, and its line without that.
+Line = tuple[int, bytes]
+Test = Callable[[bytes], bool]
+Report = Callable[[int], None]
+
+
+@dataclass(frozen=True)
+class Found:
+    """What a search has found: a step, or None. `last` is the step that was looked at last, and there the machine may have stopped."""
+
+    step: int | None
+    last: int
+    is_stopped: bool
+
+
+def depth_of(line: bytes) -> int:
+    """How many return addresses are on the call stack."""
+    return int(line[DEPTH : line.index(b" ", DEPTH)])
+
+
+def may_write(line: bytes, address: int) -> bool:
+    """Whether the step may write a byte: `LD B, Vx` and `LD [I], Vx` write at most 16 bytes from I on. Whether one does is for the
+    program to say."""
+    return line[WORD][2:] in (b"33", b"55") and (address - int(line[COLUMNS["I"]], 16)) % 4096 < 16
+
+
+class Search:
+    """The lines of a trace from one step to another, in their order, while `report` is told now and then how far it is."""
+
+    def __init__(self, game: Game, report: Report) -> None:
+        self._game = game
+        self._report = report
+
+    def lines(self, first: int, last: int = LAST_STEP) -> Iterator[Line]:
+        """The steps from `first` to `last`, or to the one at which the machine has stopped."""
+        with tempfile.TemporaryDirectory(prefix="chipbench-shell-") as folder:
+            arguments = self._arguments(Path(folder), first, last)
+            with open(Path(folder, "errors"), "w+b") as errors:
+                process = start(arguments, errors.fileno())
+                try:
+                    assert process.stdout is not None
+                    yield from self._read(process.stdout.fileno(), first)
+                finally:
+                    # a search that has found its step, or that was interrupted, needs no further line
+                    was_running = process.poll() is None
+                    process.kill()
+                    process.wait()
+                    assert process.stdout is not None
+                    process.stdout.close()
+                if not was_running and process.returncode not in (0, None) and process.returncode > 0:
+                    errors.seek(0)
+                    raise Ended(process.returncode, errors.read(10_000).decode("utf-8", "replace").strip(), [])
+
+    def _arguments(self, folder: Path, first: int, last: int) -> list[str]:
+        source, keys = folder / "source.asm", folder / "events.keys"
+        source.write_bytes(join_lines(self._game.bench.lines))
+        keys.write_text(self._game.key_lines(), encoding="ascii")
+        game = self._game
+        steps = ["--steps", str(last), "--from", str(first)]
+        return [game.bench.program, "trace", str(source), *steps, "--keys", str(keys), *game.run_options()]
+
+    def _read(self, output: int, first: int) -> Iterator[Line]:
+        begun = told = time.monotonic()
+        rest, step, is_head = b"", first, True
+        while piece := os.read(output, BLOCK):
+            *lines, rest = (rest + piece).split(b"\n")
+            for line in lines:
+                if is_head:
+                    if line != HEAD:
+                        raise ChipbenchError("`trace` prints other columns than the shell knows")
+                    is_head = False
+                    continue
+                number, _, columns = line.partition(b" ")
+                step = int(number)
+                yield step, columns
+            now = time.monotonic()
+            if now - begun > SILENT_SECONDS and now - told > TOLD_SECONDS:
+                told = now
+                self._report(step)
+
+    def first(self, test: Test, after: int) -> Found:
+        """The first step after one at which a test holds."""
+        step, line = after, b""
+        for step, line in self.lines(after + 1):
+            if step > after and test(line):
+                return Found(step, step, False)
+        return Found(None, step, not line.endswith(b" run"))
+
+    def last(self, test: Test, before: int) -> int | None:
+        """The last step before one at which a test holds."""
+        found = None
+        for step, line in self.lines(0, before):
+            if step < before and test(line):
+                found = step
+        return found
+
+    def writes(self, address: int, first: int, last: int = LAST_STEP) -> Iterator[Line]:
+        """The steps that may write a byte."""
+        return ((step, line) for step, line in self.lines(first, last) if may_write(line, address))
+
+
+def start(arguments: list[str], errors: int) -> subprocess.Popen[bytes]:
+    """Runs a program that Ctrl+C at the terminal doesn't reach."""
+    try:
+        return subprocess.Popen(
+            arguments, stdin=subprocess.DEVNULL, stdout=subprocess.PIPE, stderr=errors, bufsize=0, start_new_session=True
+        )
+    except OSError as error:
+        raise ChipbenchError(f"cannot run {arguments[0]}: {error.strerror}") from None

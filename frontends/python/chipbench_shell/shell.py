@@ -1,0 +1,341 @@
+"""The loop of the shell: reads a line, finds its command by its beginning, carries it out, and tells what was refused."""
+
+from __future__ import annotations
+
+import cmd
+import contextlib
+import inspect
+import re
+import signal
+from collections.abc import Callable, Iterator
+
+from chipbench import ChipbenchError, Refused, sentences
+from chipbench_files import FileError
+
+from .base import Snapshot
+from .console import Console, History
+from .edits import Edits
+from .game import Game, counted
+from .looks import Looks
+from .moves import Moves
+from .session import SESSION_WORDS, SessionWords, is_of_session
+from .values import REGISTERS, Mistake, near
+
+try:
+    import readline
+except ImportError:  # a Python that was built without it
+    readline = None  # type: ignore[assignment]
+
+GROUPS = {
+    "Go": "step back goto next finish until continue reverse run watch who break clear",
+    "Look": "regs screen list x dis print backtrace keys check explain profile",
+    "Edit": "edit insert delete undo redo press release save reload",
+    "Besides": "session help quit",
+}
+COMMANDS = tuple(" ".join(GROUPS.values()).split())
+# beginnings that several commands have, and the one that is meant, as in GDB
+PREFERRED = {
+    "s": "step", "b": "break", "ba": "back", "bac": "back", "n": "next", "c": "continue", "l": "list", "f": "finish", "u": "until",
+    "p": "print", "r": "run", "h": "help", "d": "delete", "w": "watch", "e": "edit", "i": "insert", "q": "quit", "k": "keys",
+    "bt": "backtrace", "where": "backtrace", "rc": "reverse", "disassemble": "dis", "exit": "quit",
+}
+REPEATED = {"step", "back", "next", "finish", "until", "continue", "reverse", "watch", "who"}
+# commands behind which a name of the source may stand
+WITH_NAMES = {"until", "break", "clear", "list", "x", "dis", "print", "edit", "insert", "delete", "goto", "watch", "who"}
+PROMPT = "> "
+
+
+class Unknown(Mistake):
+    """A word that is no command."""
+
+
+def form_of(command: Callable[..., None]) -> tuple[str, str]:
+    """The form of a command, and what it does."""
+    form, _, about = (inspect.getdoc(command) or "").partition("\n\n")
+    return form, " ".join(about.split())
+
+
+def command_named(word: str) -> str:
+    """The command that a word begins.
+
+    >>> command_named("ste"), command_named("s"), command_named("regs")
+    ('step', 'step', 'regs')
+    """
+    if word in COMMANDS:
+        return word
+    if word in PREFERRED:
+        return PREFERRED[word]
+    found = [name for name in COMMANDS if name.startswith(word)]
+    if len(found) == 1:
+        return found[0]
+    if found:
+        raise Unknown(f"'{word}' begins several commands: {', '.join(found)}")
+    raise Unknown(f"no command '{word}'{near(word, [*COMMANDS, *SESSION_WORDS])}; help lists the commands")
+
+
+class Shell(Moves, Looks, Edits, SessionWords, cmd.Cmd):
+    """The commands over one game, and the loop that reads them."""
+
+    identchars = cmd.Cmd.identchars + "?"
+
+    def __init__(self, game: Game, console: Console, is_strict: bool = False) -> None:
+        super().__init__(completekey="tab")
+        self.game = game
+        self.console = console
+        self.is_strict = is_strict
+        self.has_failed = False
+        self.is_ended = False
+        self._repeated = ""
+        self._last_command = ""
+        self._is_gone_told = False
+
+    # -- the loop
+
+    def banner(self) -> str:
+        faults = self.game.faults()
+        kind = "; a new file, made by save" if self.game.is_new else ""
+        lines = counted(len(self.game.bench.lines), "line")
+        state = counted(len(faults), "fault") + ": check shows them" if faults else "no faults"
+        return f"{self.game.name}: {lines}, {state}{kind}"
+
+    def run(self) -> int:
+        """Reads commands up to the end, and returns the status."""
+        history = History(self.console)
+        history.load()
+        with self._completing(), self._hung_up():
+            try:
+                while not self.is_ended:
+                    self._read_one()
+                    if self.has_failed and self.is_strict:
+                        return 1
+            finally:
+                history.save()
+        return 0
+
+    def _read_one(self) -> None:
+        try:
+            line = self.console.read(PROMPT)
+        except EOFError:
+            if self.console.is_terminal:
+                self.say("")
+            self._end()
+            return
+        except KeyboardInterrupt:
+            self.say("")
+            return
+        self.onecmd(line)
+
+    def onecmd(self, line: str) -> bool:
+        """Carries out one line. What is refused is told, and changes nothing."""
+        step, breakpoints = self.game.step, list(self.game.breakpoints)
+        try:
+            self._follow_file()
+            self._carry_out(line)
+        except KeyboardInterrupt:
+            self.game.step, self.game.breakpoints = step, breakpoints
+            self.console.end_report()
+            self._fail(f"stopped; still at step {step}")
+        except Refused as refused:
+            self.game.step = step
+            self._fail(self.game.sentence(refused.code) if refused.code == "Q1" else str(refused))
+        except (Mistake, ChipbenchError, FileError) as error:
+            self.game.step = step
+            self._fail(str(error))
+        except OSError as error:
+            self.game.step = step
+            self._fail(f"{error.filename or 'the system'}: {error.strerror}")
+        finally:
+            self.console.end_report()
+        return self.is_ended
+
+    def _fail(self, text: str) -> None:
+        self.has_failed = True
+        self.console.complain(text)
+
+    def _carry_out(self, line: str) -> None:
+        if not line.strip():
+            self._repeat()
+            return
+        self._last_command = ""
+        if is_of_session(line):
+            self.session_command(line)
+            return
+        word, text = self._split(line)
+        if word.startswith("#") or not word:
+            return
+        name = command_named(word)
+        # what stands behind a line's number is text, blanks included
+        given = text if name in ("edit", "insert") else text.strip()
+        self._last_command = name
+        if name in REPEATED:
+            self._repeated = line
+        getattr(self, f"do_{name}")(given)
+
+    @staticmethod
+    def _split(line: str) -> tuple[str, str]:
+        """The first word of a line, and what is behind the blanks after it. x/16 is x, and a count behind a slash is GDB's."""
+        found = re.match(r"\s*(\?|[#A-Za-z][\w-]*|\S+)(.*)", line, re.DOTALL)
+        assert found is not None
+        return found[1].lower(), found[2].lstrip()
+
+    def _repeat(self) -> None:
+        """What an empty line does at a terminal: the last step again, or what comes after what was shown."""
+        if not self.console.is_terminal:
+            return
+        if self._last_command == "list":
+            self.list_on()
+        elif self._last_command in ("x", "dis"):
+            self.go_on(self._last_command)
+        elif self._repeated:
+            self._carry_out(self._repeated)
+
+    # -- the file
+
+    def _follow_file(self) -> None:
+        """Takes the lines of the file where another editor has changed it. Edits that aren't saved stay instead."""
+        content = self.game.look_at_file()
+        if content is None:
+            return
+        if self.game.is_edited:
+            self.say(
+                f"{self.game.name} changed, and the edits here aren't saved: they stay; "
+                "reload takes the file, save over writes it"
+            )
+            return
+        snapshot = Snapshot(self.game)
+        try:
+            count = self.game.take(content)
+        except Mistake as mistake:
+            self.say(f"{self.game.name} changed: {mistake}")
+            return
+        self.say(f"{self.game.name} changed: {counted(count, 'line')}; {self.difference(snapshot)}")
+
+    # -- help and the end
+
+    def do_help(self, arg: str) -> None:
+        """help [COMMAND]
+
+        Lists the commands, or says what one does.
+        """
+        if not arg:
+            self._list_commands()
+            return
+        word = arg.split()[0]
+        if word in SESSION_WORDS and word not in COMMANDS:
+            self.say(f"{SESSION_WORDS[word]}: answered as chipbench debug answers it")
+            return
+        form, about = form_of(getattr(self, f"do_{command_named(word)}"))
+        self.say(form, about)
+
+    def _list_commands(self) -> None:
+        width = self.console.width
+        for group, names in GROUPS.items():
+            self.say(self.console.paint("strong", group))
+            for name in names.split():
+                form, about = form_of(getattr(self, f"do_{name}"))
+                first = about.split(". ")[0].rstrip(".")
+                shown = f"  {form:<24} {first}"
+                self.say(shown if len(shown) <= width else f"  {form}")
+        self.say("A command is known by its beginning. help COMMAND says more.")
+
+    def do_quit(self, text: str) -> None:
+        """quit
+
+        Ends the shell, as Ctrl+D does. It asks first where edits aren't saved.
+        """
+        self._end()
+
+    def _end(self) -> None:
+        if not (self.game.is_edited and self.console.is_terminal):
+            self.is_ended = True
+            return
+        try:
+            with self.console.without_history():
+                answer = self.console.read(f"save the edits of {self.game.name}? yes, no, or stay: ").strip().lower()
+        except KeyboardInterrupt:
+            self.say("")
+            return
+        except EOFError:
+            self.say("")
+            self.keep_edits()
+            self.is_ended = True
+            return
+        if answer and "yes".startswith(answer):
+            self.do_save("")
+            self.is_ended = True
+        elif answer and "no".startswith(answer):
+            self.is_ended = True
+
+    def keep_edits(self) -> None:
+        """Writes lines that weren't saved to a file of their own, and says where."""
+        if self.game.is_edited:
+            path = self.game.keep_edits()
+            self.console.complain(f"the edits of {self.game.name} are in {path}")
+
+    @contextlib.contextmanager
+    def _hung_up(self) -> Iterator[None]:
+        """Where the terminal goes away, or the shell is ended from outside, edits that weren't saved are kept."""
+
+        def end(number: int, _: object) -> None:
+            if self.console.is_terminal:
+                with contextlib.suppress(OSError, Mistake, FileError):
+                    self.keep_edits()
+            raise SystemExit(128 + number)
+
+        before = {number: signal.signal(number, end) for number in (signal.SIGHUP, signal.SIGTERM)}
+        try:
+            yield
+        finally:
+            for number, handler in before.items():
+                signal.signal(number, handler)
+
+    # -- completion
+
+    @contextlib.contextmanager
+    def _completing(self) -> Iterator[None]:
+        if readline is None or not self.console.is_terminal:
+            yield
+            return
+        before = readline.get_completer()
+        readline.set_completer(self.complete)
+        readline.set_completer_delims(" \t\n+-=[],<>!")
+        readline.parse_and_bind("tab: complete")
+        try:
+            yield
+        finally:
+            readline.set_completer(before)
+
+    def completenames(self, text: str, *_: object) -> list[str]:
+        return sorted({*COMMANDS, *SESSION_WORDS} & {name for name in (*COMMANDS, *SESSION_WORDS) if name.startswith(text)})
+
+    def complete(self, text: str, state: int) -> str | None:
+        """The completions of what is typed, one after another, as readline asks for them."""
+        if state == 0:
+            line, start = readline.get_line_buffer(), readline.get_begidx()
+            try:
+                self.completion_matches = self.completions(line[:start], text)
+            except Exception:  # what isn't known can't be offered
+                self.completion_matches = []
+        return self.completion_matches[state] if state < len(self.completion_matches) else None
+
+    def completions(self, before: str, text: str) -> list[str]:
+        """What may stand where `text` is, behind the words before it."""
+        words = before.split()
+        if not words:
+            return [name + " " for name in self.completenames(text)]
+        name = words[0] if words[0] in SESSION_WORDS else command_named(words[0])
+        if name == "help":
+            return self.completenames(text)
+        if name == "explain":
+            return [code for code in self.codes() if code.startswith(text.upper())]
+        if name == "profile":
+            return [profile for profile in ("schip", "vip") if profile.startswith(text)]
+        if name in ("press", "release"):
+            return ["at "] if len(words) == 2 else []
+        offered = [*self.game.symbols()] if name in WITH_NAMES or name in SESSION_WORDS else []
+        if name in ("watch", "until", "who", "print"):
+            offered += REGISTERS
+        return [one for one in offered if one.startswith(text.upper())]
+
+    def codes(self) -> list[str]:
+        return [*sentences(self.game.bench.program)]

@@ -1,0 +1,163 @@
+"""What is typed where a number may stand: numbers, names, registers and bytes of the memory, with `+` and `-` between them."""
+
+from __future__ import annotations
+
+import difflib
+import operator
+import re
+from collections.abc import Callable, Iterable, Mapping
+from dataclasses import dataclass
+
+from chipbench import State, Symbol
+
+TERM = re.compile(
+    r"""\s*(?:
+      (?:\#|0[xX])(?P<hexadecimal>[0-9A-Fa-f]{1,7})
+    | (?P<decimal>[0-9]{1,9})
+    | (?P<word>[A-Za-z_][A-Za-z0-9_]*)
+    )(?![A-Za-z0-9_])\s*""",
+    re.VERBOSE,
+)
+COMPARISON = re.compile(r"\s*(==|!=|<=|>=|=|<|>)\s*")
+COMPARED: dict[str, Callable[[int, int], bool]] = {
+    "=": operator.eq,
+    "==": operator.eq,
+    "!=": operator.ne,
+    "<": operator.lt,
+    "<=": operator.le,
+    ">": operator.gt,
+    ">=": operator.ge,
+}
+REGISTERS = (*(f"V{digit:X}" for digit in range(16)), "I", "PC", "DT", "ST")
+LAST_ADDRESS = 4095
+
+
+class Mistake(Exception):
+    """What was typed can't be carried out. The text says why, and what would be right."""
+
+
+def counted(number: int, what: str) -> str:
+    """A number with its word.
+
+    >>> counted(1, "line"), counted(2, "line")
+    ('1 line', '2 lines')
+    """
+    return f"{number} {what}" + ("" if number == 1 else "s")
+
+
+def near(word: str, known: Iterable[str]) -> str:
+    """A question for a word that is like a known one; empty where none is.
+
+    >>> near("hlep", ["help", "step"])
+    '; did you mean help?'
+    """
+    found = difflib.get_close_matches(word, list(known), 1, 0.6)
+    return f"; did you mean {found[0]}?" if found else ""
+
+
+def register_value(state: State, name: str) -> int:
+    """The value of a register of `REGISTERS`."""
+    if name.startswith("V"):
+        return state.v[int(name[1:], 16)]
+    return {"I": state.i, "PC": state.pc, "DT": state.delay_timer, "ST": state.sound_timer}[name]
+
+
+@dataclass(frozen=True)
+class Subject:
+    """What a command looks at: a register, or the byte of the memory at an address."""
+
+    register: str | None
+    address: int = 0
+    shown: str = ""
+
+    def value(self, state: State) -> int:
+        return register_value(state, self.register) if self.register else state.memory[self.address]
+
+    @property
+    def digits(self) -> int:
+        """How many hexadecimal digits a value has."""
+        return 4 if self.register in ("I", "PC") else 2
+
+
+@dataclass(frozen=True)
+class Condition:
+    """A comparison of a subject with a number."""
+
+    subject: Subject
+    sign: str
+    number: int
+
+    def holds(self, value: int) -> bool:
+        return COMPARED[self.sign](value, self.number)
+
+    def __str__(self) -> str:
+        return f"{self.subject.shown} {self.sign} {self.number}"
+
+
+class Values:
+    """Reads numbers, by the names of the source and the registers of a state; without a state registers have no value."""
+
+    def __init__(self, symbols: Mapping[str, Symbol], state: State | None) -> None:
+        self._symbols = symbols
+        self._state = state
+
+    def number(self, text: str) -> int:
+        """The value of a sum, such as `5`, `#2a0`, `LOOP+2` or `I`."""
+        value, place, sign = 0, 0, 1
+        while True:
+            found = TERM.match(text, place)
+            if found is None:
+                raise Mistake(f"'{text.strip()}' is not a number: 100, #2a0, 0x2a0, a name, a register, or a sum of these")
+            value += sign * self._term(found)
+            place = found.end()
+            if place == len(text):
+                break
+            if text[place] not in "+-":
+                raise Mistake(f"'{text.strip()}' is not a number: only + and - may stand between its parts")
+            sign = 1 if text[place] == "+" else -1
+            place += 1
+        if value < 0:
+            raise Mistake(f"'{text.strip()}' is below 0")
+        return value
+
+    def _term(self, found: re.Match[str]) -> int:
+        if found["hexadecimal"]:
+            return int(found["hexadecimal"], 16)
+        if found["decimal"]:
+            return int(found["decimal"])
+        name = found["word"].upper()
+        if name in self._symbols:
+            return self._symbols[name].value
+        if name in REGISTERS:
+            if self._state is None:
+                raise Mistake(f"{name} has no value while a line has a fault")
+            return register_value(self._state, name)
+        raise Mistake(f"no name {found['word']} in the source{near(name, [*self._symbols, *REGISTERS])}")
+
+    def address(self, text: str) -> int:
+        value = self.number(text)
+        if value > LAST_ADDRESS:
+            raise Mistake(f"'{text.strip()}' is {value}: the memory has the addresses 0 to {LAST_ADDRESS}")
+        return value
+
+    def subject(self, text: str) -> Subject:
+        """A register, or `[ADDRESS]`; a name alone is the byte at its value."""
+        plain = text.strip()
+        name = plain.upper()
+        if name in REGISTERS and name not in self._symbols:
+            return Subject(name, shown=name)
+        if plain.startswith("[") and plain.endswith("]"):
+            return Subject(None, self.address(plain[1:-1]), f"[{plain[1:-1].strip()}]")
+        if name in self._symbols:
+            return Subject(None, self.address(plain), f"[{plain}]")
+        raise Mistake(
+            f"'{plain}' is not a register (V0 to VF, I, PC, DT, ST), an address such as [#300], or a label"
+            + near(name, [*self._symbols, *REGISTERS])
+        )
+
+    def condition(self, text: str) -> Condition | None:
+        """A comparison such as `V3 = 5`; None where the text has no sign of one."""
+        found = COMPARISON.search(text)
+        if found is None:
+            return None
+        return Condition(self.subject(text[: found.start()]), found[1], self.number(text[found.end() :]))

@@ -1,0 +1,158 @@
+"""What the shell shows of a machine and a source, as plain text for a window of some width."""
+
+from __future__ import annotations
+
+from collections.abc import Container, Iterable, Sequence
+
+from chipbench import ListingLine, Screen, State
+
+from .values import Mistake, counted
+
+HALF_BLOCKS = " ▀▄█"
+ASCII_LETTERS = " '.:"
+# by the pixels at the upper left, upper right, lower left and lower right, the last one the highest bit
+QUARTER_BLOCKS = " ▘▝▀▖▌▞▛▗▚▐▜▄▙▟█"
+BYTES_OF_ROW = 16
+
+
+def rows_of(parts: Sequence[str], count: int) -> list[str]:
+    """Parts in rows of `count`."""
+    return ["  ".join(parts[start : start + count]).rstrip() for start in range(0, len(parts), count)]
+
+
+def registers(state: State, width: int, names: Iterable[str]) -> list[str]:
+    """The registers and the rest of a state, in the rows that a window of this width takes."""
+    count = next((count for count in (16, 8, 4) if count * 7 - 2 <= width), 2)
+    values = [f"V{number:X} {value:02x}" for number, value in enumerate(state.v)]
+    size = "high" if state.is_high else "low"
+    parts = [
+        f"PC {state.pc:04x}",
+        f"I {state.i:04x}",
+        f"DT {state.delay_timer:02x}",
+        f"ST {state.sound_timer:02x}",
+        f"random bytes used {state.random_bytes_used}",
+        f"{size} size",
+        *names,
+    ]
+    stack = " ".join(f"{address:04x}" for address in state.call_stack) or "empty"
+    flags = " ".join(f"{value:02x}" for value in state.flags)
+    return [*rows_of(values, count), *wrapped(parts, width), f"call stack {stack}", f"flags {flags}"]
+
+
+def wrapped(parts: Sequence[str], width: int) -> list[str]:
+    """Parts with two blanks between them, in lines of at most `width`, where each part is no longer.
+
+    >>> wrapped(["one", "two", "three"], 8)
+    ['one  two', 'three']
+    """
+    lines: list[str] = []
+    for part in parts:
+        if lines and len(lines[-1]) + 2 + len(part) <= width:
+            lines[-1] += "  " + part
+        else:
+            lines.append(part)
+    return lines
+
+
+def screen(screen: Screen, width: int, has_blocks: bool) -> list[str]:
+    """A screen in half blocks, or in quarter blocks where the window is too narrow for these; without blocks in ASCII."""
+    if screen.width <= width:
+        letters = HALF_BLOCKS if has_blocks else ASCII_LETTERS
+        return [line.rstrip() for line in screen.draw(letters).split("\n")]
+    if screen.width // 2 <= width and has_blocks:
+        return [line.rstrip() for line in quarters(screen)]
+    needed = screen.width // 2 if has_blocks else screen.width
+    raise Mistake(f"the window has {width} columns, and the screen needs {needed}")
+
+
+def quarters(screen: Screen) -> list[str]:
+    """A screen with a character for four pixels, two above two.
+
+    >>> quarters(Screen(False, {0: 0xf << 124}))[0].rstrip()
+    '▀'
+    """
+    lines = []
+    for upper, lower in zip(screen.rows[::2], screen.rows[1::2]):
+        pixels = upper, lower
+        lines.append("".join(QUARTER_BLOCKS[quarter_of(pixels, column)] for column in range(0, screen.width, 2)))
+    return lines
+
+
+def quarter_of(rows: tuple[str, str], column: int) -> int:
+    """The number of a quarter block: a bit for each pixel of two rows from a column on."""
+    pairs = (rows[place // 2][column + place % 2] for place in range(4))
+    return sum(1 << place for place, pixel in enumerate(pairs) if pixel == "#")
+
+
+def memory(content: bytes, address: int, width: int) -> list[str]:
+    """Bytes of the memory, 16 in a row, or as many as a window of this width takes."""
+    count = next((count for count in (BYTES_OF_ROW, 8, 4) if 3 * count + 5 <= width), 2)
+    rows = range(0, len(content), count)
+    return [f"{address + start:04x}  {content[start : start + count].hex(' ')}" for start in rows]
+
+
+def source_line(line: ListingLine, mark: str, width: int) -> str:
+    """A line of the source with its number and its address, cut at the width."""
+    address = "    " if line.address is None or not line.code else f"{line.address:04x}"
+    fault = f"{line.fault}: " if line.fault else ""
+    return cut(f"{mark:2}{line.number:5} {address}  {fault}{printable(line.text)}".rstrip(), width)
+
+
+def printable(text: str) -> str:
+    """A text without control characters, which could steer the terminal, and without bytes that are not UTF-8."""
+    expanded = text.expandtabs(8)
+    return "".join(letter if letter.isprintable() else f"\\x{ord(letter) & 255:02x}" for letter in expanded)
+
+
+def cut(text: str, width: int) -> str:
+    """A text of at most `width` characters; two full stops stand for what is left out.
+
+    >>> cut("LD V0, 5", 6)
+    'LD V..'
+    """
+    return text if len(text) <= width else text[: max(width - 2, 0)] + ".."
+
+
+def differences(old: State, new: State, is_of_image: Container[int]) -> list[str]:
+    """What differs between two states whose screens and memories were read. Bytes that the images differ in don't count."""
+    found = [f"V{number:X}" for number in range(16) if old.v[number] != new.v[number]]
+    pairs = {
+        "PC": (old.pc, new.pc),
+        "I": (old.i, new.i),
+        "DT": (old.delay_timer, new.delay_timer),
+        "ST": (old.sound_timer, new.sound_timer),
+        "the call stack": (old.call_stack, new.call_stack),
+        "the flags": (old.flags, new.flags),
+        "the random bytes used": (old.random_bytes_used, new.random_bytes_used),
+        "the size": (old.is_high, new.is_high),
+        "the stop": (old.stopped, new.stopped),
+    }
+    found += [name for name, (before, after) in pairs.items() if before != after]
+    pixels = lit_differences(old.screen, new.screen)
+    bytes_of_memory = enumerate(zip(old.memory, new.memory))
+    count = sum(one != other and address not in is_of_image for address, (one, other) in bytes_of_memory)
+    found += [counted(pixels, "pixel")] if pixels else []
+    found += [counted(count, "byte") + " of the memory"] if count else []
+    return found
+
+
+def lit_differences(old: Screen, new: Screen) -> int:
+    """How many pixels differ, of the larger size where the sizes do."""
+    rows = set(old.stored) | set(new.stored)
+    stored = sum((old.stored.get(row, 0) ^ new.stored.get(row, 0)).bit_count() for row in rows)
+    return stored if old.high or new.high else stored // 4
+
+
+def changes(old: State, new: State) -> str:
+    """The registers that a move has changed, with both values."""
+    found = [
+        f"V{number:X} {old.v[number]:02x} -> {new.v[number]:02x}" for number in range(16) if old.v[number] != new.v[number]
+    ]
+    for name, before, after, digits in (
+        ("I", old.i, new.i, 4),
+        ("DT", old.delay_timer, new.delay_timer, 2),
+        ("ST", old.sound_timer, new.sound_timer, 2),
+    ):
+        if before != after:
+            found.append(f"{name} {before:0{digits}x} -> {after:0{digits}x}")
+    return ", ".join(found)
