@@ -3,6 +3,7 @@
 from __future__ import annotations
 
 import argparse
+import os
 import sys
 from pathlib import Path
 
@@ -35,6 +36,7 @@ def parser() -> argparse.ArgumentParser:
     words.add_argument("--image", metavar="FILE", help="open the source that `chipbench dis` prints of an image, in place of SOURCE")
     words.add_argument("--keys", metavar="FILE", help="add the key events of FILE")
     words.add_argument("--strict", action="store_true", help="end with status 1 at the first command that is refused")
+    words.add_argument("--echo", action="store_true", help="print each command before its answer, where it isn't typed")
     words.add_argument("--quiet", action="store_true", help="print no line at the start")
     words.add_argument("--program", metavar="PATH", help="the chipbench to run (default: $CHIPBENCH, or the installed one)")
     words.add_argument("--rate", metavar="N", type=int, help="how many steps lie between two ticks of the timers")
@@ -75,15 +77,15 @@ def main(arguments: list[str]) -> int:
     except (ChipbenchError, FileError, Mistake) as error:
         print(f"chipbench-shell: {error}", file=sys.stderr)
         return 3 if isinstance(error, FileError) else 2
-    console = Console()
+    console = Console(words.echo)
     try:
         shell = Shell(game, console, words.strict)
         if not words.quiet:
             console.say(shell.banner())
         return shell.run()
-    except BrokenPipeError:
-        # who reads the output has gone: no more of it is written
-        sys.stdout = open("/dev/null", "w", encoding="utf-8")
+    except OSError:
+        # the terminal has gone away, or who reads the output: no more of it is written
+        os.dup2(os.open(os.devnull, os.O_WRONLY), 1)
         return 3
     finally:
         game.close()

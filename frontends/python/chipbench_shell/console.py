@@ -29,8 +29,9 @@ def state_folder() -> Path:
 class Console:
     """Standard input and output. Only where both are a terminal is there a prompt, editing of the line and a history."""
 
-    def __init__(self) -> None:
+    def __init__(self, echoes: bool = False) -> None:
         self.is_terminal = sys.stdin.isatty() and sys.stdout.isatty()
+        self._echoes = echoes and not self.is_terminal
         is_dumb = os.environ.get("TERM", "dumb") in ("dumb", "")
         self.has_colours = self.is_terminal and not is_dumb and not os.environ.get("NO_COLOR")
         self.has_blocks = self._can_print("▀▄█▘")
@@ -60,12 +61,14 @@ class Console:
         return f"\x1b[{COLOURS[kind]}m{text}\x1b[0m" if self.has_colours and text else text
 
     def say(self, *lines: str) -> None:
+        self.end_report()
         for line in lines:
             sys.stdout.write(line + "\n")
         sys.stdout.flush()
 
     def complain(self, text: str) -> None:
         """A refusal, on standard error; from a pipe or a file with the number of its line."""
+        self.end_report()
         sys.stdout.flush()
         if self.is_terminal:
             sys.stderr.write(self.paint("error", text) + "\n")
@@ -96,7 +99,10 @@ class Console:
             line = sys.stdin.readline()
             if not line:
                 raise EOFError
-            return line.removesuffix("\n").removesuffix("\r")
+            line = line.removesuffix("\n").removesuffix("\r")
+            if self._echoes:
+                self.say((prompt + line).rstrip())
+            return line
         with self._prefilled(text):
             return input(prompt)
 

@@ -82,8 +82,8 @@ class Game:
         self.step = 0
         self.breakpoints: list[Breakpoint] = []
         self.saved: tuple[bytes, ...] | None = tuple(self.bench.lines)
-        # what the file held when it was read or written last
-        self._content = content
+        # what the file held when its lines were taken or written last, and when it was looked at last
+        self._content = self._seen = content
         self._stamp = self._file_stamp()
         self._undone: list[Edition] = []
         self._done: list[Edition] = []
@@ -286,17 +286,21 @@ class Game:
             return None
         return (found.st_mtime_ns, found.st_size, found.st_ino) if found is not None else None
 
+    @property
+    def is_gone(self) -> bool:
+        """Whether the file was there, and isn't any more."""
+        return self.path is not None and self._content is not None and self._file_stamp() is None
+
     def look_at_file(self) -> bytes | None:
-        """The file's content where it is another one than the last that was read or written; None otherwise."""
+        """The file's content where another program has written it since it was looked at last; None otherwise."""
         stamp = self._file_stamp()
         if self.path is None or stamp is None or stamp == self._stamp:
             return None
         content = read_file(self.path)
         self._stamp = stamp
-        if content is None or content == self._content:
-            return None
-        self._content = content
-        return content
+        is_known = content in (self._seen, self._content)
+        self._seen = content
+        return None if is_known else content
 
     def take(self, content: bytes) -> int:
         """Takes the lines of the file, and returns how many differ. An edit that wasn't saved can be had back by `undo`."""
@@ -309,7 +313,7 @@ class Game:
         count = changed_count(before.lines, lines)
         self.become(Edition(tuple(lines), before.events))
         self.note(before)
-        self.saved = tuple(lines)
+        self.saved, self._content = tuple(lines), content
         return count
 
     def file_content(self) -> bytes:
@@ -317,7 +321,7 @@ class Game:
         content = read_file(self.path) if self.path is not None else None
         if content is None:
             raise Mistake(f"there is no file {self.name}")
-        self._content, self._stamp = content, self._file_stamp()
+        self._seen, self._stamp = content, self._file_stamp()
         return content
 
     def save(self, path: Path | None, is_forced: bool) -> Path:
@@ -335,7 +339,7 @@ class Game:
         replace_file(target, content)
         if is_own or self.path is None:
             self.path = target
-            self._content, self._stamp = content, self._file_stamp()
+            self._content, self._seen, self._stamp = content, content, self._file_stamp()
             self.saved = tuple(self.bench.lines)
         return target
 

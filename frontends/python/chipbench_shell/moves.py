@@ -2,6 +2,7 @@
 
 from __future__ import annotations
 
+import bisect
 from collections.abc import Callable
 
 from chipbench import State
@@ -50,8 +51,7 @@ class Moves(Commands):
             raise Mistake(f"the steps are 0 to {LAST_STEP}")
         state = self.game.state(step)
         if state.stopped:
-            # the last line of a trace is that of the stop
-            step = next(at for at, _ in self.search().lines(step, step))
+            step = bisect.bisect_left(range(step), True, key=lambda at: self.game.state(at).stopped is not None)
         self.game.step = step
         self.say(*told)
         self.show_place(old if abs(step - old.step) == 1 else None)

@@ -65,7 +65,8 @@ class Search:
         self._report = report
 
     def lines(self, first: int, last: int = LAST_STEP) -> Iterator[Line]:
-        """The steps from `first` to `last`, or to the one at which the machine has stopped."""
+        """The steps from `first` to `last`, or to the one at which the machine has stopped. `Refused` where a line has a fault."""
+        self._game.state()
         with tempfile.TemporaryDirectory(prefix="chipbench-shell-") as folder:
             arguments = self._arguments(Path(folder), first, last)
             with open(Path(folder, "errors"), "w+b") as errors:

@@ -7,6 +7,7 @@ import contextlib
 import inspect
 import re
 import signal
+import textwrap
 from collections.abc import Callable, Iterator
 
 from chipbench import ChipbenchError, Refused, sentences
@@ -43,6 +44,7 @@ REPEATED = {"step", "back", "next", "finish", "until", "continue", "reverse", "w
 # commands behind which a name of the source may stand
 WITH_NAMES = {"until", "break", "clear", "list", "x", "dis", "print", "edit", "insert", "delete", "goto", "watch", "who"}
 PROMPT = "> "
+FORM_WIDTH = 36
 
 
 class Unknown(Mistake):
@@ -108,6 +110,10 @@ class Shell(Moves, Looks, Edits, SessionWords, cmd.Cmd):
                     self._read_one()
                     if self.has_failed and self.is_strict:
                         return 1
+            except OSError:
+                # the terminal has gone away, or who reads the output
+                self._keep_quietly()
+                raise
             finally:
                 history.save()
         return 0
@@ -133,7 +139,6 @@ class Shell(Moves, Looks, Edits, SessionWords, cmd.Cmd):
             self._carry_out(line)
         except KeyboardInterrupt:
             self.game.step, self.game.breakpoints = step, breakpoints
-            self.console.end_report()
             self._fail(f"stopped; still at step {step}")
         except Refused as refused:
             self.game.step = step
@@ -194,6 +199,9 @@ class Shell(Moves, Looks, Edits, SessionWords, cmd.Cmd):
     def _follow_file(self) -> None:
         """Takes the lines of the file where another editor has changed it. Edits that aren't saved stay instead."""
         content = self.game.look_at_file()
+        if self.game.is_gone and not self._is_gone_told:
+            self.say(f"{self.game.name} is gone: the lines stay here, and save writes them")
+        self._is_gone_told = self.game.is_gone
         if content is None:
             return
         if self.game.is_edited:
@@ -225,7 +233,11 @@ class Shell(Moves, Looks, Edits, SessionWords, cmd.Cmd):
             self.say(f"{SESSION_WORDS[word]}: answered as chipbench debug answers it")
             return
         form, about = form_of(getattr(self, f"do_{command_named(word)}"))
-        self.say(form, about)
+        self.say(form, *self._filled(about))
+
+    def _filled(self, text: str) -> list[str]:
+        """A text in lines that the window takes."""
+        return textwrap.wrap(text, max(self.console.width, 20))
 
     def _list_commands(self) -> None:
         width = self.console.width
@@ -234,9 +246,9 @@ class Shell(Moves, Looks, Edits, SessionWords, cmd.Cmd):
             for name in names.split():
                 form, about = form_of(getattr(self, f"do_{name}"))
                 first = about.split(". ")[0].rstrip(".")
-                shown = f"  {form:<24} {first}"
+                shown = f"  {form:<{FORM_WIDTH}} {first}"
                 self.say(shown if len(shown) <= width else f"  {form}")
-        self.say("A command is known by its beginning. help COMMAND says more.")
+        self.say(*self._filled("A command is known by its beginning. help COMMAND says more."))
 
     def do_quit(self, text: str) -> None:
         """quit
@@ -256,9 +268,9 @@ class Shell(Moves, Looks, Edits, SessionWords, cmd.Cmd):
             self.say("")
             return
         except EOFError:
+            self.is_ended = True
             self.say("")
             self.keep_edits()
-            self.is_ended = True
             return
         if answer and "yes".startswith(answer):
             self.do_save("")
@@ -272,14 +284,18 @@ class Shell(Moves, Looks, Edits, SessionWords, cmd.Cmd):
             path = self.game.keep_edits()
             self.console.complain(f"the edits of {self.game.name} are in {path}")
 
+    def _keep_quietly(self) -> None:
+        """Keeps edits that were typed where nobody may be there any more to read where they are."""
+        if self.console.is_terminal:
+            with contextlib.suppress(OSError, FileError):
+                self.keep_edits()
+
     @contextlib.contextmanager
     def _hung_up(self) -> Iterator[None]:
         """Where the terminal goes away, or the shell is ended from outside, edits that weren't saved are kept."""
 
         def end(number: int, _: object) -> None:
-            if self.console.is_terminal:
-                with contextlib.suppress(OSError, Mistake, FileError):
-                    self.keep_edits()
+            self._keep_quietly()
             raise SystemExit(128 + number)
 
         before = {number: signal.signal(number, end) for number in (signal.SIGHUP, signal.SIGTERM)}
