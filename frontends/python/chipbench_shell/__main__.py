@@ -11,7 +11,7 @@ sys.path.insert(0, str(Path(__file__).resolve().parent.parent))
 
 from chipbench import ChipbenchError  # noqa: E402
 from chipbench_files import FileError, read_file  # noqa: E402
-from chipbench_shell.console import Console  # noqa: E402
+from chipbench_shell.console import Console, OutputGone  # noqa: E402
 from chipbench_shell.game import Game, Settings  # noqa: E402
 from chipbench_shell.shell import Shell  # noqa: E402
 from chipbench_shell.values import Mistake  # noqa: E402
@@ -83,8 +83,8 @@ def main(arguments: list[str]) -> int:
         if not words.quiet:
             console.say(shell.banner())
         return shell.run()
-    except OSError:
-        # the terminal has gone away, or who reads the output: no more of it is written
+    except (OutputGone, OSError):
+        # no more of it is written
         os.dup2(os.open(os.devnull, os.O_WRONLY), 1)
         return 3
     finally:

@@ -26,6 +26,10 @@ def state_folder() -> Path:
     return home / "chipbench"
 
 
+class OutputGone(Exception):
+    """The terminal has gone away, or who reads the output."""
+
+
 class Console:
     """Standard input and output. Only where both are a terminal is there a prompt, editing of the line and a history."""
 
@@ -62,19 +66,21 @@ class Console:
 
     def say(self, *lines: str) -> None:
         self.end_report()
-        for line in lines:
-            sys.stdout.write(line + "\n")
-        sys.stdout.flush()
+        try:
+            for line in lines:
+                sys.stdout.write(line + "\n")
+            sys.stdout.flush()
+        except OSError:
+            raise OutputGone from None
 
     def complain(self, text: str) -> None:
         """A refusal, on standard error; from a pipe or a file with the number of its line."""
         self.end_report()
-        sys.stdout.flush()
-        if self.is_terminal:
-            sys.stderr.write(self.paint("error", text) + "\n")
-        else:
-            sys.stderr.write(f"line {self.line}: {text}\n")
-        sys.stderr.flush()
+        shown = self.paint("error", text) if self.is_terminal else f"line {self.line}: {text}"
+        # a failure of standard error is ignored, as by the program
+        with contextlib.suppress(OSError):
+            sys.stderr.write(shown + "\n")
+            sys.stderr.flush()
 
     # -- progress of a search
 

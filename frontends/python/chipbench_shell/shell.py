@@ -14,7 +14,7 @@ from chipbench import ChipbenchError, Refused, sentences
 from chipbench_files import FileError
 
 from .base import Snapshot
-from .console import Console, History
+from .console import Console, History, OutputGone
 from .edits import Edits
 from .game import Game, counted
 from .looks import Looks
@@ -110,8 +110,7 @@ class Shell(Moves, Looks, Edits, SessionWords, cmd.Cmd):
                     self._read_one()
                     if self.has_failed and self.is_strict:
                         return 1
-            except OSError:
-                # the terminal has gone away, or who reads the output
+            except (OutputGone, OSError):
                 self._keep_quietly()
                 raise
             finally:
