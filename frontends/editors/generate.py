@@ -6,8 +6,7 @@
 
 The words of the language come from crates/chip_lang (src/form.rt, specs/Keyword.antt, src/statement.rt), those of the
 command line from crates/chip_arguments/src (arguments.rt, commands.rt), the names of the profiles from
-crates/chip_machine/src (profile.rt), and the options of chipbench-page, chipbench-lsp and
-chipbench-steps from their parsers.
+crates/chip_machine/src (profile.rt), and the options of the launchers from their parsers.
 """
 import argparse
 import importlib
@@ -24,6 +23,7 @@ LAUNCHERS = {
     "chipbench-page": ("bridge", "page"),
     "chipbench-lsp": ("chipbench_lsp.__main__", "python"),
     "chipbench-steps": ("chipbench_steps.__main__", "python"),
+    "chipbench-shell": ("chipbench_shell.__main__", "python"),
 }
 # a command of the shell that prints all codes
 CODES = "chipbench explain 2>/dev/null | cut -d ' ' -f 1"

@@ -78,12 +78,21 @@ class TestList(unittest.TestCase):
         named = {name for line in re.findall(r"^Files: (.*)", text, re.M) for name in line.split()}
         self.assertEqual(named - {"*"}, ported_crates("chipbench"))
 
-    def test_manuals_of_launchers_have_their_options(self):
-        for name, program_of in (("page", "frontends/page/bridge.py"), ("steps", "frontends/python/chipbench_steps")):
-            manual = (TOP / f"packaging/chipbench-{name}.1").read_text(encoding="utf-8").replace("\\-", "-")
-            printed = run(sys.executable, "-B", TOP / program_of, "--help").decode()
-            for option in set(re.findall(r"--[a-z-]+", printed)):
-                self.assertRegex(manual, rf"(?m)^\.B .*{option}\b")
+    def check_manual(self, name, *command):
+        """The manual page of a launcher has each option of its help."""
+        manual = (TOP / f"packaging/{name}.1").read_text(encoding="utf-8").replace("\\-", "-")
+        printed = run(sys.executable, "-B", *command, "--help").decode()
+        for option in set(re.findall(r"--[a-z-]+", printed)):
+            self.assertRegex(manual, rf"(?m)^\.B .*{option}\b")
+
+    def test_manual_of_the_page_has_its_options(self):
+        self.check_manual("chipbench-page", TOP / "frontends/page/bridge.py")
+
+    def test_manual_of_the_shell_has_its_options(self):
+        self.check_manual("chipbench-shell", TOP / "frontends/python/chipbench_shell")
+
+    def test_manual_of_the_steps_has_their_options(self):
+        self.check_manual("chipbench-steps", TOP / "frontends/python/chipbench_steps")
 
 
 class TestRelease(unittest.TestCase):
@@ -272,6 +281,13 @@ class TestLaunchers(unittest.TestCase):
         run(self.link(self.folder / "prefix/bin/chipbench-steps"), "--count", "2", "--programs", "1", made, cwd="/")
         printed = run(sys.executable, "-B", examples / "emulator/run_steps.py", made).decode()
         self.assertEqual(printed, "schip: 0 of 90 cases differ, 0 of 1 program\n")
+
+    def test_shell_answers(self):
+        """The installed shell takes the program that was installed with it."""
+        environment = {name: value for name, value in os.environ.items() if name != "CHIPBENCH"}
+        shell = [self.link(self.folder / "prefix/bin/chipbench-shell"), "--quiet", TOP / "examples/bounce.asm"]
+        done = subprocess.run(shell, input=b"image\n", capture_output=True, cwd="/", env=environment)
+        self.assertEqual((done.returncode, done.stdout.decode().strip()), (0, image_of("bounce").hex()))
 
     def test_page_says_that_python_is_missing(self):
         tools = self.folder / "tools"

@@ -1,0 +1,13 @@
+# Completion of chipbench-shell's options for bash; made by frontends/editors/generate.py.
+_chipbench_shell() {
+    local word=${COMP_WORDS[COMP_CWORD]} before=${COMP_WORDS[COMP_CWORD-1]}
+    case $before in
+        --profile) COMPREPLY=($(compgen -W "schip vip" -- "$word")); return ;;
+        --rate | --tape | --seed | --every) return ;;
+    esac
+    case $word in
+        -*) COMPREPLY=($(compgen -W "--help --image --keys --strict --echo --quiet --program --rate --tape --seed --profile --every" -- "$word")) ;;
+        *) COMPREPLY=($(compgen -f -- "$word")) ;;
+    esac
+}
+complete -o filenames -F _chipbench_shell chipbench-shell

@@ -1,0 +1,13 @@
+# Completion of chipbench-shell's options for fish; made by frontends/editors/generate.py.
+complete -c chipbench-shell -l help -d 'show this help message and exit'
+complete -c chipbench-shell -l image -r -d 'open the source that `chipbench dis` prints of an image'
+complete -c chipbench-shell -l keys -r -d 'add the key events of FILE'
+complete -c chipbench-shell -l strict -d 'end with status 1 at the first command that is refused'
+complete -c chipbench-shell -l echo -d 'print each command before its answer'
+complete -c chipbench-shell -l quiet -d 'print no line at the start'
+complete -c chipbench-shell -l program -r -d 'the chipbench to run'
+complete -c chipbench-shell -l rate -x -d 'how many steps lie between two ticks of the timers'
+complete -c chipbench-shell -l tape -x -d 'the random bytes'
+complete -c chipbench-shell -l seed -x -d 'a number that makes the random bytes'
+complete -c chipbench-shell -l profile -x -a 'schip vip' -d 'schip or vip'
+complete -c chipbench-shell -l every -x -d 'how many steps lie between two checkpoints'
