@@ -36,7 +36,7 @@ def has_terminals() -> bool:
 
 
 class Terminal:
-    """A running shell. What it prints is kept as it came in `raw`."""
+    """A running shell, in a folder or another place; its home is the folder. What it prints is kept as it came in `raw`."""
 
     def __init__(
         self,
@@ -44,6 +44,7 @@ class Terminal:
         folder: Path,
         columns: int = 80,
         term: str = "xterm",
+        place: Path | None = None,
         **environment: str,
     ) -> None:
         self._master, slave = pty.openpty()
@@ -55,7 +56,7 @@ class Terminal:
             stdin=slave,
             stdout=slave,
             stderr=slave,
-            cwd=folder,
+            cwd=place or folder,
             env={**kept, "LC_ALL": "C.UTF-8", **given, **environment},
             start_new_session=True,
             preexec_fn=lambda: fcntl.ioctl(0, termios.TIOCSCTTY, 0),

@@ -224,6 +224,17 @@ class Moves(AtTerminal):
         self.answers(terminal, ("break", "breakpoint line 9"), ("c", "step 31, 020a, line 9: EXIT"))
 
 
+class Readme(AtTerminal):
+    def test_the_first_session_is_typed_as_it_stands(self) -> None:
+        session = re.search(r"```console\n\$ packaging/chipbench-shell (\S+)\n(.*?)```", (TOP / "README.md").read_text(), re.DOTALL)
+        assert session is not None
+        terminal = Terminal([session[1], "--program", self.program], self.folder, place=TOP, NO_COLOR="1")
+        self.addCleanup(terminal.close)
+        banner, *asked = session[2].split("\n> ")
+        self.assertEqual(terminal.read_until("> "), banner + "\n> ")
+        self.answers(terminal, *((command, answer.rstrip("\n")) for command, _, answer in (one.partition("\n") for one in asked)))
+
+
 class Looks(AtTerminal):
     def test_regs(self) -> None:
         terminal = self.opened(COUNTER, "--quiet")
