@@ -3,6 +3,7 @@
 from __future__ import annotations
 
 import contextlib
+import io
 import os
 import shutil
 import sys
@@ -41,7 +42,12 @@ class Console:
         self.has_blocks = self._can_print("▀▄█▘")
         self._tells = self.is_terminal and not is_dumb and sys.stderr.isatty()
         self._is_told = False
+        self._pasted: list[str] = []
         self.line = 0
+        # bytes that are not UTF-8 stay what they are, and what can't be printed is escaped
+        for stream, errors in ((sys.stdin, "surrogateescape"), (sys.stdout, "backslashreplace"), (sys.stderr, "backslashreplace")):
+            if isinstance(stream, io.TextIOWrapper):
+                stream.reconfigure(errors=errors)
 
     @staticmethod
     def _can_print(letters: str) -> bool:
@@ -109,8 +115,12 @@ class Console:
             if self._echoes:
                 self.say((prompt + line).rstrip())
             return line
+        if self._pasted:
+            return self._pasted.pop(0)
         with self._prefilled(text):
-            return input(prompt)
+            # a paste may hold several lines
+            line, *self._pasted = input(prompt).split("\n")
+        return line
 
     @contextlib.contextmanager
     def _prefilled(self, text: str) -> Iterator[None]:

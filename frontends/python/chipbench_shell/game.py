@@ -10,7 +10,7 @@ from dataclasses import dataclass, field
 from pathlib import Path
 
 from chipbench import Bench, Fault, Refused, State, Symbol, join_lines, refusal, split_lines
-from chipbench_files import read_file, replace_file
+from chipbench_files import FileError, read_file, replace_file
 from chipbench_lsp.document import line_edits, over_limits, same_ends
 
 from .console import state_folder
@@ -336,7 +336,10 @@ class Game:
             told = "has changed since it was read: reload takes it, " if is_own else "is there already: "
             raise Mistake(f"{target} {told}save {'' if is_own else str(target) + ' '}over writes over it")
         content = self.content()
-        replace_file(target, content)
+        try:
+            replace_file(target, content)
+        except OSError as error:
+            raise FileError(f"{target} can't be written: {error.strerror}") from None
         if is_own or self.path is None:
             self.path = target
             self._content, self._seen, self._stamp = content, content, self._file_stamp()

@@ -3,6 +3,7 @@
 from __future__ import annotations
 
 import os
+import re
 import tempfile
 from pathlib import Path
 
@@ -106,11 +107,14 @@ class Looks(Commands):
 
         Shows N bytes of the memory, or 16. An address is a number, a name, a register, or a sum: x BALL 2, x I+2.
         """
-        words = self.words_of(text, 2, "x ADDRESS [N]")
+        # GDB has the count in front: x/16 ADDRESS
+        in_front = re.fullmatch(r"/(\d+)[a-z]*\s+(.*)", text)
+        words = self.words_of(f"{in_front[2]} {in_front[1]}" if in_front else text, 2, "x ADDRESS [N]")
         if not words:
             raise Mistake("x takes an address: x #300 16, x BALL 2, x I")
-        count = self.game.values().number(words[1]) if len(words) > 1 else views.BYTES_OF_ROW
-        self._show_memory(self.game.values().address(words[0]), count)
+        address = self.game.values().address(words[0])
+        count = self.game.values().number(words[1]) if len(words) > 1 else min(views.BYTES_OF_ROW, 4096 - address)
+        self._show_memory(address, count)
 
     def _show_memory(self, address: int, count: int) -> None:
         content = bytes.fromhex(self.game.bench.ask(f"mem {self.game.step} {address} {count}"))

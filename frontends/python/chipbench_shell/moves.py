@@ -241,15 +241,20 @@ class Moves(Commands):
             self.game.breakpoints.clear()
             self.say("no breakpoints")
             return
-        address, _ = self.game.place(text)
-        left = [point for point in self.game.breakpoints if self._address_of(point) != address]
+        left = [point for point in self.game.breakpoints if text not in (point.place, str(point))]
+        if len(left) == len(self.game.breakpoints):
+            address, _ = self.game.place(text)
+            left = [point for point in left if self._address_of(point) != address]
         if len(left) == len(self.game.breakpoints):
             raise Mistake(f"there is no breakpoint at {text}")
         self.game.breakpoints = left
         self.say(f"no breakpoint at {text} any more")
 
     def _address_of(self, point: Breakpoint) -> int:
-        return self.game.place(str(point.line) if point.line is not None else point.place)[0]
+        try:
+            return self.game.place(str(point.line) if point.line is not None else point.place)[0]
+        except Mistake as mistake:
+            raise Mistake(f"breakpoint {point}: {mistake}; clear {point.place} removes it") from None
 
     def _breakpoint_test(self) -> Test:
         tests = []

@@ -107,7 +107,9 @@ class Shell(Moves, Looks, Edits, SessionWords, cmd.Cmd):
         with self._completing(), self._hung_up():
             try:
                 while not self.is_ended:
-                    self._read_one()
+                    # Ctrl+C between two commands stops nothing
+                    with contextlib.suppress(KeyboardInterrupt):
+                        self._read_one()
                     if self.has_failed and self.is_strict:
                         return 1
             except (OutputGone, OSError):
@@ -123,12 +125,17 @@ class Shell(Moves, Looks, Edits, SessionWords, cmd.Cmd):
         except EOFError:
             if self.console.is_terminal:
                 self.say("")
-            self._end()
-            return
+            line = "quit"
         except KeyboardInterrupt:
+            self._check_is_typed()
             self.say("")
             return
         self.onecmd(line)
+
+    def _check_is_typed(self) -> None:
+        """Ctrl+C ends a shell whose commands aren't typed."""
+        if not self.console.is_terminal:
+            raise SystemExit(128 + signal.SIGINT)
 
     def onecmd(self, line: str) -> bool:
         """Carries out one line. What is refused is told, and changes nothing."""
@@ -137,6 +144,7 @@ class Shell(Moves, Looks, Edits, SessionWords, cmd.Cmd):
             self._follow_file()
             self._carry_out(line)
         except KeyboardInterrupt:
+            self._check_is_typed()
             self.game.step, self.game.breakpoints = step, breakpoints
             self._fail(f"stopped; still at step {step}")
         except Refused as refused:
@@ -177,7 +185,7 @@ class Shell(Moves, Looks, Edits, SessionWords, cmd.Cmd):
 
     @staticmethod
     def _split(line: str) -> tuple[str, str]:
-        """The first word of a line, and what is behind the blanks after it. x/16 is x, and a count behind a slash is GDB's."""
+        """The first word of a line, and what is behind the blanks after it. A slash ends the word, as in GDB's x/16."""
         found = re.match(r"\s*(\?|[#A-Za-z][\w-]*|\S+)(.*)", line, re.DOTALL)
         assert found is not None
         return found[1].lower(), found[2].lstrip()

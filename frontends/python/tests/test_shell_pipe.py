@@ -179,6 +179,12 @@ class Pipes(AtPipe):
         done = subprocess.run(["bash", "-c", f"{command}; echo ${{PIPESTATUS[1]}}"], capture_output=True, text=True)
         self.assertEqual((done.stdout, done.stderr), ("the source: 0 lines, no faults\n3\n", ""))
 
+    def test_bytes_that_are_not_utf_8(self) -> None:
+        command = [sys.executable, "-B", str(PYTHON / "chipbench_shell"), "--program", self.program, "game.asm"]
+        done = subprocess.run(command, input=b"edit 1 ; \xff\nlist 1\nsave\n", capture_output=True, cwd=self.folder)
+        self.assertEqual((done.returncode, done.stderr), (0, b""))
+        self.assertEqual(Path(self.folder, "game.asm").read_bytes().split(b"\n")[0], b"; \xff")
+
     def test_nothing_is_written_beside(self) -> None:
         self.shell("delete 1\n", "game.asm")
         self.assertEqual([path.name for path in self.folder.iterdir()], ["game.asm"])
