@@ -33,7 +33,8 @@ def parser() -> argparse.ArgumentParser:
         allow_abbrev=False,
     )
     words.add_argument("source", nargs="?", metavar="SOURCE", help="the source; a file that isn't there is made by save")
-    words.add_argument("--image", metavar="FILE", help="open the source that `chipbench dis` prints of an image, in place of SOURCE")
+    of_image = "open the source that `chipbench dis` prints of an image, in place of SOURCE"
+    words.add_argument("--image", metavar="FILE", help=of_image)
     words.add_argument("--keys", metavar="FILE", help="add the key events of FILE")
     words.add_argument("--strict", action="store_true", help="end with status 1 at the first command that is refused")
     words.add_argument("--echo", action="store_true", help="print each command before its answer, where it isn't typed")

@@ -12,6 +12,9 @@ from .game import Breakpoint
 from .search import COLUMNS, LAST_STEP, Found, Search, Test, depth_of, may_write
 from .values import Condition, Mistake, Subject
 
+# how many writes without a change are looked at before the shell says at which step it is
+TOLD_STEPS = 1000
+
 
 def register_test(condition: Condition) -> Test:
     """Whether a comparison of a register holds at a line of a trace."""
@@ -141,7 +144,8 @@ class Moves(Commands):
         """Goes behind the first step that writes a byte so that a test of its value holds which didn't hold before."""
         step = self.game.step
         for step, line in self.search().lines(self.game.step):
-            if not may_write(line, subject.address):
+            # the last line of a trace is of a step that isn't made
+            if step == LAST_STEP or not may_write(line, subject.address):
                 continue
             value = self.game.bench.ask(f"mem {step + 1} {subject.address} 1")
             before, is_now = is_now, holds(int(value, 16))
@@ -200,7 +204,9 @@ class Moves(Commands):
             column, shown = COLUMNS[subject.register], b"%0*x" % (subject.digits, value)
             return self.search().last(lambda line: line[column] != shown, now)
         steps = [step for step, _ in self.search().writes(subject.address, 0, now) if step < now]
-        for step in reversed(steps):
+        for number, step in enumerate(reversed(steps), 1):
+            if number % TOLD_STEPS == 0:
+                self.console.report(step)
             first, second = (self.game.bench.ask(f"mem {at} {subject.address} 1") for at in (step, step + 1))
             if first != second:
                 return step

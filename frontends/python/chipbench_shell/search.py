@@ -39,7 +39,7 @@ Report = Callable[[int], None]
 
 @dataclass(frozen=True)
 class Found:
-    """What a search has found: a step, or None. `last` is the step that was looked at last, and there the machine may have stopped."""
+    """What a search has found: a step, or None. `last` is the step that was looked at last; there the machine may have stopped."""
 
     step: int | None
     last: int

@@ -38,17 +38,13 @@ COMMANDS = tuple(" ".join(GROUPS.values()).split())
 PREFERRED = {
     "s": "step", "b": "break", "ba": "back", "bac": "back", "n": "next", "c": "continue", "l": "list", "f": "finish", "u": "until",
     "p": "print", "r": "run", "h": "help", "d": "delete", "w": "watch", "e": "edit", "i": "insert", "q": "quit", "k": "keys",
-    "bt": "backtrace", "where": "backtrace", "rc": "reverse", "disassemble": "dis", "exit": "quit",
+    "bt": "backtrace", "where": "backtrace", "rc": "reverse", "disassemble": "dis", "exit": "quit", "?": "help",
 }
 REPEATED = {"step", "back", "next", "finish", "until", "continue", "reverse", "watch", "who"}
 # commands behind which a name of the source may stand
 WITH_NAMES = {"until", "break", "clear", "list", "x", "dis", "print", "edit", "insert", "delete", "goto", "watch", "who"}
 PROMPT = "> "
 FORM_WIDTH = 36
-
-
-class Unknown(Mistake):
-    """A word that is no command."""
 
 
 def form_of(command: Callable[..., None]) -> tuple[str, str]:
@@ -58,27 +54,26 @@ def form_of(command: Callable[..., None]) -> tuple[str, str]:
 
 
 def command_named(word: str) -> str:
-    """The command that a word begins.
+    """The command that a word begins, in letters of either case.
 
-    >>> command_named("ste"), command_named("s"), command_named("regs")
+    >>> command_named("ste"), command_named("S"), command_named("regs")
     ('step', 'step', 'regs')
     """
-    if word in COMMANDS:
-        return word
-    if word in PREFERRED:
-        return PREFERRED[word]
-    found = [name for name in COMMANDS if name.startswith(word)]
+    small = word.lower()
+    if small in COMMANDS:
+        return small
+    if small in PREFERRED:
+        return PREFERRED[small]
+    found = [name for name in COMMANDS if name.startswith(small)]
     if len(found) == 1:
         return found[0]
     if found:
-        raise Unknown(f"'{word}' begins several commands: {', '.join(found)}")
-    raise Unknown(f"no command '{word}'{near(word, [*COMMANDS, *SESSION_WORDS])}; help lists the commands")
+        raise Mistake(f"'{word}' begins several commands: {', '.join(found)}")
+    raise Mistake(f"no command '{word}'{near(small, [*COMMANDS, *SESSION_WORDS])}; help lists the commands")
 
 
 class Shell(Moves, Looks, Edits, SessionWords, cmd.Cmd):
     """The commands over one game, and the loop that reads them."""
-
-    identchars = cmd.Cmd.identchars + "?"
 
     def __init__(self, game: Game, console: Console, is_strict: bool = False) -> None:
         super().__init__(completekey="tab")
@@ -104,7 +99,7 @@ class Shell(Moves, Looks, Edits, SessionWords, cmd.Cmd):
         """Reads commands up to the end, and returns the status."""
         history = History(self.console)
         history.load()
-        with self._completing(), self._hung_up():
+        with self._completing(), self._signals_taken():
             try:
                 while not self.is_ended:
                     # Ctrl+C between two commands stops nothing
@@ -188,7 +183,7 @@ class Shell(Moves, Looks, Edits, SessionWords, cmd.Cmd):
         """The first word of a line, and what is behind the blanks after it. A slash ends the word, as in GDB's x/16."""
         found = re.match(r"\s*(\?|[#A-Za-z][\w-]*|\S+)(.*)", line, re.DOTALL)
         assert found is not None
-        return found[1].lower(), found[2].lstrip()
+        return found[1], found[2].lstrip()
 
     def _repeat(self) -> None:
         """What an empty line does at a terminal: the last step again, or what comes after what was shown."""
@@ -298,14 +293,18 @@ class Shell(Moves, Looks, Edits, SessionWords, cmd.Cmd):
                 self.keep_edits()
 
     @contextlib.contextmanager
-    def _hung_up(self) -> Iterator[None]:
-        """Where the terminal goes away, or the shell is ended from outside, edits that weren't saved are kept."""
+    def _signals_taken(self) -> Iterator[None]:
+        """Takes the signals of the terminal. Where it goes away, or the shell is ended from outside, edits that weren't saved are
+        kept."""
 
         def end(number: int, _: object) -> None:
             self._keep_quietly()
             raise SystemExit(128 + number)
 
         before = {number: signal.signal(number, end) for number in (signal.SIGHUP, signal.SIGTERM)}
+        if self.console.is_terminal:
+            # what started the shell may ignore Ctrl+C, and who types it means the shell
+            before[signal.SIGINT] = signal.signal(signal.SIGINT, signal.default_int_handler)
         try:
             yield
         finally:
@@ -329,7 +328,7 @@ class Shell(Moves, Looks, Edits, SessionWords, cmd.Cmd):
             readline.set_completer(before)
 
     def completenames(self, text: str, *_: object) -> list[str]:
-        return sorted({*COMMANDS, *SESSION_WORDS} & {name for name in (*COMMANDS, *SESSION_WORDS) if name.startswith(text)})
+        return sorted(name for name in {*COMMANDS, *SESSION_WORDS} if name.startswith(text))
 
     def complete(self, text: str, state: int) -> str | None:
         """The completions of what is typed, one after another, as readline asks for them."""

@@ -18,7 +18,7 @@ from pathlib import Path
 
 from programs import PYTHON
 
-SECONDS = 20.0
+SECONDS = 60.0
 PROMPT = "> "
 #: Sequences of a terminal that move the cursor, paint, or switch a mode.
 SEQUENCE = re.compile(r"\x1b\[[0-9;?]*[A-Za-z]|\x1b[=>]|\x07")
@@ -59,7 +59,7 @@ class Terminal:
             cwd=place or folder,
             env={**kept, "LC_ALL": "C.UTF-8", **given, **environment},
             start_new_session=True,
-            preexec_fn=lambda: fcntl.ioctl(0, termios.TIOCSCTTY, 0),
+            preexec_fn=begin_session,
         )
         os.close(slave)
         self.raw = ""
@@ -89,10 +89,10 @@ class Terminal:
     def interrupt(self, end: str = "\n" + PROMPT) -> str:
         """Types Ctrl+C, and returns what is printed up to a text. A signal in the moment before Python waits for a key is seen only
         with the next one, so it is typed again after a while."""
-        for _ in range(int(SECONDS)):
+        for _ in range(20):
             self.send("\x03")
             with contextlib.suppress(AssertionError):
-                return self.read_until(end, 1.0)
+                return self.read_until(end, 2.0)
         raise AssertionError("Ctrl+C has no effect")
 
     def ask(self, line: str, end: str = PROMPT) -> str:
@@ -131,6 +131,12 @@ class Terminal:
             self._process.wait()
             os.close(self._master)
             self._master = -1
+
+
+def begin_session() -> None:
+    """Makes the terminal that of the session, in which Ctrl+C is ignored, as by the children of some shells."""
+    signal.signal(signal.SIGINT, signal.SIG_IGN)
+    fcntl.ioctl(0, termios.TIOCSCTTY, 0)
 
 
 def plain(text: str) -> str:

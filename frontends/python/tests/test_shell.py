@@ -9,7 +9,7 @@ from pathlib import Path
 
 sys.path.insert(0, str(Path(__file__).resolve().parent))
 
-from at_terminal import COUNTER, DOT, AtTerminal  # noqa: E402
+from at_terminal import COUNTER, DOT, WRITER, AtTerminal  # noqa: E402
 from programs import TOP  # noqa: E402
 from terminal import Terminal  # noqa: E402
 
@@ -498,6 +498,12 @@ class Refusals(AtTerminal):
             ("watch [BUF+1]", f"[BUF+1] doesn't change: {stopped}"),
             ("regs", terminal.ask("regs")),
         )
+
+    def test_no_step_past_the_last_is_asked_for(self) -> None:
+        terminal = self.opened("        LD V1, 0\n" + WRITER)
+        # each even step writes, and step 1000000 isn't made
+        terminal.ask("goto 999990")
+        self.answers(terminal, ("watch [BUF]", "[BUF] doesn't change up to step 1000000; still at step 999990"))
 
     def test_where_nothing_stops(self) -> None:
         terminal = self.opened(DOT)
