@@ -44,7 +44,7 @@ REPEATED = {"step", "back", "next", "finish", "until", "continue", "reverse", "w
 # commands behind which a name of the source may stand
 WITH_NAMES = {"until", "break", "clear", "list", "x", "dis", "print", "edit", "insert", "delete", "goto", "watch", "who"}
 PROMPT = "> "
-FORM_WIDTH = 36
+FORM_WIDTH = 26
 
 
 def form_of(command: Callable[..., None]) -> tuple[str, str]:
@@ -93,7 +93,7 @@ class Shell(Moves, Looks, Edits, SessionWords, cmd.Cmd):
         kind = "; a new file, made by save" if self.game.is_new else ""
         lines = counted(len(self.game.bench.lines), "line")
         state = counted(len(faults), "fault") + ": check shows them" if faults else "no faults"
-        return f"{self.game.name}: {lines}, {state}{kind}"
+        return f"{self.game.name}: {lines}, {state}{kind}; help lists the commands"
 
     def run(self) -> int:
         """Reads commands up to the end, and returns the status."""
@@ -242,15 +242,21 @@ class Shell(Moves, Looks, Edits, SessionWords, cmd.Cmd):
         return textwrap.wrap(text, max(self.console.width, 20))
 
     def _list_commands(self) -> None:
-        width = self.console.width
         for group, names in GROUPS.items():
             self.say(self.console.paint("strong", group))
             for name in names.split():
-                form, about = form_of(getattr(self, f"do_{name}"))
-                first = about.split(". ")[0].rstrip(".")
-                shown = f"  {form:<{FORM_WIDTH}} {first}"
-                self.say(shown if len(shown) <= width else f"  {form}")
+                self.say(*self._row_of(*form_of(getattr(self, f"do_{name}"))))
         self.say(*self._filled("A command is known by its beginning. help COMMAND says more."))
+
+    def _row_of(self, form: str, about: str) -> list[str]:
+        """A command and the first sentence on it, side by side; in a narrow window the form alone."""
+        width = self.console.width
+        if width < 2 * FORM_WIDTH:
+            return [f"  {form}"]
+        lines = textwrap.wrap(about.split(". ")[0].rstrip("."), width - FORM_WIDTH)
+        if len(form) + 3 > FORM_WIDTH:
+            lines.insert(0, "")
+        return [f"{f'  {form}' if place == 0 else '':<{FORM_WIDTH}}{line}".rstrip() for place, line in enumerate(lines)]
 
     def do_quit(self, text: str) -> None:
         """quit

@@ -19,7 +19,7 @@ STOPPED = "step 32, 020a: the machine has stopped for S1: the program ended"
 class Moves(AtTerminal):
     def test_banner(self) -> None:
         self.opened()
-        self.assertEqual(self.banner, "game.asm: 12 lines, no faults\n> ")
+        self.assertEqual(self.banner, "game.asm: 12 lines, no faults; help lists the commands\n> ")
 
     def test_step(self) -> None:
         self.answers(
@@ -277,7 +277,7 @@ class Looks(AtTerminal):
 
     def test_check(self) -> None:
         terminal = self.opened(COUNTER.replace("RET", "REM"), NO_COLOR="1")
-        self.assertEqual(self.banner, "game.asm: 12 lines, 1 fault: check shows them\n> ")
+        self.assertEqual(self.banner, "game.asm: 12 lines, 1 fault: check shows them; help lists the commands\n> ")
         self.assertIn("game.asm:11:9: F3: unknown word", terminal.ask("check"))
         terminal.ask("edit 11         RET")
         self.answers(terminal, ("check", "no faults and no warnings"))
@@ -407,7 +407,7 @@ class Edits(AtTerminal):
 
     def test_a_file_that_is_not_there_is_made_by_save(self) -> None:
         terminal = self.opened("")
-        self.assertEqual(self.banner, "game.asm: 0 lines, no faults; a new file, made by save\n> ")
+        self.assertEqual(self.banner, "game.asm: 0 lines, no faults; a new file, made by save; help lists the commands\n> ")
         terminal.ask("insert 1 CLS")
         self.answers(terminal, ("save", "game.asm: 1 line written"))
         self.assertEqual(self.file.read_text(), "CLS\n")
@@ -426,7 +426,7 @@ class Edits(AtTerminal):
         Path(self.folder, "game.ch8").write_bytes(bytes.fromhex("00e01200"))
         terminal = Terminal(["--image", "game.ch8", "--program", self.program], self.folder)
         self.addCleanup(terminal.close)
-        self.assertEqual(terminal.read_until("> "), "the source: 2 lines, no faults\n> ")
+        self.assertEqual(terminal.read_until("> "), "the source: 2 lines, no faults; help lists the commands\n> ")
         self.answers(
             terminal,
             ("dis #200 2", "=> 0200 00e0  CLS\n   0202 1200  JP #200"),

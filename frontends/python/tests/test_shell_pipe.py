@@ -102,7 +102,7 @@ class Pipes(AtPipe):
         self.assertEqual(
             output.splitlines(),
             [
-                "game.asm: 3 lines, no faults",
+                "game.asm: 3 lines, no faults; help lists the commands",
                 "V0 00 -> 05",
                 "step 1, 0202, line 2: LOOP:   ADD V0, 1",
                 "V0 = 5 = #05 = $00000101",
@@ -177,7 +177,7 @@ class Pipes(AtPipe):
     def test_who_reads_the_output_goes_away(self) -> None:
         command = f"yes regs | {sys.executable} -B {PYTHON / 'chipbench_shell'} --program {self.program} | head -n 1"
         done = subprocess.run(["bash", "-c", f"{command}; echo ${{PIPESTATUS[1]}}"], capture_output=True, text=True)
-        self.assertEqual((done.stdout, done.stderr), ("the source: 0 lines, no faults\n3\n", ""))
+        self.assertEqual((done.stdout, done.stderr), ("the source: 0 lines, no faults; help lists the commands\n3\n", ""))
 
     def test_bytes_that_are_not_utf_8(self) -> None:
         command = [sys.executable, "-B", str(PYTHON / "chipbench_shell"), "--program", self.program, "game.asm"]
