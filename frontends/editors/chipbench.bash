@@ -12,7 +12,7 @@ _chipbench() {
         explain) COMPREPLY=($(compgen -W "$(chipbench explain 2>/dev/null | cut -d ' ' -f 1)" -- "$word")); return ;;
     esac
     case ${COMP_WORDS[1]} in
-        debug) options="--rate --tape --seed --profile --every --image --help" ;;
+        debug) options="--rate --tape --seed --profile --every --image --quiet --help" ;;
         asm) options=" --help" ;;
         list) options="--hex --help" ;;
         syms) options="--hex --help" ;;

@@ -1,4 +1,4 @@
-"""The pages of `explain`: each example that can be written out has its code."""
+"""The pages of `explain`: each example that can be written out has its code, or its answer."""
 import pathlib
 import re
 import tempfile
@@ -8,12 +8,13 @@ CODES = [
     for letter, last in (("F", 17), ("W", 8), ("N", 10), ("Q", 4), ("C", 2), ("E", 4), ("O", 3), ("S", 7))
     for number in range(1, last + 1)
 ]
+WORDS = ["ins", "rep", "del", "kins", "krep", "kdel", "image", "syms", "list", "faults", "regs", "mem", "screen", "dis"]
 # The codes whose example is too large to write out, or depends on the system.
 TOLD = {"N2", "N3", "N4", "N9", "N10", "Q4", "C2", "E1", "E2", "E3", "E4", "O1", "O2", "O3"}
 
 
 def examples(page):
-    """The indented blocks of a page: a source, and maybe a script."""
+    """The indented blocks of a page: a source, and maybe a script and its answer."""
     blocks = [[]]
     for line in page.splitlines():
         if line.startswith("    "):
@@ -65,10 +66,22 @@ def wrong_contents(program):
     """What is wrong with the list of the codes."""
     lines = program.run(["explain"]).stdout.decode().splitlines()
     found = [line.split(" ")[0] for line in lines]
-    return "" if sorted(found) == sorted(CODES) else f"the codes are {found}"
+    return "" if sorted(found) == sorted(CODES + WORDS) else f"the codes are {found}"
+
+
+def wrong_word(program, word):
+    """What is wrong with the page on a word that begins a command."""
+    page = program.run(["explain", word.upper()]).stdout.decode()
+    source, script, answer = examples(page)
+    if not page.startswith(f"{word}: `{word}") or word not in script:
+        return page
+    found = answers(program, source, script)
+    return "" if found == answer else f"{page}\nand it answers\n{found}"
 
 
 def checks(program):
     yield "the codes", lambda: wrong_contents(program)
     for code in CODES:
         yield code, lambda code=code: wrong_page(program, code)
+    for word in WORDS:
+        yield word, lambda word=word: wrong_word(program, word)

@@ -107,7 +107,7 @@ asked_by : (arguments : List (List ℕ)) (command : Option (List ℕ × List Row
 unfolding AsksFor
 asked_by arguments command line named asks = subst (λ (c : Option (List ℕ × List Row)). AsksBy c line) (sym named) asks
 
-pub asked_none : (arguments : List (List ℕ)) → subcommand_of chipbench arguments ≡ None → AsksFor arguments (line.Debug None false default_arguments)
+pub asked_none : (arguments : List (List ℕ)) → subcommand_of chipbench arguments ≡ None → AsksFor arguments (line.Debug None false false default_arguments)
 asked_none arguments named = asked_by arguments None _ named refl
 
 pub asked_for : {E : Type 0} (arguments : List (List ℕ)) (name : List ℕ) (rows : List Row) (result : Result CommandLine E) →

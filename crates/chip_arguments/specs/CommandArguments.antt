@@ -219,15 +219,16 @@ Asks name rows (line.Test arguments) = (name ≡ codes "test") × AsksTest rows 
 Asks name rows (line.Explore arguments) = (name ≡ codes "explore") × AsksExplore rows arguments
 Asks name rows (line.Explain code) =
     (name ≡ codes "explain") × (option_copied code ≡ first_of (codes "code") rows)
-Asks name rows (line.Debug source is_image settings) =
+Asks name rows (line.Debug source is_image is_quiet settings) =
     (name ≡ codes "debug")
     × (option_copied source ≡ first_of (codes "source") rows)
-    × AsksFlag (one_of (codes "image") rows) is_image × AsksSettings rows settings
+    × AsksFlag (one_of (codes "image") rows) is_image
+    × AsksFlag (one_of (codes "quiet") rows) is_quiet × AsksSettings rows settings
 
 -- what the arguments ask for, by the command that they name; without one, a session on the empty
 -- source
 abbrev pub AsksBy : Option (List ℕ × List Row) → CommandLine → Type 0
-AsksBy None asked = asked ≡ line.Debug None false default_arguments
+AsksBy None asked = asked ≡ line.Debug None false false default_arguments
 AsksBy (Some command) asked = Asks command.0 command.1 asked
 
 unfoldable pub AsksFor : List (List ℕ) → CommandLine → Type 0

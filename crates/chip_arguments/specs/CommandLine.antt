@@ -69,8 +69,14 @@ as_image = record (new_rule (codes "image")) { long = Some (codes "image"); acti
 unfoldable pub with_settings : App → App
 with_settings app = with_rule (with_rule (with_rule (with_rule app rate) tape) seed) profile
 
+-- nothing is said at a terminal beside the answers
+unfoldable pub quiet : Rule
+quiet = record (new_rule (codes "quiet")) { long = Some (codes "quiet"); action = Some SetTrue }
+
 unfoldable pub debug : App
-debug = with_rule (with_rule (with_settings (with_rule (new_app (codes "debug")) source)) every) as_image
+debug =
+    with_rule (with_rule (with_rule (with_settings (with_rule (new_app (codes "debug")) source)) every) as_image)
+    quiet
 
 unfoldable pub asm : App
 asm = with_rule (with_rule (new_app (codes "asm")) needed_source) output

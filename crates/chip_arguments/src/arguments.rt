@@ -61,6 +61,7 @@ pub(crate) enum Argument {
     CheckCover,
     Progress,
     Hex,
+    Quiet,
 }
 
 impl Argument {
@@ -107,6 +108,7 @@ impl Argument {
             Argument::CheckCover => check_cover_argument(alloc),
             Argument::Progress => progress_argument(alloc),
             Argument::Hex => hex_argument(alloc),
+            Argument::Quiet => quiet_argument(alloc),
         }
     }
 }
@@ -255,7 +257,7 @@ fn code_argument<'a>(alloc: Global) -> Arg<'a>
         alloc,
         "code",
         "CODE",
-        "F1 to F17, W1 to W8, N1 to N10, Q1 to Q4, C1, C2, E1 to E4, O1 to O3 or S1 to S7 [default: all, a line each]",
+        "F1 to F17, W1 to W8, N1 to N10, Q1 to Q4, C1, C2, E1 to E4, O1 to O3, S1 to S7, or a command of `debug` such as regs [default: all, a line each]",
     )
 }
 
@@ -547,6 +549,18 @@ fn hex_argument<'a>(alloc: Global) -> Arg<'a>
         alloc,
         "hex",
         "Prints the values of names in hexadecimal, as a source writes them",
+    )
+}
+
+#[tactic(auto, unfolding(crate::specs::CommandLine::quiet))]
+fn quiet_argument<'a>(alloc: Global) -> Arg<'a>
+    ensures rule { rule_of result ≡ line.quiet }
+    ensures local { result.global ≡ false }
+{
+    flag(
+        alloc,
+        "quiet",
+        "Says nothing on standard error at a terminal: no prompt, and no sentence for a refusal",
     )
 }
 

@@ -46,6 +46,8 @@ pub enum CommandLine<'a> {
         source: Option<&'a str>,
         /// Whether the source is given as an image.
         is_image: bool,
+        /// Whether nothing is said at a terminal beside the answers.
+        is_quiet: bool,
         settings: SettingArguments<'a>,
     },
     /// To write the image of a source to a file.
@@ -228,12 +230,13 @@ pub fn parse_arguments<'a, S: AsStr>(
 ) -> Result<CommandLine<'a>, Error>
     ensures fault { FailsBy (argument_faults (map S.text arguments.entry.now)) result }
     ensures asked { IfOk result (AsksFor (map S.text arguments.entry.now)) }
-    ensures none { arguments.entry.now ≡ [] → result ≡ Ok (CommandLine.Debug None false default_arguments) }
+    ensures none { arguments.entry.now ≡ [] → result ≡ Ok (CommandLine.Debug None false false default_arguments) }
 {
     let Some(first) = arguments.first() else {
         return Ok(CommandLine::Debug {
             source: None,
             is_image: false,
+            is_quiet: false,
             settings: SettingArguments::DEFAULT,
         });
     };
@@ -243,6 +246,7 @@ pub fn parse_arguments<'a, S: AsStr>(
         None => Ok(CommandLine::Debug {
             source: None,
             is_image: false,
+            is_quiet: false,
             settings: SettingArguments::DEFAULT,
         }),
     }
@@ -287,6 +291,7 @@ fn command_asked<'a>(
         _ => CommandLine::Debug {
             source: found.get_str("source"),
             is_image: found.get_flag("image"),
+            is_quiet: found.get_flag("quiet"),
             settings: setting_arguments(found, profile),
         },
     })

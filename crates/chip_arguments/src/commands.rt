@@ -34,7 +34,8 @@ Commands, with an example each; N is a line's number, S a step, K a key, A an ad
   screen S      the lit rows of the screen         screen 100
   dis S A N     N words of the memory from A       dis 100 #200 8
 Numbers are decimal, or hexadecimal after `#`. An answer is `ok`, `no CODE`, or lines.
-`chipbench explain CODE` says what a code means. All commands and answers: docs/FORMATS.md;
+`chipbench explain CODE` says what a code means, `chipbench explain regs` what a command does.
+At a terminal, standard error says why a command is refused. All commands: docs/FORMATS.md;
 the language of sources: docs/LANGUAGE.md; the machine: docs/MACHINE.md; a guide: docs/GUIDE.md.
 
 Example: chipbench debug game.asm --rate 15 --seed 7";
@@ -103,6 +104,7 @@ const COMMANDS: [CommandRow; 12] = [
             Argument::Profile,
             Argument::Every,
             Argument::AsImage,
+            Argument::Quiet,
         ],
     },
     CommandRow {
@@ -224,7 +226,7 @@ const COMMANDS: [CommandRow; 12] = [
     },
     CommandRow {
         name: "explain",
-        about: "Prints what a code means, an example that has it, and the fix",
+        about: "Prints what a code or a command of `debug` means, with an example",
         notes: "Example: chipbench explain F9",
         arguments: &[Argument::Code],
     },

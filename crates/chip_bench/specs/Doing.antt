@@ -498,7 +498,7 @@ module _ {R W : Type 0} (remaining : R → Option (List ℕ)) (contents : W → 
 
   -- what the program did for what it was asked; its output takes colours, or it doesn't
   abbrev pub Does : (takes_color : Bool) → CommandLine → Outcome → Type 0
-  Does takes_color (line.Debug source is_image arguments) ended = Debugs source is_image arguments ended
+  Does takes_color (line.Debug source is_image is_quiet arguments) ended = Debugs source is_image arguments ended
   Does takes_color (line.Asm source image) ended = Assembles source image ended
   Does takes_color (line.List source is_hex) ended = Tells (printed_listing is_hex) source ended
   Does takes_color (line.Syms source is_hex) ended = Tells (printed_symbols is_hex) source ended

@@ -19,14 +19,15 @@ use crate::exploring::explore;
 use crate::file_access::FileAccess;
 use crate::limits::TRACE_FILE_BYTES;
 use crate::output::{
-    answer_script, explain, image_or_faults, list_source, print, print_source, print_symbols,
-    print_version, run_source,
+    explain, image_or_faults, list_source, print, print_source, print_symbols, print_version,
+    run_source,
 };
 use crate::picturing::picture;
 use crate::reading::{
     Asked, MOST_SOURCE, as_source, file_name, read_asked, read_bounded, read_file, read_source,
     settings_of,
 };
+use crate::terminal::{Begun, answer_begun};
 use crate::testing::test_files;
 use crate::tracing::{Shown, compare_source, trace_source};
 use chip_arguments::{
@@ -52,6 +53,15 @@ pub struct Host {
     pub takes_color: bool,
     /// Whether somebody reads what is said on standard error while it is said, as at a terminal.
     pub has_reader: bool,
+    /// Whether somebody types the input, as at a terminal.
+    pub is_typed: bool,
+}
+
+impl Host {
+    // Whether somebody types the script, reads what is said of it, and wants that.
+    fn has_typist(self, is_quiet: bool) -> bool {
+        self.is_typed && self.has_reader && !is_quiet
+    }
 }
 
 /// The program, with the arguments after its name. The answer is its status: 0 where it did what it
@@ -184,22 +194,16 @@ fn perform<'a, F: FileAccess, I: Read, O: Write, E: Write>(
         CommandLine::Debug {
             source,
             is_image,
+            is_quiet,
             settings,
         } => {
             let given = Given {
                 source: *source,
                 is_image: *is_image,
+                is_typed: host.has_typist(*is_quiet),
+                name_seed: host.name_seed,
             };
-            debug(
-                alloc,
-                files,
-                host.name_seed,
-                given,
-                settings,
-                input,
-                output,
-                errors,
-            )
+            debug(alloc, files, given, settings, input, output, errors)
         }
         CommandLine::Asm { source, image } => asm(alloc, files, *source, *image, input, output),
         CommandLine::List { source, is_hex } => {
@@ -256,13 +260,14 @@ fn show_help<'a, O: Write>(
 struct Given<'a> {
     source: Option<&'a str>,
     is_image: bool,
+    is_typed: bool,
+    name_seed: u64,
 }
 
 // The settings are judged before SOURCE is read.
 fn debug<'a, F: FileAccess, I: Read, O: Write, E: Write>(
     alloc: Global,
     files: &F,
-    name_seed: u64,
     given: Given<'a>,
     arguments: &SettingArguments<'_>,
     input: &mut Counted<I>,
@@ -273,14 +278,23 @@ fn debug<'a, F: FileAccess, I: Read, O: Write, E: Write>(
         given.entry.source given.entry.is_image arguments.now result }
 {
     let settings = settings_of(alloc, arguments)?;
-    let seeded = settings.with_name_seed(name_seed);
+    let seeded = settings.with_name_seed(given.name_seed);
+    let empty = Begun {
+        source: b"",
+        name: given.source,
+        is_typed: given.is_typed,
+    };
     match given.source {
         Some(name) => {
             let bytes = read_file(alloc, files, name, MOST_SOURCE)?;
             let source = as_source(alloc, name, given.is_image, bytes, errors)?;
-            answer_script(alloc, &source, seeded, input, output)
+            let begun = Begun {
+                source: &source,
+                ..empty
+            };
+            answer_begun(alloc, begun, seeded, input, output, errors)
         }
-        None => answer_script(alloc, b"", seeded, input, output),
+        None => answer_begun(alloc, empty, seeded, input, output, errors),
     }
 }
 

@@ -18,6 +18,7 @@ mod picturing;
 mod progress;
 mod reading;
 mod sets;
+mod terminal;
 mod testing;
 mod tracing;
 

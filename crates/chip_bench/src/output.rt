@@ -17,8 +17,8 @@ use chip_asm::{OpenError, Source};
 use chip_machine::limits::IMAGE_BYTES;
 use chip_pages::{contents, page_text};
 use chip_session::{
-    Bench, Counted, KeyFileError, PictureForm, Question, Refusal, ServeError, Settings,
-    faults_answer, insert_keys, listing_answer, refuse, serve, symbols_answer, write_all,
+    Bench, Counted, KeyFileError, Observer, PictureForm, Question, Refusal, ServeError, Settings,
+    faults_answer, insert_keys, listing_answer, refuse, serve_observed, symbols_answer, write_all,
 };
 use chip_views::{hex_listing, hex_symbols, source_of_image};
 use std::alloc::{AllocError, Global};
@@ -26,17 +26,18 @@ use std::io::{Read, Write};
 use std::mem;
 
 /// `debug`: a session on standard input and output.
-pub(crate) fn answer_script<'a, I: Read, O: Write>(
+pub(crate) fn answer_script<'a, I: Read, O: Write, T: Observer>(
     alloc: Global,
     source: &[u8],
     settings: Settings,
     input: &mut Counted<I>,
     output: &mut Counted<O>,
+    observer: &mut T,
 ) -> Result<Ending, Failure<'a>>
     ensures { AnswersScript I.remaining O.contents settings source.now input.old input.new
         output.old output.new result }
 {
-    match serve(alloc, source, settings, input, output) {
+    match serve_observed(alloc, source, settings, input, output, observer) {
         Ok(()) => Ok(Ending::Done),
         Err(ServeError::Source(error)) => refuse_source(error, output),
         Err(ServeError::ReaderFailed) => Err(Failure::Input),

@@ -144,6 +144,7 @@ fn run(rt: &HostRuntime, words: &str, script: &[u8], plan: &Plan) -> Result<Stri
             name_seed: 0,
             takes_color: false,
             has_reader: false,
+            is_typed: false,
         },
         &list,
         &mut input,

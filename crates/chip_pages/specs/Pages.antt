@@ -1,14 +1,14 @@
 -- What `explain` prints (own).
---     page_of                    the page on a code, in either case
---     page_text, contents_text   a page as it is printed, and all codes with their titles
---     AreAllPages                pages on all codes
+--     page_of                    the page on a code or a word, in either case
+--     page_text, contents_text   a page as it is printed, and all codes and words with their titles
+--     AreAllPages                pages on all codes and words
 --     IsExplained, IsContents    the texts that are printed for a code, and without one
 use Rattle.std.specs.Prelude.{◌≡◌, ℕ, List, [], ◌∷◌, ◌++◌, codes, flat_map, map, find, Bool, Option, option_map}
 use Rattle.std.specs.Str.{str_eq_ignore_ascii_case}
 use Rattle.std.specs.Str.Lines.{lines}
 use Rattle.chip_pages.specs.declared.pages.Page.{Page}
 use Rattle.chip_pages.specs.declared.pages.Example.{Example}
-use Rattle.chip_pages.specs.declared.pages.Example.TheVariants.{Source, Script, Stop, Told}
+use Rattle.chip_pages.specs.declared.pages.Example.TheVariants.{Source, Script, Stop, Told, Answer}
 
 -- the page has that code, in upper or lower case
 abbrev pub has_code : List ℕ → Page → Bool
@@ -35,12 +35,22 @@ example_text (Script source script) =
 example_text (Stop source) =
     codes "The program of this source stops so, as `regs 100` shows:\n\n" ++ indented source.now
 example_text (Told what) = codes "An example: " ++ (what.now ++ codes "\n")
+example_text (Answer source script answer) =
+    codes "On this source:\n\n"
+    ++ (indented source.now
+    ++ (codes "\nthe answer to this:\n\n"
+    ++ (indented script.now ++ (codes "\nis this:\n\n" ++ indented answer.now))))
+
+-- what stands before the last sentence of a page with such an example
+abbrev pub last_label : Example → List ℕ
+last_label (Answer source script answer) = codes "\nSee also: "
+last_label _ = codes "\nThe fix: "
 
 unfoldable pub page_text : Page → List ℕ
 page_text page =
     page.code.now
     ++ (codes ": " ++ (page.title.now ++ (codes "\n\n" ++ (page.meaning.now ++ (codes "\n\n"
-    ++ (example_text page.example ++ (codes "\nThe fix: " ++ (page.fix.now ++ codes "\n"))))))))
+    ++ (example_text page.example ++ (last_label page.example ++ (page.fix.now ++ codes "\n"))))))))
 
 -- the line of a page among all
 abbrev pub title_line : Page → List ℕ
@@ -66,24 +76,28 @@ command_codes = codes "N1" ∷ codes "N2" ∷ codes "N3" ∷ codes "N4" ∷ code
 abbrev pub end_codes : List (List ℕ)
 end_codes = codes "E1" ∷ codes "E2" ∷ codes "E3" ∷ codes "E4" ∷ codes "O1" ∷ codes "O2" ∷ codes "O3" ∷ codes "S1" ∷ codes "S2" ∷ codes "S3" ∷ codes "S4" ∷ codes "S5" ∷ codes "S6" ∷ codes "S7" ∷ []
 
--- Pages on all codes, in the order of the documents. The pages themselves are statics, which no
+-- the words that begin the commands of a script
+abbrev pub words : List (List ℕ)
+words = codes "ins" ∷ codes "rep" ∷ codes "del" ∷ codes "kins" ∷ codes "krep" ∷ codes "kdel" ∷ codes "image" ∷ codes "syms" ∷ codes "list" ∷ codes "faults" ∷ codes "regs" ∷ codes "mem" ∷ codes "screen" ∷ codes "dis" ∷ []
+
+-- Pages on all codes and words, in the order of the documents. The pages themselves are statics, which no
 -- clause can name.
 abbrev pub AreAllPages : List Page → Type 0
-AreAllPages pages = codes_of pages ≡ line_codes ++ (command_codes ++ end_codes)
+AreAllPages pages = codes_of pages ≡ line_codes ++ (command_codes ++ (end_codes ++ words))
 
--- the page on a code, where there is one
+-- the page on a code or a word, where there is one
 pub record IsPageOn (code : List ℕ) (page : Option Page) : Type 0 where
   pub pages : List Page
   pub all : AreAllPages pages
   pub found : page ≡ page_of pages code
 
--- the text that is printed for a code: that of its page, where there is one
+-- the text that is printed for a code or a word: that of its page, where there is one
 pub record IsExplained (code : List ℕ) (text : Option (List ℕ)) : Type 0 where
   pub page : Option Page
   pub on_code : IsPageOn code page
   pub text_is : text ≡ option_map page_text page
 
--- what is printed without a code: all codes with their titles
+-- what is printed without a code: all codes and words with their titles
 pub record IsContents (text : List ℕ) : Type 0 where
   pub pages : List Page
   pub all : AreAllPages pages

@@ -1,11 +1,11 @@
-//! The pages on codes, as `explain` prints them.
-ghost use Rattle.std.specs.Prelude.{◌≡◌, ◌++◌, IfOk, OnOk, option_copied, option_map, flat_map};
-ghost use Rattle.chip_pages.specs.Pages.{IsExplained, IsContents, IsPageOn, contents_text, example_text, indented, page_of, page_text};
+//! The pages on codes and words, as `explain` prints them.
+ghost use Rattle.std.specs.Prelude.{◌≡◌, ◌++◌, codes, IfOk, OnOk, option_copied, option_map, flat_map};
+ghost use Rattle.chip_pages.specs.Pages.{IsExplained, IsContents, IsPageOn, contents_text, example_text, indented, last_label, page_of, page_text};
 
-use crate::pages::{Example, Page, command_pages, end_pages, line_pages};
+use crate::pages::{Example, Page, command_pages, end_pages, line_pages, word_pages};
 use std::alloc::{AllocError, Global};
 
-/// The page on a code, in either case, as text; nothing where there is no such code.
+/// The page on a code or a word, in either case, as text; nothing where there is none on it.
 pub fn page_text(alloc: Global, code: &str) -> Result<Option<Vec<u8>>, AllocError>
     ensures { IfOk result (λ text. IsExplained code.now (option_map (λ page. page.items) text)) }
 {
@@ -15,13 +15,14 @@ pub fn page_text(alloc: Global, code: &str) -> Result<Option<Vec<u8>>, AllocErro
     }
 }
 
-/// The page on a code, in either case; nothing where there is no such code.
+/// The page on a code or a word, in either case; nothing where there is none on it.
 pub fn page_on(code: &str) -> Option<&'static Page>
     ensures { IsPageOn code.now (option_copied result) }
 {
     page_among(line_pages(), code)
         .or(page_among(command_pages(), code))
         .or(page_among(end_pages(), code))
+        .or(page_among(word_pages(), code))
 }
 
 #[tactic(auto, unfolding(crate::specs::Pages::page_of))]
@@ -33,7 +34,7 @@ fn page_among<'a>(pages: &'a [Page], code: &str) -> Option<&'a Page>
         .find(|page| page.code.eq_ignore_ascii_case(code))
 }
 
-/// All codes with their titles, a line each.
+/// All codes and words with their titles, a line each.
 pub fn contents(alloc: Global) -> Result<Vec<u8>, AllocError>
     ensures { IfOk result (λ text. IsContents text.items) }
 {
@@ -41,6 +42,7 @@ pub fn contents(alloc: Global) -> Result<Vec<u8>, AllocError>
     push_titles(&mut text, line_pages())?;
     push_titles(&mut text, command_pages())?;
     push_titles(&mut text, end_pages())?;
+    push_titles(&mut text, word_pages())?;
     Ok(text)
 }
 
@@ -63,8 +65,18 @@ fn text_of(alloc: Global, page: &Page) -> Result<Vec<u8>, AllocError>
         &[page.code, ": ", page.title, "\n\n", page.meaning, "\n\n"],
     )?;
     push_example(&mut text, &page.example)?;
-    push_all(&mut text, &["\nThe fix: ", page.fix, "\n"])?;
+    push_all(&mut text, &[last_label(&page.example), page.fix, "\n"])?;
     Ok(text)
+}
+
+// What stands before the last sentence of a page with such an example.
+fn last_label(example: &Example) -> &'static str
+    ensures { result.now ≡ last_label example.now }
+{
+    match example {
+        Example::Answer { .. } => "\nSee also: ",
+        _ => "\nThe fix: ",
+    }
 }
 
 fn push_example(text: &mut Vec<u8>, example: &Example) -> Result<(), AllocError>
@@ -87,6 +99,18 @@ fn push_example(text: &mut Vec<u8>, example: &Example) -> Result<(), AllocError>
                 &["The program of this source stops so, as `regs 100` shows:\n\n"],
             )?;
             push_indented(text, source)
+        }
+        Example::Answer {
+            source,
+            script,
+            answer,
+        } => {
+            push_all(text, &["On this source:\n\n"])?;
+            push_indented(text, source)?;
+            push_all(text, &["\nthe answer to this:\n\n"])?;
+            push_indented(text, script)?;
+            push_all(text, &["\nis this:\n\n"])?;
+            push_indented(text, answer)
         }
         Example::Told(what) => push_all(text, &["An example: ", what, "\n"]),
     }

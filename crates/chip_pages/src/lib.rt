@@ -1,8 +1,9 @@
-//! A page on each code that the workbench prints, and how `explain` prints it.
+//! A page on each code that the workbench prints and on each word of a script, and how `explain`
+//! prints it.
 #![tactic(auto)]
 
 mod explain;
 mod pages;
 
 pub use explain::{contents, page_on, page_text};
-pub use pages::{Example, Page};
+pub use pages::{Example, Page, word_pages};

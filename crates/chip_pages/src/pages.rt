@@ -1,6 +1,6 @@
-//! A page on each code that the workbench prints.
+//! A page on each code that the workbench prints, and on each word of a script.
 ghost use Rattle.std.specs.Prelude.{◌≡◌};
-ghost use Rattle.chip_pages.specs.Pages.{codes_of, command_codes, end_codes, line_codes};
+ghost use Rattle.chip_pages.specs.Pages.{codes_of, command_codes, end_codes, line_codes, words};
 
 /// What has a code, so that it can be seen.
 #[derive(Clone, Copy)]
@@ -16,9 +16,15 @@ pub enum Example {
     Stop(&'static str),
     /// What is too large to write out, or depends on the system.
     Told(&'static str),
+    /// A source, a script on it, and the answers.
+    Answer {
+        source: &'static str,
+        script: &'static str,
+        answer: &'static str,
+    },
 }
 
-/// What a code means.
+/// What a code means, or a word of a script.
 #[derive(Clone, Copy)]
 pub struct Page {
     pub code: &'static str,
@@ -50,6 +56,13 @@ pub(crate) fn end_pages() -> &'static [Page]
     ensures { codes_of result.now ≡ end_codes }
 {
     &END_PAGES
+}
+
+/// The pages on the words that begin a script's commands. A title has the command's form.
+pub fn word_pages() -> &'static [Page]
+    ensures { codes_of result.now ≡ words }
+{
+    &WORD_PAGES
 }
 
 // The faults and the warnings of a source's lines.
@@ -475,5 +488,163 @@ static END_PAGES: [Page; 14] = [
         meaning: "LD R, Vx or LD Vx, R with x above 7: there are 8 flag registers.",
         example: Example::Stop("LD R, V8"),
         fix: "Use V0 to V7.",
+    },
+];
+
+// The words that begin the commands of a script.
+static WORD_PAGES: [Page; 14] = [
+    Page {
+        code: "ins",
+        title: "`ins N TEXT` puts a line before line N",
+        meaning: "N is from 1 to the number of lines and one more. TEXT is all that follows the one space after N.",
+        example: Example::Answer {
+            source: "SPEED EQU 5\nSTART: LD V0, SPEED\nJP START",
+            script: "ins 3 ADD V0, 1",
+            answer: "ok",
+        },
+        fix: "`rep`, `del`, `list`.",
+    },
+    Page {
+        code: "rep",
+        title: "`rep N TEXT` puts a line in the place of line N",
+        meaning: "TEXT is all that follows the one space after N; without that space the line is empty.",
+        example: Example::Answer {
+            source: "SPEED EQU 5\nSTART: LD V0, SPEED\nJP START",
+            script: "rep 1 SPEED EQU 6",
+            answer: "ok",
+        },
+        fix: "`ins`, `del`, `list`.",
+    },
+    Page {
+        code: "del",
+        title: "`del N` takes line N out",
+        meaning: "The lines after it have a number that is one less.",
+        example: Example::Answer {
+            source: "SPEED EQU 5\nSTART: LD V0, SPEED\nJP START",
+            script: "del 3",
+            answer: "ok",
+        },
+        fix: "`ins`, `rep`, `list`.",
+    },
+    Page {
+        code: "kins",
+        title: "`kins S K down` or `kins S K up` adds a key event",
+        meaning: "From step S on, key K is down, or up. K is from 0 to 15, or from #0 to #F.",
+        example: Example::Answer {
+            source: "SPEED EQU 5\nSTART: LD V0, SPEED\nJP START",
+            script: "kins 20 5 down",
+            answer: "ok",
+        },
+        fix: "`krep`, `kdel`.",
+    },
+    Page {
+        code: "krep",
+        title: "`krep S K down` or `krep S K up` changes a key event",
+        meaning: "The event of step S and key K is there already.",
+        example: Example::Answer {
+            source: "SPEED EQU 5\nSTART: LD V0, SPEED\nJP START",
+            script: "kins 20 5 down\nkrep 20 5 up",
+            answer: "ok\nok",
+        },
+        fix: "`kins`, `kdel`.",
+    },
+    Page {
+        code: "kdel",
+        title: "`kdel S K` takes a key event out",
+        meaning: "The event of step S and key K is there.",
+        example: Example::Answer {
+            source: "SPEED EQU 5\nSTART: LD V0, SPEED\nJP START",
+            script: "kins 20 5 down\nkdel 20 5",
+            answer: "ok\nok",
+        },
+        fix: "`kins`, `krep`.",
+    },
+    Page {
+        code: "image",
+        title: "`image` shows the bytes that the source assembles to",
+        meaning: "They stand in hexadecimal on one line, from address #200 on.",
+        example: Example::Answer {
+            source: "SPEED EQU 5\nSTART: LD V0, SPEED\nJP START",
+            script: "image",
+            answer: "60051200",
+        },
+        fix: "`dis` and `list` show them by lines.",
+    },
+    Page {
+        code: "syms",
+        title: "`syms` shows the names",
+        meaning: "Each has its value in decimal and its line. A point ends the answer.",
+        example: Example::Answer {
+            source: "SPEED EQU 5\nSTART: LD V0, SPEED\nJP START",
+            script: "syms",
+            answer: "SPEED 5 1\nSTART 512 2\n.",
+        },
+        fix: "`list`.",
+    },
+    Page {
+        code: "list",
+        title: "`list` shows the lines with what they assemble to",
+        meaning: "A line has its number, its address, and its bytes, its fault as F9, or its value as =5. A point ends the answer.",
+        example: Example::Answer {
+            source: "SPEED EQU 5\nSTART: LD V0, SPEED\nJP START",
+            script: "list",
+            answer: "   1 0200 =5            SPEED EQU 5\n   2 0200 6005          START: LD V0, SPEED\n   3 0202 1200          JP START\n.",
+        },
+        fix: "`faults` shows the faults alone.",
+    },
+    Page {
+        code: "faults",
+        title: "`faults` shows the lines that have a fault",
+        meaning: "Each has its number and its code. A point ends the answer.",
+        example: Example::Answer {
+            source: "START: LD V0, 5\nJP STRAT",
+            script: "faults",
+            answer: "2 F9\n.",
+        },
+        fix: "`chipbench explain F9`, and `chipbench check game.asm`, which shows the place.",
+    },
+    Page {
+        code: "regs",
+        title: "`regs S` shows the registers at step S",
+        meaning: "The lines are V0 to VF; pc, I, the two timers, how many random bytes were used, the screen's size, and `run` or the stop; the flags and the call stack.",
+        example: Example::Answer {
+            source: "SPEED EQU 5\nSTART: LD V0, SPEED\nJP START",
+            script: "regs 3",
+            answer: "v 05 00 00 00 00 00 00 00 00 00 00 00 00 00 00 00\npc 0202 i 0000 dt 00 st 00 draws 0 low run\nflags 00 00 00 00 00 00 00 00 stack",
+        },
+        fix: "`screen`, `mem`, `dis`.",
+    },
+    Page {
+        code: "mem",
+        title: "`mem S A N` shows N bytes of the memory at step S from address A",
+        meaning: "They stand in hexadecimal on one line.",
+        example: Example::Answer {
+            source: "SPEED EQU 5\nSTART: LD V0, SPEED\nJP START",
+            script: "mem 0 #200 4",
+            answer: "60051200",
+        },
+        fix: "`dis`.",
+    },
+    Page {
+        code: "screen",
+        title: "`screen S` shows the lit rows of the screen at step S",
+        meaning: "A row has its number and 128 pixels in hexadecimal. The first line is the size, `low` or `high`. A point ends the answer.",
+        example: Example::Answer {
+            source: "LD F, V0\nDRW V1, V1, 1",
+            script: "screen 2",
+            answer: "low\n00 ff000000000000000000000000000000\n01 ff000000000000000000000000000000\n.",
+        },
+        fix: "`chipbench picture` draws it.",
+    },
+    Page {
+        code: "dis",
+        title: "`dis S A N` shows N words of the memory at step S from address A",
+        meaning: "Each has its address, the word and its source text. A point ends the answer.",
+        example: Example::Answer {
+            source: "SPEED EQU 5\nSTART: LD V0, SPEED\nJP START",
+            script: "dis 0 #200 2",
+            answer: "0200 6005 LD V0, #05\n0202 1200 JP #200\n.",
+        },
+        fix: "`mem`, and `chipbench dis` for an image.",
     },
 ];

@@ -1,5 +1,5 @@
 -- The transcript of a script in two parts, and of a line that is cut off where it is too long.
-use Rattle.std.proofs.Common.{◌≡◌, ◌⊎◌, ℕ, ◌+◌, ◌-◌, ◌<◌, ◌≤◌, ◌==◌, ◌&&◌, Bool, true, false, cond, List, [], ◌∷◌, ◌++◌, length, take, refl, sym, ◌∙◌, ap, append_assoc, arith, Ok, Err, Result, IsOkAnd, inl, inr, ⊎_elim}
+use Rattle.std.proofs.Common.{◌≡◌, ◌⊎◌, ℕ, ◌+◌, ◌-◌, ◌<◌, ◌≤◌, ◌==◌, ◌&&◌, Bool, true, false, cond, List, [], ◌∷◌, ◌++◌, length, take, refl, sym, ◌∙◌, ap, append_assoc, arith, None, Ok, Err, Result, IsOkAnd, inl, inr, ⊎_elim}
 use Rattle.std.specs.Str.Lines.{strip_carriage_return}
 use Rattle.std.proofs.lemmas.List.{append-nil, take_all, length-take}
 use Rattle.std.proofs.lemmas.Bool.{cases_lt, cond_below, cond_above, ne_eqb}
@@ -10,7 +10,7 @@ use Rattle.std.specs.List.{list_all, before_first, after_first}
 use Rattle.chip_session.specs.declared.limits.TheConstants.{COMMAND_BYTES}
 use Rattle.chip_session.specs.declared.server.TheConstants.{KEPT_LEN}
 use Rattle.chip_session.specs.Commands.{blank, is_space, skip_spaces, worded, Command, command_of}
-use Rattle.chip_session.specs.Transcript.{ask_reply, reply, after, transcript_of, session_after, command_reply, command_after}
+use Rattle.chip_session.specs.Transcript.{ask_reply, reply, after, refusal, refusal_of, transcript_of, session_after, command_reply, command_after, command_refusal}
 use Rattle.chip_session.specs.declared.command.CommandFault.TheVariants.{TooLong}
 
 pub transcript-append : (s : Session) (xs ys : List (List ℕ)) → transcript_of s (xs ++ ys) ≡ transcript_of s xs ++ transcript_of (session_after s xs) ys
@@ -74,6 +74,10 @@ pub after_is : (s : Session) (line : List ℕ) (read : Result Command CommandFau
 unfolding after
 after_is s line read h = ap (command_after s) h
 
+pub refusal_is : (s : Session) (line : List ℕ) (read : Result Command CommandFault) → command_of line ≡ read → refusal s line ≡ command_refusal s read
+unfolding refusal
+refusal_is s line read h = ap (command_refusal s) h
+
 -- a refusal other than that memory ran out is the definition's
 pub no_memory : {P Q X : Type 0} {e m : X} → P ⊎ ((e ≡ m) × Q) → (e ≡ m → ⊥) → P
 no_memory (inl p) h = p
@@ -88,6 +92,10 @@ not_for_memory (inr q) h = absurd (h q.0)
 pub ask_told : (r : Result (List ℕ) Refusal) (old new : List ℕ) → old ≡ [] → IsOkAnd r (λ bytes. new ≡ old ++ bytes) → new ≡ ask_reply r
 ask_told (Ok bytes) old new e h = h ∙ ap (λ l. l ++ bytes) e
 ask_told (Err why) old new e h = absurd h
+
+pub ask_not_refused : (P : List ℕ → Type 0) (r : Result (List ℕ) Refusal) → IsOkAnd r P → refusal_of r ≡ None
+ask_not_refused P (Ok bytes) h = refl
+ask_not_refused P (Err why) h = absurd h
 
 -- a text is of spaces alone where nothing is left after them
 pub blank_skipped : (text : List ℕ) → (length (skip_spaces text) == 0) ≡ list_all is_space text

@@ -1,5 +1,5 @@
 -- The reply to each line of a script, and the transcript of all (own).
-use Rattle.std.specs.Prelude.{ℕ, List, [], ◌∷◌, ◌++◌, Result, Ok, Err, codes}
+use Rattle.std.specs.Prelude.{ℕ, List, [], ◌∷◌, ◌++◌, Option, Some, None, Result, Ok, Err, codes}
 use Rattle.chip_session.specs.Session.{Text, Session, edited}
 use Rattle.chip_session.specs.Answers.{answer_to}
 use Rattle.chip_session.specs.Commands.{Command, blank, change, ask, command_of}
@@ -7,6 +7,8 @@ use Rattle.chip_session.specs.declared.refusal.Refusal.{Refusal}
 use Rattle.chip_session.specs.Refusals.{refusal_code}
 use Rattle.chip_session.specs.declared.command.CommandFault.{CommandFault}
 use Rattle.chip_session.specs.declared.command.CommandFault.TheVariants.{Unknown, TooLong}
+use Rattle.chip_session.specs.declared.refusal.Refused.{Refused}
+use Rattle.chip_session.specs.declared.refusal.Refused.TheVariants as why
 
 abbrev pub fault_code : CommandFault → Text
 fault_code Unknown = codes "C1"
@@ -14,6 +16,11 @@ fault_code TooLong = codes "C2"
 
 abbrev pub refused : Text → List ℕ
 refused code = codes "no " ++ (code ++ 10 ∷ [])
+
+-- the code of a refused line
+abbrev pub refused_code : Refused → Text
+refused_code (why.Line fault) = fault_code fault
+refused_code (why.Command refusal) = refusal_code refusal
 
 abbrev pub change_reply : Result Session Refusal → List ℕ
 change_reply (Ok next) = codes "ok" ++ 10 ∷ []
@@ -41,11 +48,26 @@ command_after session (Ok blank) = session
 command_after session (Ok (change c)) = change_after session (edited session c)
 command_after session (Ok (ask question)) = session
 
+-- why an edit or a question is refused, where it is
+abbrev pub refusal_of : {A : Type 0} → Result A Refusal → Option Refused
+refusal_of (Ok _) = None
+refusal_of (Err refusal) = Some (why.Command refusal)
+
+-- why a command is refused, or a line that is none
+abbrev pub command_refusal : Session → Result Command CommandFault → Option Refused
+command_refusal session (Err fault) = Some (why.Line fault)
+command_refusal session (Ok blank) = None
+command_refusal session (Ok (change c)) = refusal_of (edited session c)
+command_refusal session (Ok (ask question)) = refusal_of (answer_to session question)
+
 unfoldable pub reply : Session → Text → List ℕ
 reply session line = command_reply session (command_of line)
 
 unfoldable pub after : Session → Text → Session
 after session line = command_after session (command_of line)
+
+unfoldable pub refusal : Session → Text → Option Refused
+refusal session line = command_refusal session (command_of line)
 
 -- the answers to the lines of a script, in order
 abbrev pub transcript_of : Session → List Text → List ℕ

@@ -1,7 +1,9 @@
 //! Why an edit or a question is refused.
 ghost use Rattle.std.specs.Prelude.{◌≡◌};
 ghost use Rattle.chip_session.specs.Refusals.{refusal_code, source_refusal, key_refusal};
+ghost use Rattle.chip_session.specs.Transcript.{refused_code};
 
+use crate::command::CommandFault;
 use chip_replay::KeyFault;
 use thiserror::Error;
 
@@ -72,6 +74,27 @@ impl Refusal {
             Refusal::StepPastLast => b"Q2",
             Refusal::AddressPastEnd => b"Q3",
             Refusal::AnswerMemory => b"Q4",
+        }
+    }
+}
+
+/// Why a line of a script is refused.
+#[derive(Clone, Copy, PartialEq, Eq)]
+pub enum Refused {
+    /// It is not a command.
+    Line(CommandFault),
+    /// Its edit or its question is refused.
+    Command(Refusal),
+}
+
+impl Refused {
+    /// The code that `no` stands before.
+    pub fn code(self) -> &'static [u8]
+        ensures { result.now ≡ refused_code self }
+    {
+        match self {
+            Refused::Line(fault) => fault.code(),
+            Refused::Command(refusal) => refusal.code(),
         }
     }
 }

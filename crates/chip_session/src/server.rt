@@ -1,9 +1,9 @@
 //! A script, carried out as it is read.
-ghost use Rattle.std.specs.Prelude.{◌≡◌, ◌≢◌, ℕ, List, take, ◌+◌, ◌≤◌, ◌<◌, Ok, Err, None, [], ◌∷◌, ◌++◌, length, OnOk, OnErr, IfOk, IfErr};
+ghost use Rattle.std.specs.Prelude.{◌≡◌, ◌≢◌, ℕ, List, take, ◌+◌, ◌≤◌, ◌<◌, Ok, Err, Some, None, [], ◌∷◌, ◌++◌, length, OnOk, OnErr, IfOk, IfErr};
 ghost use Rattle.std.specs.Str.Lines.{strip_carriage_return};
 ghost use Rattle.chip_asm.specs.Lines.{open_fault};
 ghost use Rattle.chip_session.specs.Session.{Session, session_of};
-ghost use Rattle.chip_session.specs.Transcript.{reply, after, refused};
+ghost use Rattle.chip_session.specs.Transcript.{reply, after, refusal, refused, refused_code};
 ghost use Rattle.chip_session.specs.Writing.{Breaks, Writes};
 ghost use Rattle.chip_session.specs.Serving.{Served, Exchanges, Opens, UnlessOpened, reader_failures, writer_failures};
 ghost use Rattle.chip_session.specs.inner.Progress.{fault_of, failures_after, Says, Reached, Carries, Ended};
@@ -13,7 +13,8 @@ use crate::bench::Bench;
 use crate::command::{Command, read_command};
 use crate::counted::Counted;
 use crate::limits::{COMMAND_BYTES, SCRIPT_BYTES, SCRIPT_LINES};
-use crate::refusal::Refusal;
+use crate::observer::{Nobody, Observer};
+use crate::refusal::{Refusal, Refused};
 use crate::settings::Settings;
 use chip_asm::OpenError;
 use memchr::memchr;
@@ -105,18 +106,49 @@ pub fn serve<R: Read, W: Write>(
     ensures reader_failed { reader.new.failures ≡ reader_failures result reader.old.failures }
     ensures writer_failed { writer.new.failures ≡ writer_failures result writer.old.failures }
 {
+    serve_observed(alloc, source, settings, reader, writer, &mut Nobody)
+}
+
+/// Does what `serve` does, and tells the observer how it goes. What is read, written and answered
+/// doesn't depend on the observer.
+///
+/// # Errors
+///
+/// As those of `serve`.
+pub fn serve_observed<R: Read, W: Write, O: Observer>(
+    alloc: Global,
+    source: &[u8],
+    settings: Settings,
+    reader: &mut Counted<R>,
+    writer: &mut Counted<W>,
+    observer: &mut O,
+) -> Result<(), ServeError>
+    ensures transcript { Exchanges (R.remaining reader.old.inner) (R.remaining reader.new.inner)
+        (W.contents writer.old.inner) (W.contents writer.new.inner)
+        (Served result (session_of settings source.now)) }
+    ensures source { Opens (open_fault source.now) result }
+    ensures untouched { UnlessOpened result ((reader.new ≡ reader.old)
+        × (writer.new ≡ writer.old)) }
+    ensures reader_failed { reader.new.failures ≡ reader_failures result reader.old.failures }
+    ensures writer_failed { writer.new.failures ≡ writer_failures result writer.old.failures }
+{
     match Bench::open(alloc, source, settings) {
-        Ok(bench) => converse(alloc, &mut Conversation::new(alloc, bench), reader, writer),
+        Ok(bench) => {
+            observer.opened(&bench);
+            let mut conversation = Conversation::new(alloc, bench);
+            converse(alloc, &mut conversation, reader, writer, observer)
+        }
         Err(e) => Err(ServeError::Source(e)),
     }
 }
 
 // Carries out the script that the reader gives.
-fn converse<R: Read, W: Write>(
+fn converse<R: Read, W: Write, O: Observer>(
     alloc: Global,
     conversation: &mut Conversation,
     reader: &mut Counted<R>,
     writer: &mut Counted<W>,
+    observer: &mut O,
 ) -> Result<(), ServeError>
     requires line { conversation.old.line.items ≡ [] }
     requires complete { conversation.old.complete ≡ 0 }
@@ -131,13 +163,15 @@ fn converse<R: Read, W: Write>(
 {
     let mut piece = [0; PIECE_LEN];
     'pieces: loop {
+        conversation.tell_wait(observer);
         match reader.read(&mut piece) {
             Err(_) => return Err(ServeError::ReaderFailed),
             Ok(0) => {
-                conversation.end(alloc, writer)?;
+                conversation.end(alloc, writer, observer)?;
+                observer.ended();
                 return Ok(());
             }
-            Ok(count) => conversation.take_piece(alloc, &piece[..count], writer)?,
+            Ok(count) => conversation.take_piece(alloc, &piece[..count], writer, observer)?,
         }
     }
 }
@@ -169,12 +203,20 @@ impl Conversation {
         }
     }
 
+    // Says that the next line is waited for, where none of its bytes is there.
+    fn tell_wait<O: Observer>(&self, observer: &mut O) {
+        if self.line.is_empty() {
+            observer.awaits();
+        }
+    }
+
     // Takes the next bytes, as far as the bound on bytes allows.
-    fn take_piece<W: Write>(
+    fn take_piece<W: Write, O: Observer>(
         &mut self,
         alloc: Global,
         piece: &[u8],
         writer: &mut Counted<W>,
+        observer: &mut O,
     ) -> Result<(), Stop>
         requires { self.old.taken ≤ SCRIPT_BYTES }
         ensures carries { Carries self.old (W.contents writer.old.inner) piece.now result
@@ -185,18 +227,19 @@ impl Conversation {
     {
         let room = (SCRIPT_BYTES - self.taken) as usize;
         if piece.len() <= room {
-            return self.take_lines(alloc, piece, writer);
+            return self.take_lines(alloc, piece, writer, observer);
         }
-        self.take_lines(alloc, &piece[..room], writer)?;
+        self.take_lines(alloc, &piece[..room], writer, observer)?;
         Err(Stop::TooMuchInput)
     }
 
     // Takes bytes that are within the bound on bytes.
-    fn take_lines<W: Write>(
+    fn take_lines<W: Write, O: Observer>(
         &mut self,
         alloc: Global,
         piece: &[u8],
         writer: &mut Counted<W>,
+        observer: &mut O,
     ) -> Result<(), Stop>
         requires { self.old.taken + length piece.now ≤ SCRIPT_BYTES }
         ensures carries { Carries self.old (W.contents writer.old.inner) piece.now result
@@ -206,17 +249,18 @@ impl Conversation {
     {
         let mut taken = 0;
         while taken < piece.len() {
-            taken += self.take_line(alloc, &piece[taken..], writer)?;
+            taken += self.take_line(alloc, &piece[taken..], writer, observer)?;
         }
         Ok(())
     }
 
     // Takes the bytes up to the first newline, or all of them, and answers how many these are.
-    fn take_line<W: Write>(
+    fn take_line<W: Write, O: Observer>(
         &mut self,
         alloc: Global,
         bytes: &[u8],
         writer: &mut Counted<W>,
+        observer: &mut O,
     ) -> Result<usize, Stop>
         requires some { 0 < length bytes.now }
         requires room { self.old.taken + length bytes.now ≤ SCRIPT_BYTES }
@@ -237,7 +281,7 @@ impl Conversation {
             self.keep(bytes)?;
             return Ok(bytes.len());
         };
-        self.complete_line(alloc, &bytes[..len], writer)?;
+        self.complete_line(alloc, &bytes[..len], writer, observer)?;
         Ok(len + 1)
     }
 
@@ -258,11 +302,12 @@ impl Conversation {
 
     // Answers the line that a newline has just ended, of which these are the last bytes. A line
     // that stands whole in its piece isn't copied.
-    fn complete_line<W: Write>(
+    fn complete_line<W: Write, O: Observer>(
         &mut self,
         alloc: Global,
         part: &[u8],
         writer: &mut Counted<W>,
+        observer: &mut O,
     ) -> Result<(), Stop>
         requires complete { self.old.complete < SCRIPT_LINES }
         requires taken { self.old.taken + length part.now < SCRIPT_BYTES }
@@ -279,18 +324,19 @@ impl Conversation {
         ensures failures { writer.new.failures ≡ failures_after result writer.old.failures }
     {
         if self.line.is_empty() {
-            return self.answer_whole(alloc, part, writer);
+            return self.answer_whole(alloc, part, writer, observer);
         }
         self.keep(part)?;
-        self.answer_kept(alloc, writer)
+        self.answer_kept(alloc, writer, observer)
     }
 
     // Answers a line that stands whole in its piece, where no bytes of it are kept.
-    fn answer_whole<W: Write>(
+    fn answer_whole<W: Write, O: Observer>(
         &mut self,
         alloc: Global,
         whole: &[u8],
         writer: &mut Counted<W>,
+        observer: &mut O,
     ) -> Result<(), Stop>
         requires complete { self.old.complete < SCRIPT_LINES }
         requires taken { self.old.taken + length whole.now < SCRIPT_BYTES }
@@ -305,14 +351,26 @@ impl Conversation {
         ensures failures { writer.new.failures ≡ failures_after result writer.old.failures }
     {
         let line = without_carriage_return(kept_part(whole));
-        say(alloc, &mut self.bench, line, &mut self.answer, writer)?;
+        say(
+            alloc,
+            &mut self.bench,
+            line,
+            &mut self.answer,
+            writer,
+            observer,
+        )?;
         self.complete += 1;
         self.taken += whole.len() as u32 + 1;
         Ok(())
     }
 
     // Answers the line of which all bytes are kept, and keeps none any more.
-    fn answer_kept<W: Write>(&mut self, alloc: Global, writer: &mut Counted<W>) -> Result<(), Stop>
+    fn answer_kept<W: Write, O: Observer>(
+        &mut self,
+        alloc: Global,
+        writer: &mut Counted<W>,
+        observer: &mut O,
+    ) -> Result<(), Stop>
         requires complete { self.old.complete < SCRIPT_LINES }
         requires taken { self.old.taken < SCRIPT_BYTES }
         ensures said { Says result (W.contents writer.old.inner) (W.contents writer.new.inner)
@@ -325,14 +383,26 @@ impl Conversation {
         ensures failures { writer.new.failures ≡ failures_after result writer.old.failures }
     {
         let line = without_carriage_return(&self.line);
-        say(alloc, &mut self.bench, line, &mut self.answer, writer)?;
+        say(
+            alloc,
+            &mut self.bench,
+            line,
+            &mut self.answer,
+            writer,
+            observer,
+        )?;
         self.line.clear();
         self.complete += 1;
         self.taken += 1;
         Ok(())
     }
 
-    fn end<W: Write>(&mut self, alloc: Global, writer: &mut Counted<W>) -> Result<(), Stop>
+    fn end<W: Write, O: Observer>(
+        &mut self,
+        alloc: Global,
+        writer: &mut Counted<W>,
+        observer: &mut O,
+    ) -> Result<(), Stop>
         ensures ended { (start : Session) (before given : List ℕ)
             → Reached start before given self.old (W.contents writer.old.inner)
             → Ended result start before given (W.contents writer.new.inner) }
@@ -341,25 +411,37 @@ impl Conversation {
         if self.line.is_empty() {
             return Ok(());
         }
-        say(alloc, &mut self.bench, &self.line, &mut self.answer, writer)
+        say(
+            alloc,
+            &mut self.bench,
+            &self.line,
+            &mut self.answer,
+            writer,
+            observer,
+        )
     }
 }
 
-// Carries out one line of a script, and writes the answer to it.
-fn say<W: Write>(
+// Carries out one line of a script, writes the answer to it, and says where it is refused.
+fn say<W: Write, O: Observer>(
     alloc: Global,
     bench: &mut Bench,
     line: &[u8],
     answer: &mut Vec<u8>,
     writer: &mut Counted<W>,
+    observer: &mut O,
 ) -> Result<(), Stop>
     ensures said { Says result (W.contents writer.old.inner) (W.contents writer.new.inner)
         (reply bench.old.session line.now) }
     ensures bench { OnOk result (bench.new.session ≡ after bench.old.session line.now) }
     ensures failures { writer.new.failures ≡ failures_after result writer.old.failures }
 {
-    respond(alloc, bench, line, answer)?;
-    write_whole(writer, answer)
+    let refused = respond(alloc, bench, line, answer)?;
+    write_whole(writer, answer)?;
+    if let Some(why) = refused {
+        observer.refused(bench, line, why);
+    }
+    Ok(())
 }
 
 // Writes all the bytes. Any error ends it, and so does a write that takes none.
@@ -394,7 +476,8 @@ pub fn write_all<W: Write>(writer: &mut Counted<W>, bytes: &[u8]) -> Result<(), 
     }
 }
 
-/// Puts the answer to one line of a script in the place of `answer`.
+/// Puts the answer to one line of a script in the place of `answer`, and tells why the line is
+/// refused, where it is.
 ///
 /// # Errors
 ///
@@ -404,37 +487,43 @@ pub fn respond(
     bench: &mut Bench,
     line: &[u8],
     answer: &mut Vec<u8>,
-) -> Result<(), AllocError>
+) -> Result<Option<Refused>, AllocError>
     ensures answer { OnOk result (answer.new.items ≡ reply bench.old.session line.now) }
     ensures bench { OnOk result (bench.new.session ≡ after bench.old.session line.now) }
+    ensures refused { IfOk result (λ why. why ≡ refusal bench.old.session line.now) }
 {
     answer.clear();
     let command = match read_command(line) {
         Ok(command) => command,
-        Err(fault) => return refuse(answer, fault.code()),
+        Err(fault) => return refuse_for(answer, Refused::Line(fault)),
     };
     let refusal = match command {
-        Command::Blank => return Ok(()),
+        Command::Blank => return Ok(None),
         Command::Change(change) => match bench.apply(alloc, &change) {
-            Ok(()) => return answer.extend_from_slice(b"ok\n"),
+            Ok(()) => {
+                answer.extend_from_slice(b"ok\n")?;
+                return Ok(None);
+            }
             Err(refusal) => refusal,
         },
         Command::Ask(question) => match bench.ask(alloc, &question, answer) {
-            Ok(()) => return Ok(()),
+            Ok(()) => return Ok(None),
             Err(refusal) => refusal,
         },
     };
     match refusal {
         Refusal::EditMemory | Refusal::AnswerMemory => Err(AllocError),
-        _ => refuse(answer, refusal.code()),
+        _ => refuse_for(answer, Refused::Command(refusal)),
     }
 }
 
-// The first bytes of a line, as many as tell one that is too long.
-fn kept_part(line: &[u8]) -> &[u8]
-    ensures { result.now ≡ take KEPT_LEN line.now }
+// Appends the answer to a line that is refused, and tells why it is.
+fn refuse_for(answer: &mut Vec<u8>, why: Refused) -> Result<Option<Refused>, AllocError>
+    ensures answer { OnOk result (answer.new.items ≡ answer.old.items ++ refused (refused_code why)) }
+    ensures why { IfOk result (λ given. given ≡ Some why) }
 {
-    &line[..line.len().min(KEPT_LEN)]
+    refuse(answer, why.code())?;
+    Ok(Some(why))
 }
 
 /// Appends the answer to a line of a script that is refused with this code.
@@ -448,6 +537,13 @@ pub fn refuse(answer: &mut Vec<u8>, code: &[u8]) -> Result<(), AllocError>
     answer.extend_from_slice(b"no ")?;
     answer.extend_from_slice(code)?;
     answer.extend_from_slice(b"\n")
+}
+
+// The first bytes of a line, as many as tell one that is too long.
+fn kept_part(line: &[u8]) -> &[u8]
+    ensures { result.now ≡ take KEPT_LEN line.now }
+{
+    &line[..line.len().min(KEPT_LEN)]
 }
 
 fn without_carriage_return(line: &[u8]) -> &[u8]

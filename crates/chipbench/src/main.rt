@@ -26,6 +26,7 @@ fn main(rt: HostRuntime) -> ExitCode {
         name_seed: name_seed(&rt),
         takes_color: rt.stdout().is_terminal() && wants_color(&rt),
         has_reader: rt.stderr().is_terminal(),
+        is_typed: rt.stdin().is_terminal(),
     };
     let status = program(
         alloc,

@@ -65,6 +65,7 @@ rule_by argument.Cover = line.cover
 rule_by argument.CheckCover = line.cover
 rule_by argument.Progress = line.progress
 rule_by argument.Hex = line.hex
+rule_by argument.Quiet = line.quiet
 
 -- these arguments, in order
 abbrev pub with_arguments : App → List Argument → App

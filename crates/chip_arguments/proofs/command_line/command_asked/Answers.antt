@@ -60,5 +60,6 @@ returns-clause-asked c =
           let debug = debug_is_left c.args.name.now c.requires not_asm not_list not_syms not_dis not_run not_trace not_picture not_check not_test not_explore not_explain in
           let source = first_is (found_of c.args.found.now) (codes "source") _ w.get_str-in_default.ensures in
           let image = flag_is (found_of c.args.found.now) (codes "image") w.get_flag-in_default.result w.get_flag-in_default.ensures.value w.get_flag-in_default.ensures.other w.get_flag-in_default.ensures.none in
-          rw w.result-is (debug, source, image, w.setting_arguments.ensures profile)
+          let quiet = flag_is (found_of c.args.found.now) (codes "quiet") w.get_flag-in_default-2.result w.get_flag-in_default-2.ensures.value w.get_flag-in_default-2.ensures.other w.get_flag-in_default-2.ensures.none in
+          rw w.result-is (debug, source, image, quiet, w.setting_arguments.ensures profile)
     ]

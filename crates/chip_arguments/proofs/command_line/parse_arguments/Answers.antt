@@ -32,7 +32,7 @@ returns-in_default-clause-fault g c =
 pub returns-in_default-clause-asked : goal.returns-in_default-clause-asked
 returns-in_default-clause-asked g c =
     let none = ap (map g.S.AsStr.text) (nothing_first c.args.arguments.now c.in_default.ensures.value) in
-    subst (λ (arguments : List (List ℕ)). AsksFor arguments (Debug None false default_arguments)) (sym none) (asked_none [] no_arguments_no_command)
+    subst (λ (arguments : List (List ℕ)). AsksFor arguments (Debug None false false default_arguments)) (sym none) (asked_none [] no_arguments_no_command)
 
 pub command_asked-requires : goal.command_asked-requires
 command_asked-requires g c =

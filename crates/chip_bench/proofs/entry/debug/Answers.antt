@@ -11,8 +11,8 @@ returns-in_err-settings g c =
 
 pub returns-in_ok-source-in-Some : goal.returns-in_ok-source-in-Some
 returns-in_ok-source-in-Some g c =
-    let seeded = rw c.with_name_seed-seeded.ensures at c.answer_script.ensures in
-    debugs_file g.I.Read.remaining g.O.Write.contents c.args.input.now c.answer_script.new.input c.args.output.now c.answer_script.new.output
+    let seeded = rw c.with_name_seed-seeded.ensures at c.answer_begun.ensures.answers in
+    debugs_file g.I.Read.remaining g.O.Write.contents c.args.input.now c.answer_begun.new.input c.args.output.now c.answer_begun.new.output
     c.args.given.source c.args.given.is_image c.in-Some.name c.args.arguments.now c.in_ok-settings.settings c.in_ok-bytes-in-Some.bytes.items
-    c.in_ok-source-in-Some.source.items c.answer_script.result c.in-Some.is c.in_ok-settings.ensures.ok c.in_ok-source-in-Some.ensures.ok
+    c.in_ok-source-in-Some.source.items c.answer_begun.result c.in-Some.is c.in_ok-settings.ensures.ok c.in_ok-source-in-Some.ensures.ok
     (rw c.deref.ensures.value at seeded)

@@ -32,3 +32,26 @@ returns-in_ok-push_all-in-Stop c =
     (both_pushed c.push_indented-in-Stop.result c.args.text.now.items c.push_all-in-Stop.new.text.items c.push_indented-in-Stop.new.text.items
     (codes "The program of this source stops so, as `regs 100` shows:\n\n") (indented c.in-Stop.source.now) c.in_ok-push_all-in-Stop.ensures
     c.push_indented-in-Stop.ensures)
+
+pub returns-in_ok-push_all-in-Answer-3 : goal.returns-in_ok-push_all-in-Answer-3
+returns-in_ok-push_all-in-Answer-3 c =
+    let source = indented c.in-Answer.source.now in
+    let script = indented c.in-Answer.script.now in
+    let answer = indented c.in-Answer.answer.now in
+    let first = codes "On this source:\n\n" in
+    let second = codes "\nthe answer to this:\n\n" in
+    let third = codes "\nis this:\n\n" in
+    let end = c.push_indented-in-Answer-3.new.text.items in
+    subst (λ (e : Example). OnOk c.push_indented-in-Answer-3.result (end ≡ c.args.text.now.items ++ example_text e))
+    (sym c.in-Answer.is)
+    (both_pushed c.push_indented-in-Answer-3.result c.args.text.now.items c.push_all-in-Answer.new.text.items end
+    first (source ++ (second ++ (script ++ (third ++ answer)))) c.in_ok-push_all-in-Answer.ensures
+    (both_pushed c.push_indented-in-Answer-3.result c.push_all-in-Answer.new.text.items c.push_indented-in-Answer.new.text.items end
+    source (second ++ (script ++ (third ++ answer))) c.in_ok-push_indented-in-Answer.ensures
+    (both_pushed c.push_indented-in-Answer-3.result c.push_indented-in-Answer.new.text.items c.push_all-in-Answer-2.new.text.items end
+    second (script ++ (third ++ answer)) c.in_ok-push_all-in-Answer-2.ensures
+    (both_pushed c.push_indented-in-Answer-3.result c.push_all-in-Answer-2.new.text.items c.push_indented-in-Answer-2.new.text.items end
+    script (third ++ answer) c.in_ok-push_indented-in-Answer-2.ensures
+    (both_pushed c.push_indented-in-Answer-3.result c.push_indented-in-Answer-2.new.text.items c.push_all-in-Answer-3.new.text.items end
+    third answer c.in_ok-push_all-in-Answer-3.ensures
+    c.push_indented-in-Answer-3.ensures)))))

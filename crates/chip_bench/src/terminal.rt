@@ -1,0 +1,149 @@
+//! What `debug` says at a terminal, beside its answers, to the one who types.
+ghost use Rattle.std.specs.Prelude.{◌≡◌, false};
+ghost use Rattle.chip_bench.specs.Running.{AnswersScript};
+
+use crate::ending::{Ending, Failure};
+use crate::output::answer_script;
+use chip_asm::Source;
+use chip_pages::{page_on, word_pages};
+use chip_session::{Bench, CommandFault, Counted, Nobody, Observer, Refusal, Refused, Settings};
+use std::alloc::Global;
+use std::io::{Read, Write};
+use std::str;
+
+/// A session that is begun on the bytes of a source.
+#[derive(Clone, Copy)]
+pub(crate) struct Begun<'a> {
+    pub(crate) source: &'a [u8],
+    /// The name of the source's file, where there is one.
+    pub(crate) name: Option<&'a str>,
+    /// Whether somebody types the script, and reads what is said on standard error.
+    pub(crate) is_typed: bool,
+}
+
+/// Answers a script. Who types it is told on standard error where the session is, when the next
+/// command is waited for, and why one was refused.
+pub(crate) fn answer_begun<'a, I: Read, O: Write, E: Write>(
+    alloc: Global,
+    begun: Begun<'_>,
+    settings: Settings,
+    input: &mut Counted<I>,
+    output: &mut Counted<O>,
+    errors: &mut E,
+) -> Result<Ending, Failure<'a>>
+    ensures answers { AnswersScript I.remaining O.contents settings begun.entry.source.now
+        input.old input.new output.old output.new result }
+    // Where nobody types, nothing is said.
+    ensures silent { begun.entry.is_typed ≡ false → errors.new ≡ errors.old }
+{
+    if begun.is_typed {
+        let mut terminal = Terminal {
+            errors,
+            name: begun.name,
+        };
+        answer_script(alloc, begun.source, settings, input, output, &mut terminal)
+    } else {
+        answer_script(alloc, begun.source, settings, input, output, &mut Nobody)
+    }
+}
+
+// The one who types. Where standard error fails there is nobody to tell.
+#[derive(Drop)]
+struct Terminal<'e, E> {
+    errors: &'e mut E,
+    name: Option<&'e str>,
+}
+
+impl<'e, E: Write> Observer for Terminal<'e, E> {
+    fn opened(&mut self, bench: &Bench) {
+        self.say(self.name.unwrap_or("an empty source"));
+        self.say(": ");
+        self.say_lines(bench.source());
+        self.say(", ");
+        self.say_fault(bench.source());
+        self.say("\ncommands: ");
+        self.say_words();
+        self.say("\n`chipbench explain regs` explains one; Ctrl+D ends\n");
+    }
+
+    fn awaits(&mut self) {
+        self.say("> ");
+        let _ = self.errors.flush();
+    }
+
+    fn refused(&mut self, bench: &Bench, line: &[u8], why: Refused) {
+        let Ok(code) = str::from_utf8(why.code()) else {
+            return;
+        };
+        let Some(page) = page_on(code) else {
+            return;
+        };
+        let _ = write!(self.errors, "{code}: {}: ", page.title);
+        match why {
+            Refused::Line(CommandFault::Unknown) => self.say_form(line),
+            Refused::Command(Refusal::NoSuchLine) => {
+                self.say("the source has ");
+                self.say_lines(bench.source());
+            }
+            Refused::Command(Refusal::NoImage) => self.say_fault(bench.source()),
+            _ => self.say(page.fix),
+        }
+        self.say("\n");
+    }
+
+    fn ended(&mut self) {
+        self.say("\n");
+    }
+}
+
+impl<'e, E: Write> Terminal<'e, E> {
+    fn say(&mut self, text: &str) {
+        let _ = self.errors.write_all(text.as_bytes());
+    }
+
+    // How many lines a source has.
+    fn say_lines(&mut self, source: &Source) {
+        match source.lines() {
+            1 => self.say("1 line"),
+            count => {
+                let _ = write!(self.errors, "{count} lines");
+            }
+        }
+    }
+
+    // The first line with a fault.
+    fn say_fault(&mut self, source: &Source) {
+        for number in 1..=source.lines() {
+            if let Some(fault) = source.fault(number) {
+                let code = fault.number();
+                let _ = write!(self.errors, "line {number} has a fault, F{code}: {fault}");
+                return;
+            }
+        }
+        self.say("no faults");
+    }
+
+    // The words that begin commands.
+    fn say_words(&mut self) {
+        let mut between = "";
+        for page in word_pages() {
+            self.say(between);
+            self.say(page.code);
+            between = ", ";
+        }
+    }
+
+    // What would be right in the place of a line that is not a command: the form of the command that
+    // its first word names, or else the words that name one.
+    fn say_form(&mut self, line: &[u8]) {
+        for page in word_pages() {
+            if let Some(rest) = line.strip_prefix(page.code.as_bytes())
+                && matches!(rest, [] | [b' ', ..])
+            {
+                return self.say(page.title);
+            }
+        }
+        self.say("the commands are ");
+        self.say_words();
+    }
+}
