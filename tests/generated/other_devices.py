@@ -1,6 +1,6 @@
 """Files on another device than SOURCE: each is written whole, also through a link, and no other file is left there.
 
-The other device is /dev/shm. Where it is none, there is nothing to try.
+The other device is /dev/shm. Where it is none, or can't be written to, there is nothing to try.
 """
 import os
 import pathlib
@@ -38,8 +38,8 @@ def wrong_file(program, words, status, bytes_written, is_link, before):
 
 
 def is_other():
-    """Whether there is another device."""
-    return os.path.isdir(OTHER) and os.stat(OTHER).st_dev != os.stat(tempfile.gettempdir()).st_dev
+    """Whether there is another device, which can be written to."""
+    return os.access(OTHER, os.W_OK) and os.stat(OTHER).st_dev != os.stat(tempfile.gettempdir()).st_dev
 
 
 def checks(program):
