@@ -1,6 +1,6 @@
 // What is said of the cursor's line and of the word under the pointer: the address, the fault, a name's value, an instruction.
 
-import { byId, element, setText } from './dom.mjs';
+import { byId, element, setProperty, setText } from './dom.mjs';
 import { hex } from './answers.mjs';
 import { placeOf } from './columns.mjs';
 import { rowsOf, tokensOf } from './language.mjs';
@@ -35,7 +35,7 @@ export class AboutLine {
     const lines = this.#editor.faultLines;
     this.#count.classList.toggle('some', lines.length > 0);
     setText(this.#count, lines.length === 0 ? 'no faults' : `${lines.length} ${lines.length === 1 ? 'fault' : 'faults'}, the first in line ${lines[0]}`);
-    this.#next.hidden = lines.length === 0;
+    setProperty(this.#next, 'hidden', lines.length === 0);
   }
 
   #tellLine() {
@@ -58,9 +58,8 @@ export class AboutLine {
 
   /** What stands at the cursor, in one line. */
   #aboutWord() {
-    const text = byId('source-text');
-    const start = text.value.lastIndexOf('\n', text.selectionStart - 1) + 1;
-    return this.#about(this.#editor.lines[this.#editor.line - 1] ?? '', text.selectionStart - start).join('; ');
+    const { line, column } = this.#editor.cursor;
+    return this.#about(this.#editor.lines[line - 1] ?? '', column).join('; ');
   }
 
   /** What is known of the token at a place of a line: a row of text each; none where there is nothing to say. */
@@ -95,6 +94,6 @@ export class AboutLine {
   }
 
   #hide() {
-    this.#hover.hidden = true;
+    setProperty(this.#hover, 'hidden', true);
   }
 }

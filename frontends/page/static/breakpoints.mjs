@@ -21,11 +21,9 @@ export class Breakpoints extends EventTarget {
     this.dispatchEvent(new Event('change'));
   }
 
-  /** A text became another one: what stands after the change moves with its lines, what stood in removed lines goes. */
-  follow(before, after) {
-    if (this.#lines.size === 0) return;
-    const [was, is] = [before.split('\n'), after.split('\n')];
-    if (was.length === is.length) return;
+  /** The lines of a text became others: what stands after the change moves with its lines, what stood in removed lines goes. */
+  follow(was, is) {
+    if (this.#lines.size === 0 || was.length === is.length) return;
     const shorter = Math.min(was.length, is.length);
     let front = 0;
     while (front < shorter && was[front] === is[front]) front += 1;

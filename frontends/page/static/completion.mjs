@@ -5,7 +5,10 @@ import { hex } from './answers.mjs';
 import { DIRECTIVES, MNEMONICS, REGISTERS, rowsOf, tokensOf } from './language.mjs';
 
 const MOST = 12;
-const ROW = 20;
+/** How high a row of the list is, and what stands around the rows, in pixels, as style.css has them. */
+const LIST_ROW = 20;
+const LIST_EDGE = 10;
+const LIST_WIDTH = 544;
 
 /** What may stand for a word that is being typed: the words that begin with it. */
 export function completionsOf(line, place, symbols, isAsked = false) {
@@ -43,10 +46,8 @@ export class Completion {
   }
 
   #look(isAsked) {
-    const { value, selectionStart } = this.#text;
-    const start = value.lastIndexOf('\n', selectionStart - 1) + 1;
-    const line = this.#editor.lines[this.#editor.line - 1] ?? '';
-    const found = completionsOf(line, selectionStart - start, this.#symbols(), isAsked);
+    const { line, column, start } = this.#editor.cursor;
+    const found = completionsOf(this.#editor.lines[line - 1] ?? '', column, this.#symbols(), isAsked);
     if (found === null) this.#close();
     else this.#show({ ...found, lineStart: start });
   }
@@ -69,14 +70,13 @@ export class Completion {
     this.#mark(0);
   }
 
-  /** Below the word that is typed, or above where there is no room. */
+  /** Below the word that is typed, or above where there is no room. Its size is known: to ask for it would lay the page out. */
   #place() {
-    const box = this.#text.getBoundingClientRect();
-    const width = this.#editor.columnWidth;
-    const top = box.top + this.#editor.line * ROW;
-    const size = this.#list.getBoundingClientRect();
-    this.#list.style.left = `${Math.max(4, Math.min(box.left + this.#open.start * width, innerWidth - size.width - 4))}px`;
-    this.#list.style.top = `${top + size.height > innerHeight ? top - ROW - size.height : top}px`;
+    const { x, y, row } = this.#editor.pixelsOf(this.#open.start);
+    const height = this.#open.found.length * LIST_ROW + LIST_EDGE;
+    const width = Math.min(LIST_WIDTH, innerWidth - 8);
+    const below = y + row + height <= innerHeight || y < height;
+    Object.assign(this.#list.style, { width: `${width}px`, left: `${Math.max(4, Math.min(x, innerWidth - width - 4))}px`, top: `${below ? y + row : y - height}px` });
   }
 
   #mark(place) {

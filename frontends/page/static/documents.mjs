@@ -1,7 +1,7 @@
 // The author's document: the file that it is of, what the browser kept of it, saving, and other documents in its place.
 
 import { request } from './bridge.mjs';
-import { byId } from './dom.mjs';
+import { byId, setText } from './dom.mjs';
 import { KeyHistory } from './key_history.mjs';
 import { KeyScript } from './key_script.mjs';
 import { notice, takeAway } from './notices.mjs';
@@ -193,7 +193,7 @@ export class Documents {
 
   tellState() {
     const saved = this.#savedText === this.#model.text ? 'saved' : 'not saved; kept in this browser';
-    byId('file-state').textContent = this.#open.isFile ? saved : 'not in a file; kept in this browser';
+    setText(byId('file-state'), this.#open.isFile ? saved : 'not in a file; kept in this browser');
   }
 
   /** Writes the file of the title; where there is none, asks for its name. */

@@ -19,10 +19,13 @@ export function setText(place, text) {
   }
 }
 
-/** Sets what the pointer on an element tells, where it isn't so yet. */
-export function setTitle(place, title) {
-  if (place.title !== title) place.title = title;
+/** Sets a property of an element, such as `hidden`, where it isn't so yet. */
+export function setProperty(place, name, value) {
+  if (place[name] !== value) place[name] = value;
 }
+
+/** Sets what the pointer on an element tells, where it isn't so yet. */
+export const setTitle = (place, title) => setProperty(place, 'title', title);
 
 /** Sets an attribute where it isn't so yet. */
 export function setAttribute(place, name, value) {
@@ -70,7 +73,9 @@ export function themeChanged() {
   document.dispatchEvent(new Event('theme'));
 }
 
-export const grouped = (number) => number.toLocaleString('en-US');
+const grouping = new Intl.NumberFormat('en-US');
+
+export const grouped = (number) => grouping.format(number);
 
 /** Whether what is typed goes into a text, a number or a choice. */
 export const takesText = (target) =>

@@ -1,86 +1,143 @@
-// The source: a text area as large as its text, with a gutter of numbers, addresses and bytes that scrolls with it.
+// The source: its text, what is typed into it, and what is known of its lines. A text area holds the lines near those in sight
+// (text_window.mjs), and rows around it show the rest (editor_rows.mjs).
 
-import { byId, element, oncePerFrame, setChildren } from './dom.mjs';
-import { hex } from './answers.mjs';
+import { byId, oncePerFrame } from './dom.mjs';
 import { Breakpoints } from './breakpoints.mjs';
 import { codeText } from './codes.mjs';
-import { TAB, columnOf, indentAfter, outdentLength, widthOf } from './columns.mjs';
-import { coloured } from './colours.mjs';
+import { columnOf, widthOf } from './columns.mjs';
+import { EditorKeys } from './editor_keys.mjs';
+import { EditorPointer } from './editor_pointer.mjs';
+import { EditorRows, ROW } from './editor_rows.mjs';
+import { EditorSight } from './editor_sight.mjs';
+import { difference, SourceText } from './source_text.mjs';
+import { TextWindow } from './text_window.mjs';
 
-const ROW = 20;
-const SPARE_ROWS = 12;
-/** More rows than these aren't kept. */
-const MOST_MADE = 1000;
+const TYPED = ['insertText', 'deleteContentBackward', 'deleteContentForward'];
+/** Columns left of the text, as style.css has them. */
+const INDENT_COLUMNS = 0.6;
 
 export class Editor extends EventTarget {
-  #text = byId('source-text');
-  #scroller = byId('editor');
-  #layers = Object.fromEntries(['gutter', 'bands', 'colours', 'marks'].map((name) => [name, byId(name)]));
+  #area = byId('source-text');
   #model;
-  #lines = [''];
+  #source = new SourceText();
+  #window = new TextWindow(this.#area, this.#source, (first, last) => this.#placeArea(first, last));
+  #rows = new EditorRows(this);
+  #sight = new EditorSight(() => this.#draw(), (before) => this.#resizedSight(before));
+  #keys = new EditorKeys(this, this.#sight);
   #listing = [];
   #faults = new Map();
   /** Where the faults lie and what the program says of them, by line; other faulty lines show their code alone. */
   #places = new Map();
   #covered = new Map();
   #here = null;
-  #rows = new Map();
-  /** The rows as they were made, by their line, each with the text that it was made of. */
-  #made = { gutter: new Map(), colours: new Map() };
-  #band = element('div', { className: 'here', hidden: true });
-  /** A hundred columns, to know how wide one is. */
-  #measure = element('span', { className: 'measure', textContent: '0'.repeat(100) });
   #draw = oncePerFrame(() => this.#drawRows());
-  /** What is in sight, in pixels, as the browser told it last: to ask it would have it lay the page out at once. */
-  #sight = { top: 0, height: 0 };
-  #before = '';
-  #selection = [0, 0];
+  /** The selection before what is typed now, and where the page stood when the key went down. */
+  #before = { start: 0, end: 0 };
+  #box = null;
+  /** What the area became is known already: the event about it tells others alone. */
+  #isOwn = false;
 
   breakpoints = new Breakpoints();
 
   constructor(model) {
     super();
     this.#model = model;
-    this.#text.addEventListener('input', (event) => this.#typed(event.inputType));
-    this.#text.addEventListener('beforeinput', (event) => this.#beforeInput(event));
-    this.#text.addEventListener('keydown', (event) => this.#pressed(event));
+    new EditorPointer(this, this.#sight, this.#area);
+    this.#area.addEventListener('input', (event) => this.#changed(event.inputType));
+    this.#area.addEventListener('beforeinput', (event) => this.#beforeInput(event));
+    this.#area.addEventListener('keydown', (event) => this.#pressed(event));
     // not every browser tells of a moved cursor by the first of these
     for (const name of ['selectionchange', 'keyup', 'pointerup']) {
       document.addEventListener(name, () => {
-        if (document.activeElement === this.#text) this.#tellCursor();
+        if (document.activeElement === this.#area) this.#tellCursor();
       });
     }
-    this.#scroller.addEventListener('scroll', () => this.#lookedAt(), { passive: true });
-    this.#scroller.addEventListener('pointerdown', (event) => this.#pointed(event));
-    new ResizeObserver(() => this.#resizedSight()).observe(this.#scroller);
+    byId('editor').addEventListener('pointerdown', (event) => this.#pointed(event));
     this.breakpoints.addEventListener('change', () => this.#drawRows());
+    this.#window.restart();
+    this.#drawRows();
+    document.fonts?.ready.then(() => this.#measure());
   }
 
+  #measure() {
+    this.#sight.column = this.#rows.measureColumn() || this.#sight.column;
+  }
+
+  // The text ------------------------------------------------------------------------------------------------------------------
+
   get text() {
-    return this.#text.value;
+    return this.#source.text;
   }
 
   /** Another text. It isn't told as an edit. */
   set text(text) {
-    if (text === this.#text.value) return;
-    this.#text.value = text;
-    this.#text.setSelectionRange(0, 0);
-    this.#before = text;
-    this.#resize();
+    if (text === this.#source.text) return;
+    this.#source.text = text;
+    this.#window.restart();
+    this.#fit();
+    this.#sight.center(1);
+    this.#drawRows();
+  }
+
+  get length() {
+    return this.#source.text.length;
   }
 
   get lines() {
-    return this.#lines;
+    return this.#source.lines;
   }
 
   get listing() {
     return this.#listing;
   }
 
+  /** The line that pc is at, or null. */
+  get here() {
+    return this.#here;
+  }
+
+  /** The places between which the text is selected, and in which direction. */
+  get selection() {
+    return this.#window.selection;
+  }
+
+  select(start, end, direction = 'none') {
+    this.#window.select(start, end, direction);
+    this.#tellCursor();
+  }
+
+  /** The cursor: its place, its line, and the characters before it in that line. */
+  get cursor() {
+    const place = this.#window.cursor;
+    const { line, start } = this.lineOf(place);
+    return { place, line, column: place - start, start };
+  }
+
   /** The number of the line with the cursor. */
   get line() {
-    return this.#text.value.slice(0, this.#text.selectionStart).split('\n').length;
+    return this.#source.lineAt(this.#window.cursor);
   }
+
+  /** The line of a place, and where that line begins. */
+  lineOf(place) {
+    const line = this.#source.lineAt(place);
+    return { line, start: this.#source.startOf(line) };
+  }
+
+  placeOf(line, column) {
+    return this.#source.startOf(line) + column;
+  }
+
+  focus() {
+    this.#area.focus({ preventScroll: true });
+  }
+
+  /** Forgets a selection that is out of sight: the pointer makes another one. */
+  leaveFar() {
+    this.#window.leaveFar();
+  }
+
+  // What is known of the lines ------------------------------------------------------------------------------------------------
 
   /** The lines with a fault, in order, and the code at the cursor's line, or null. */
   get faultLines() {
@@ -88,7 +145,11 @@ export class Editor extends EventTarget {
   }
 
   get fault() {
-    return this.#faults.get(this.line) ?? null;
+    return this.faultAt(this.line);
+  }
+
+  faultAt(line) {
+    return this.#faults.get(line) ?? null;
   }
 
   /** What is said of the fault of a line. */
@@ -101,8 +162,8 @@ export class Editor extends EventTarget {
     return this.#places.get(line) ?? null;
   }
 
-  focus() {
-    this.#text.focus();
+  coveredAt(line) {
+    return this.#covered.get(line);
   }
 
   /** The listing and the codes by line, once the program has answered. */
@@ -131,8 +192,10 @@ export class Editor extends EventTarget {
   showHere(line) {
     if (line === this.#here) return;
     this.#here = line;
-    this.#drawHere();
+    this.#rows.drawHere();
   }
+
+  // What is in sight ----------------------------------------------------------------------------------------------------------
 
   /** Brings the line that pc is at into sight. */
   revealHere() {
@@ -140,36 +203,31 @@ export class Editor extends EventTarget {
   }
 
   #reveal(line) {
-    if (this.#isInSight(line)) return;
-    this.#scroller.scrollTop = (line - 1) * ROW - this.#sight.height / 2;
-    this.#lookedAt();
+    if (this.#sight.holds(line)) return;
+    this.#sight.center(line);
+    this.#draw();
   }
 
-  #isInSight(line) {
-    const top = (line - 1) * ROW;
-    return top >= this.#sight.top && top + ROW <= this.#sight.top + this.#sight.height;
+  /** Brings the cursor into sight. */
+  revealCursor() {
+    const { line, column } = this.cursor;
+    if (this.#sight.reveal(line, columnOf(this.lines[line - 1], column))) this.#draw();
   }
 
   /** The line that pc is at stays in sight where it was, and comes into sight where the source was behind a tab. */
-  #resizedSight() {
-    const follows = this.#here !== null && (this.#sight.height === 0 || this.#isInSight(this.#here));
-    this.#lookedAt();
+  #resizedSight(before) {
+    if (before.height === 0) this.#measure();
+    const follows = this.#here !== null && (before.height === 0 || this.#sight.holds(this.#here, before));
     if (follows && this.#sight.height > 0) this.#reveal(this.#here);
-  }
-
-  /** Another part of the source is in sight. */
-  #lookedAt() {
-    this.#sight = { top: this.#scroller.scrollTop, height: this.#scroller.clientHeight };
     this.#draw();
   }
 
   goToLine(line) {
-    const place = this.#lines.slice(0, line - 1).reduce((sum, text) => sum + text.length + 1, 0);
-    this.#text.focus({ preventScroll: true });
-    this.#text.setSelectionRange(place, place);
+    const place = this.placeOf(line, 0);
+    this.focus();
+    this.select(place, place);
     this.#reveal(line);
-    this.#scroller.scrollLeft = 0;
-    this.#tellCursor();
+    this.#sight.toBegin();
   }
 
   /** To the next fault after the cursor's line, or the one before; round the end. */
@@ -180,201 +238,152 @@ export class Editor extends EventTarget {
     this.goToLine(found);
   }
 
+  #placeArea(first, last) {
+    const { style } = this.#area;
+    style.transform = `translateY(${(first - 1) * ROW}px)`;
+    style.height = `${(last - first + 2) * ROW}px`;
+  }
+
+  /** Makes room for the text as it is now. */
+  #fit() {
+    this.#sight.makeRoom(this.lines.length);
+    const widest = this.lines.reduce((most, line) => Math.max(most, widthOf(line)), 0);
+    this.#area.style.width = `${widest + 3}ch`;
+  }
+
+  #drawRows() {
+    this.#window.lookAt(...this.#sight.span);
+    this.#rows.draw(this.#sight);
+  }
+
+  #tellCursor() {
+    this.dispatchEvent(new Event('cursor'));
+  }
+
   // Typing --------------------------------------------------------------------------------------------------------------------
 
+  #pressed(event) {
+    if (event.defaultPrevented || event.isComposing || ['Control', 'Shift', 'Alt', 'Meta'].includes(event.key)) return;
+    this.#box = this.#sight.box;
+    this.#window.comeBack();
+    if (this.#keys.press(event)) event.preventDefault();
+  }
+
+  /** What is typed most is done here, at once with all that is drawn of it: the browser would lay the page out between. */
   #beforeInput(event) {
-    this.#selection = [this.#text.selectionStart, this.#text.selectionEnd];
-    if (event.inputType !== 'historyUndo' && event.inputType !== 'historyRedo') return;
+    const { start, end } = this.selection;
+    this.#before = { start, end };
+    const { inputType } = event;
+    if (inputType === 'historyUndo' || inputType === 'historyRedo') {
+      event.preventDefault();
+      this.undo(inputType === 'historyRedo');
+      return;
+    }
+    if (event.isComposing || this.#window.isComposing || !TYPED.includes(inputType)) return;
+    const part = partTyped(this.text, event, start, end);
+    if (part === null) return;
     event.preventDefault();
-    this.undo(event.inputType === 'historyRedo');
+    this.#put(part.start, part.end, part.text, inputType);
   }
 
-  /** The text of the area became another one. */
-  #typed(inputType) {
-    const { value, selectionStart, selectionEnd } = this.#text;
-    this.#model.textHistory.record(this.#before, value, {
-      selectionBefore: this.#selection,
-      selectionAfter: [selectionStart, selectionEnd],
+  /** The browser has changed the text of the area, or it was done here. */
+  #changed(inputType) {
+    if (this.#isOwn) return;
+    const was = this.lines;
+    this.#taken(was, this.#window.takeInput(), inputType);
+  }
+
+  /** Puts a text in place of a part, and tells of it as the browser tells of what is typed. */
+  #put(start, end, text, inputType) {
+    const was = this.lines;
+    const change = { ...difference(this.text.slice(start, end), text) };
+    this.#window.replace(start, end, text);
+    this.#taken(was, { ...change, at: start + change.at }, inputType);
+    this.#isOwn = true;
+    this.#area.dispatchEvent(new InputEvent('input', { inputType, data: text, bubbles: true }));
+    this.#isOwn = false;
+    this.#window.flush();
+  }
+
+  #taken(was, change, inputType) {
+    const { start, end } = this.selection;
+    this.#model.textHistory.add(change, {
+      selectionBefore: [this.#before.start, this.#before.end],
+      selectionAfter: [start, end],
       time: performance.now(),
-      isTyped: inputType === 'insertText' || inputType === 'deleteContentBackward' || inputType === 'deleteContentForward',
+      isTyped: TYPED.includes(inputType),
     });
-    this.#taken();
+    this.#follow(was);
   }
 
-  #taken() {
-    this.breakpoints.follow(this.#before, this.#text.value);
-    this.#before = this.#text.value;
-    this.#resize();
+  /** What goes with the text follows it. */
+  #follow(was) {
+    this.breakpoints.follow(was, this.lines);
+    this.#fit();
+    if (document.activeElement === this.#area) this.revealCursor();
+    this.#drawRows();
     this.dispatchEvent(new Event('edit'));
     this.#tellCursor();
   }
 
   /** Takes the last change back, or makes it again. */
   undo(isRedo = false) {
-    const found = isRedo ? this.#model.textHistory.redo(this.#text.value) : this.#model.textHistory.undo(this.#text.value);
+    const found = isRedo ? this.#model.textHistory.redo(this.text) : this.#model.textHistory.undo(this.text);
     if (found === null) return;
-    this.#text.value = found.text;
-    this.#text.setSelectionRange(...found.selection);
-    this.#taken();
+    const was = this.lines;
+    const { at, length, part } = found.change;
+    this.#window.replace(at, at + length, part);
+    this.#follow(was);
+    this.select(...found.selection);
     this.#reveal(this.line);
   }
 
   /** Puts a text in place of a part, as typing would. */
   replace(start, end, text) {
-    this.#selection = [this.#text.selectionStart, this.#text.selectionEnd];
-    this.#text.setRangeText(text, start, end, 'end');
-    this.#typed('replacement');
+    const { start: from, end: to } = this.selection;
+    this.#before = { start: from, end: to };
+    this.#put(start, end, text, 'insertReplacementText');
   }
 
-  #type(text) {
-    this.replace(this.#text.selectionStart, this.#text.selectionEnd, text);
-  }
-
-  #pressed(event) {
-    if (event.defaultPrevented || event.isComposing) return;
-    const control = event.ctrlKey || event.metaKey;
-    const isPlain = !control && !event.altKey;
-    const act = (action) => {
-      event.preventDefault();
-      action();
-    };
-    if (event.key === 'Tab' && isPlain && !event.shiftKey) act(() => this.#indent());
-    else if (event.key === 'Backspace' && isPlain) this.#outdent(event);
-    else if (event.key === 'Enter' && isPlain) act(() => this.#type(`\n${indentAfter(this.#lines[this.line - 1] ?? '')}`));
-    else if (event.key === 'Enter' && control) act(() => this.dispatchEvent(new CustomEvent('run', { detail: !event.shiftKey })));
-    else if (control && !event.altKey && event.code === 'KeyZ') act(() => this.undo(event.shiftKey));
-    else if (control && !event.altKey && event.code === 'KeyY') act(() => this.undo(true));
-  }
-
-  /** Spaces up to the next eighth column; where several lines are chosen, all of them are indented. */
-  #indent() {
-    const { value, selectionStart, selectionEnd } = this.#text;
-    const start = value.lastIndexOf('\n', selectionStart - 1) + 1;
-    if (!value.slice(selectionStart, selectionEnd).includes('\n')) {
-      this.#type(' '.repeat(TAB - ((selectionStart - start) % TAB)));
-      return;
-    }
-    const end = value[selectionEnd - 1] === '\n' ? selectionEnd - 1 : selectionEnd;
-    const indented = value.slice(start, end).replace(/^(?=.)/gm, ' '.repeat(TAB));
-    this.replace(start, end, indented);
-    this.#text.setSelectionRange(start, start + indented.length);
-  }
-
-  /** Takes an indent back whole, where nothing else stands before the cursor. */
-  #outdent(event) {
-    const { value, selectionStart, selectionEnd } = this.#text;
-    const length = selectionStart === selectionEnd ? outdentLength(value.slice(value.lastIndexOf('\n', selectionStart - 1) + 1, selectionStart)) : 0;
-    if (length < 2) return;
-    event.preventDefault();
-    this.replace(selectionStart - length, selectionStart, '');
+  type(text) {
+    const { start, end } = this.selection;
+    this.replace(start, end, text);
   }
 
   // Pointing ------------------------------------------------------------------------------------------------------------------
 
-  /** The line and the column, from 0, under a pointer. */
-  placeAt(event) {
-    const row = Math.floor((event.clientY - this.#scroller.getBoundingClientRect().top + this.#scroller.scrollTop) / ROW);
-    const box = this.#text.getBoundingClientRect();
-    const style = getComputedStyle(this.#text);
-    return { line: row + 1, column: (event.clientX - box.left - parseFloat(style.paddingLeft)) / this.columnWidth };
+  /** How far the text stands from its left edge, in pixels. */
+  get textIndent() {
+    return INDENT_COLUMNS * this.#sight.column;
   }
 
-  get columnWidth() {
-    return this.#measure.getBoundingClientRect().width / 100;
+  /** The line and the column, from 0, under a pointer. */
+  placeAt(event) {
+    const { line, x } = this.#sight.under(event);
+    return { line, column: (x - this.textIndent) / this.#sight.column };
+  }
+
+  /** Where a column of the cursor's line stands in the window, as it was when the last key went down; and how high a row is. */
+  pixelsOf(column) {
+    const { x, y } = this.#sight.pixelsOf(this.line, column, this.#box ?? this.#sight.box);
+    return { x: x + this.textIndent, y, row: ROW };
   }
 
   /** A press on a number makes a breakpoint; one elsewhere beside the text goes to that line. */
   #pointed(event) {
-    if (event.target === this.#text || event.button !== 0 || event.offsetX > this.#scroller.clientWidth) return;
-    const { line } = this.placeAt(event);
+    if (byId('paper').contains(event.target) || event.button !== 0 || event.offsetX > byId('editor').clientWidth) return;
+    const { line } = this.#sight.under(event);
     event.preventDefault();
-    if (event.target.closest?.('.number') && line <= this.#lines.length) this.breakpoints.toggle(line);
-    else this.goToLine(Math.max(1, Math.min(this.#lines.length, line)));
-  }
-
-  // Drawing -------------------------------------------------------------------------------------------------------------------
-
-  #resize() {
-    this.#lines = this.#text.value.split('\n');
-    for (const made of Object.values(this.#made)) if (made.size > MOST_MADE) made.clear();
-    const widest = this.#lines.reduce((most, line) => Math.max(most, widthOf(line)), 0);
-    this.#text.style.height = `${(this.#lines.length + 1) * ROW}px`;
-    this.#text.style.width = `${widest + 3}ch`;
-    this.#drawRows();
-  }
-
-  /** Makes the rows that are in sight, or nearly so. */
-  #drawRows() {
-    const { top, height } = this.#sight;
-    const first = Math.max(0, Math.floor(top / ROW) - SPARE_ROWS);
-    const last = Math.min(this.#lines.length, Math.ceil((top + height) / ROW) + SPARE_ROWS);
-    this.#rows = new Map();
-    const [bands, marks, colours] = [[this.#band], [this.#measure], []];
-    for (let line = first + 1; line <= last; line += 1) {
-      const text = this.#lines[line - 1];
-      this.#rows.set(line, this.#gutterRow(line));
-      colours.push(this.#row('colours', line, text, () => coloured(text)));
-      if (!this.#faults.has(line)) continue;
-      bands.push(at(line, element('div', { className: 'faulty' })));
-      marks.push(...this.#faultMarks(line, text));
-    }
-    setChildren(this.#layers.gutter, [...this.#rows.values()]);
-    setChildren(this.#layers.bands, bands);
-    setChildren(this.#layers.colours, colours);
-    setChildren(this.#layers.marks, marks);
-    this.#drawHere();
-  }
-
-  /** The row that was made of the same text for that line, or a new one. */
-  #row(kind, line, text, make) {
-    const known = this.#made[kind].get(line);
-    if (known?.text === text) return known.row;
-    const row = at(line, make());
-    this.#made[kind].set(line, { text, row });
-    return row;
-  }
-
-  /** What is wrong with a line, after it; and a line under the tokens where it is, once the program has said so. */
-  #faultMarks(line, text) {
-    const told = at(line, element('span', { className: 'told', textContent: `${this.#faults.get(line)}: ${this.faultText(line)}` }));
-    told.style.left = `${widthOf(text) + 2}ch`;
-    const place = this.#places.get(line);
-    if (place === undefined) return [told];
-    const underline = at(line, element('span', { className: 'underline' }));
-    const from = columnOf(text, place.start);
-    underline.style.left = `${from}ch`;
-    underline.style.width = `${Math.max(1, columnOf(text, place.end) - from)}ch`;
-    return [told, underline];
-  }
-
-  /** Marks the line that pc is at, and no other. */
-  #drawHere() {
-    const row = this.#rows.get(this.#here);
-    for (const other of this.#layers.gutter.querySelectorAll('.here')) if (other !== row) other.classList.remove('here');
-    row?.classList.add('here');
-    if (this.#band.hidden !== (this.#here === null)) this.#band.hidden = this.#here === null;
-    at(this.#here ?? 1, this.#band);
-  }
-
-  #gutterRow(line) {
-    const fault = this.#faults.get(line);
-    const { address, field } = this.#listing[line - 1] ?? { address: null, field: '' };
-    const shown = address === null ? (this.#listing[line - 1] ? '----' : '') : hex(address, 4);
-    const kinds = ['row', fault !== undefined && 'faulty', this.breakpoints.has(line) && 'break', this.#covered.has(line) && 'covered'];
-    const [name, title] = [kinds.filter(Boolean).join(' '), this.#covered.get(line) ?? ''];
-    const part = (className, textContent) => element('span', { className, textContent });
-    return this.#row('gutter', line, [name, title, shown, fault ?? field].join('|'), () =>
-      element('div', { className: name, title }, part('number', line), part('address', shown), part('field', fault ?? field)),
-    );
-  }
-
-  #tellCursor() {
-    this.dispatchEvent(new Event('cursor'));
+    if (event.target.closest?.('.number') && line <= this.lines.length) this.breakpoints.toggle(line);
+    else this.goToLine(Math.max(1, Math.min(this.lines.length, line)));
   }
 }
 
-/** Puts an element at the height of a line. */
-function at(line, made) {
-  made.style.transform = `translateY(${(line - 1) * ROW}px)`;
-  return made;
+/** The part that a key takes out and what it puts in its place; null for what only the browser knows, such as a whole sign of several characters. */
+function partTyped(text, { inputType, data }, start, end) {
+  if (inputType === 'insertText') return data === null ? null : { start, end, text: data.replace(/\r\n?/g, '\n') };
+  if (start !== end) return { start, end, text: '' };
+  const at = inputType === 'deleteContentBackward' ? start - 1 : start;
+  if (at < 0 || at >= text.length) return null;
+  return /^[\t\n -~]+$/.test(text.slice(Math.max(0, at - 1), at + 2)) ? { start: at, end: at + 1, text: '' } : null;
 }

@@ -1,6 +1,6 @@
 // The events of the keys near the step looked at, each of which can be changed.
 
-import { byId, element, grouped, oncePerFrame, setText } from './dom.mjs';
+import { byId, element, grouped, oncePerFrame, setProperty, setText, setTitle } from './dom.mjs';
 import { hex } from './answers.mjs';
 import { KEYS } from './key_script.mjs';
 
@@ -24,7 +24,7 @@ export class EventsView {
   constructor(model) {
     this.#model = model;
     model.addEventListener('change', ({ detail }) => {
-      if (detail !== 'step') this.#draw();
+      if (detail === 'keys' || detail === 'lastStep') this.#draw();
     });
     this.#form.elements.key.append(...keyOptions(0));
     this.#form.addEventListener('submit', (event) => {
@@ -46,10 +46,10 @@ export class EventsView {
 
   #drawButtons() {
     const { keyHistory } = this.#model;
-    this.#buttons['undo-keys'].disabled = !keyHistory.canUndo;
-    this.#buttons['redo-keys'].disabled = !keyHistory.canRedo;
-    this.#buttons['undo-play'].hidden = keyHistory.lastPlay < 2;
-    this.#buttons['undo-play'].title = `Undoes all ${keyHistory.lastPlay} changes that the last play recorded`;
+    setProperty(this.#buttons['undo-keys'], 'disabled', !keyHistory.canUndo);
+    setProperty(this.#buttons['redo-keys'], 'disabled', !keyHistory.canRedo);
+    setProperty(this.#buttons['undo-play'], 'hidden', keyHistory.lastPlay < 2);
+    setTitle(this.#buttons['undo-play'], `Undoes all ${keyHistory.lastPlay} changes that the last play recorded`);
   }
 
   #drawRows() {
@@ -59,8 +59,8 @@ export class EventsView {
     const told = keys.size === 0 ? 'no events: press keys while it plays' : `${grouped(keys.size)} ${keys.size === 1 ? 'event' : 'events'}`;
     setText(this.#state, told);
     const { elements } = this.#form;
-    elements.step.max = lastStep;
-    if (!this.#form.contains(document.activeElement)) elements.step.value = step;
+    setProperty(elements.step, 'max', String(lastStep));
+    if (!this.#form.contains(document.activeElement)) setProperty(elements.step, 'value', String(step));
     if (this.#rows.contains(document.activeElement) && this.#rows.querySelector(':focus')?.matches('input, select')) return;
     const next = keys.events.findIndex((event) => event.step > step);
     const middle = next < 0 ? keys.size : next;

@@ -261,7 +261,7 @@ class Page {
 
   /** All parts are drawn from the answers to the same questions, in one go. */
   #show({ isNew }) {
-    const { machine, assembled, took } = this.viewer;
+    const { machine, assembled } = this.viewer;
     document.body.toggleAttribute('data-stale', machine.code !== null);
     if (isNew) this.#showText(assembled);
     this.screen.show(machine);
@@ -274,7 +274,6 @@ class Page {
     this.#tellEffect(machine);
     takeAway('fault');
     setText(byId('last-step'), `of ${grouped(this.workbench.lastStep)}`);
-    setText(byId('work-state'), `Answered in ${took < 10 ? took.toFixed(1) : Math.round(took)} ms.`);
     const isStopped = machine.code === null && machine.registers.state !== 'run';
     if (isStopped && this.player.direction > 0) this.player.play(0);
     this.sound.sound(this.player.direction > 0 && machine.code === null && machine.registers.st > 0);

@@ -69,8 +69,9 @@ export function programLines(text, encoding) {
   const lines = text.split('\n');
   if (lines[lines.length - 1] === '') lines.pop();
   const withheld = new Map();
+  const isPlain = /^[\u0000-\u007f]*$/.test(text);
   const given = lines.slice(0, MOST_LINES).map((line, place) => {
-    const bytes = encodeText(line, encoding);
+    const bytes = isPlain ? line : encodeText(line, encoding);
     if (bytes.length <= LINE_BYTES) return bytes;
     withheld.set(place + 1, 'N2');
     return '';

@@ -1,6 +1,7 @@
 // What was typed, to be undone and made again: by words, and by pauses.
 
 import { History } from './history.mjs';
+import { difference } from './source_text.mjs';
 
 const PAUSE_MILLISECONDS = 1000;
 const MOST_CHANGES = 1000;
@@ -22,10 +23,15 @@ export class TextHistory extends History {
     return history;
   }
 
-  /** A text became another one. `isTyped` says that it may be one change with the typing before. */
-  record(before, after, { selectionBefore, selectionAfter, time, isTyped }) {
-    const change = { ...difference(before, after), selectionBefore, selectionAfter };
-    if (change.removed === '' && change.inserted === '') return;
+  /** A text became another one. */
+  record(before, after, how) {
+    this.add(difference(before, after), how);
+  }
+
+  /** A part of a text became another one. `isTyped` says that it may be one change with the typing before. */
+  add({ at, removed, inserted }, { selectionBefore, selectionAfter, time, isTyped }) {
+    if (removed === '' && inserted === '') return;
+    const change = { at, removed, inserted, selectionBefore, selectionAfter };
     this.undone = [];
     const joined = isTyped && time - this.#time < PAUSE_MILLISECONDS ? joinedChange(this.done.at(-1), change) : null;
     if (joined === null) this.done.push(change);
@@ -42,20 +48,20 @@ export class TextHistory extends History {
     }
   }
 
-  /** The text and the selection before the last change, or null where there is none. */
+  /** The text and the selection before the last change, and that change; or null where there is none. */
   undo(text) {
     const change = this.#move(this.done, this.undone);
     if (change === null) return null;
     if (!holds(text, change.at, change.inserted)) return this.#forget();
-    return { text: replaced(text, change.at, change.inserted.length, change.removed), selection: change.selectionBefore };
+    return result(text, { at: change.at, length: change.inserted.length, part: change.removed }, change.selectionBefore);
   }
 
-  /** The text and the selection after the change that was undone last, or null. */
+  /** The text and the selection after the change that was undone last, and that change; or null. */
   redo(text) {
     const change = this.#move(this.undone, this.done);
     if (change === null) return null;
     if (!holds(text, change.at, change.removed)) return this.#forget();
-    return { text: replaced(text, change.at, change.removed.length, change.inserted), selection: change.selectionAfter };
+    return result(text, { at: change.at, length: change.removed.length, part: change.inserted }, change.selectionAfter);
   }
 
   #move(from, to) {
@@ -74,16 +80,9 @@ export class TextHistory extends History {
 }
 
 const holds = (text, at, part) => text.slice(at, at + part.length) === part;
-const replaced = (text, at, length, part) => text.slice(0, at) + part + text.slice(at + length);
 
-function difference(before, after) {
-  let front = 0;
-  const shorter = Math.min(before.length, after.length);
-  while (front < shorter && before[front] === after[front]) front += 1;
-  let back = 0;
-  while (back < shorter - front && before[before.length - 1 - back] === after[after.length - 1 - back]) back += 1;
-  return { at: front, removed: before.slice(front, before.length - back), inserted: after.slice(front, after.length - back) };
-}
+/** `change` says where, how much goes, and what stands there then. */
+const result = (text, change, selection) => ({ text: text.slice(0, change.at) + change.part + text.slice(change.at + change.length), change, selection });
 
 /** One change for two, where the second goes on with the typing or the deleting of the first within a word; else null. */
 function joinedChange(last, next) {

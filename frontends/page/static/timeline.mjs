@@ -34,7 +34,9 @@ export class Timeline {
     }
     this.#closeUp.addEventListener('wheel', (event) => this.#wheeled(event), { passive: false });
     this.#zoom.addEventListener('change', this.#draw);
-    model.addEventListener('change', this.#draw);
+    model.addEventListener('change', ({ detail }) => {
+      if (detail !== 'text' && detail !== 'breakpoints') this.#draw();
+    });
     onTheme(this.#draw);
     this.#draw();
   }

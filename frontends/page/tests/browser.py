@@ -14,6 +14,7 @@ from browser_page import PROVED, TOP
 from browser_run import RunTests
 from browser_shape import ShapeTests
 from browser_source import SourceTests
+from browser_typing import TypingTests
 from chromium import Chromium
 from driver import Browser
 from firefox import Firefox
@@ -21,7 +22,7 @@ from firefox import Firefox
 BROWSERS = {"chromium": Chromium, "firefox": Firefox}
 
 
-class Tests(SourceTests, RunTests, FileTests, ShapeTests):
+class Tests(SourceTests, TypingTests, RunTests, FileTests, ShapeTests):
     """Each method whose name begins with `test_` is one test."""
 
 

@@ -101,7 +101,10 @@ class Chromium(Browser):
         self.call("Emulation.setEmulatedMedia", features=[{"name": "prefers-color-scheme", "value": name}])
 
     def key_down(self, key: str, code: str = "", modifiers: int = 0, text: str = "") -> None:
-        codes = {"Tab": 9, "Enter": 13, "Escape": 27, "Backspace": 8, "ArrowLeft": 37, "ArrowRight": 39, "Home": 36, "End": 35, "Delete": 46}
+        codes = {
+            "Tab": 9, "Enter": 13, "Escape": 27, "Backspace": 8, "PageUp": 33, "PageDown": 34, "End": 35, "Home": 36,
+            "ArrowLeft": 37, "ArrowUp": 38, "ArrowRight": 39, "ArrowDown": 40, "Delete": 46,
+        }  # fmt: skip
         number = codes.get(key, ord(key.upper()) if len(key) == 1 else 0)
         kind = "keyDown" if text else "rawKeyDown"
         self.call(
@@ -138,6 +141,10 @@ class Chromium(Browser):
         nodes = self.call("Accessibility.getFullAXTree")["nodes"]
         named = [node for node in nodes if node.get("role", {}).get("value") in NAMED_ROLES and not node.get("ignored")]
         return [node for node in named if not node.get("name", {}).get("value")]
+
+    def layouts(self) -> int | None:
+        self.call("Performance.enable")
+        return next(round(metric["value"]) for metric in self.call("Performance.getMetrics")["metrics"] if metric["name"] == "LayoutCount")
 
     def close(self) -> None:
         with contextlib.suppress(Exception):

@@ -98,5 +98,9 @@ class Browser:
         """What can be pressed or typed into and has no name for who hears the page; nothing where the browser doesn't tell."""
         return []
 
+    def layouts(self) -> int | None:
+        """How often the page was laid out so far; none where the browser doesn't tell."""
+        return None
+
     def close(self) -> None:
         raise NotImplementedError

@@ -12,9 +12,11 @@ import { readPlaces } from '../static/fault_places.mjs';
 import { readGame, writeGame } from '../static/game_file.mjs';
 import { encodeGif } from '../static/gif.mjs';
 import { KeyScript } from '../static/key_script.mjs';
+import { nearestPlace, wordAround } from '../static/editor_pointer.mjs';
 import { DIRECTIVES, INSTRUCTIONS, MNEMONICS, REGISTERS, tokensOf } from '../static/language.mjs';
 import { Model } from '../static/model.mjs';
 import { Names } from '../static/names.mjs';
+import { difference, SourceText } from '../static/source_text.mjs';
 import { TextHistory } from '../static/text_history.mjs';
 
 /** A generator of numbers below a bound, the same in each run. */
@@ -124,11 +126,11 @@ test('keys: the dragging of an event is one change', () => {
 test('breakpoints go along with their lines', () => {
   const breakpoints = new Breakpoints();
   breakpoints.set([2, 4]);
-  breakpoints.follow('A\nB\nC\nD', 'A\nX\nB\nC\nD');
+  breakpoints.follow(['A', 'B', 'C', 'D'], ['A', 'X', 'B', 'C', 'D']);
   assert.deepEqual(breakpoints.lines, [3, 5]);
-  breakpoints.follow('A\nX\nB\nC\nD', 'A\nX\nB\nD');
+  breakpoints.follow(['A', 'X', 'B', 'C', 'D'], ['A', 'X', 'B', 'D']);
   assert.deepEqual(breakpoints.lines, [3, 4]);
-  breakpoints.follow('A\nX\nB\nD', 'A\nX\nB!\nD');
+  breakpoints.follow(['A', 'X', 'B', 'D'], ['A', 'X', 'B!', 'D']);
   assert.deepEqual(breakpoints.lines, [3, 4]);
 });
 
@@ -252,4 +254,37 @@ test('gif: the pictures are those that were written', () => {
   }
   const large = encodeGif({ frames: [Uint8Array.of(1, 0)], width: 2, height: 1, scale: 2, colours: ['#000000', '#ffffff'], hundredths: 3 });
   assert.deepEqual(framesOf(large), [[1, 1, 0, 0, 1, 1, 0, 0]]);
+});
+
+// The text of the editor ---------------------------------------------------------------------------------------------------------
+
+test('text: parts that are replaced give the lines and places of the whole text', () => {
+  const random = generator(11);
+  const source = new SourceText();
+  let text = '';
+  for (let round = 0; round < 500; round += 1) {
+    const [one, other] = [random(text.length + 1), random(text.length + 1)];
+    const [start, end] = [Math.min(one, other), Math.max(one, other)];
+    const part = Array.from({ length: random(9) }, () => 'ab\n'[random(3)]).join('');
+    const lines = source.lines;
+    const before = lines.join('\n');
+    source.replace(start, end, part);
+    assert.equal(lines.join('\n'), before);
+    const { at, removed, inserted } = difference(text, source.text);
+    assert.equal(text.slice(0, at) + inserted + text.slice(at + removed.length), source.text);
+    text = text.slice(0, start) + part + text.slice(end);
+    assert.equal(source.text, text);
+    assert.deepEqual(source.lines, text.split('\n'));
+    const place = random(text.length + 1);
+    const line = text.slice(0, place).split('\n').length;
+    assert.equal(source.lineAt(place), line);
+    assert.equal(source.startOf(line), text.split('\n').slice(0, line - 1).join('\n').length + (line > 1 ? 1 : 0));
+  }
+});
+
+test('text: the place under a pointer, and the word around it', () => {
+  const wide = (part) => [...part].reduce((sum, character) => sum + (character > '\u2fff' ? 20 : 10), 0);
+  assert.deepEqual([0, 14, 16, 99].map((x) => nearestPlace('LD V0', x, 10, wide)), [0, 1, 2, 5]);
+  assert.deepEqual([0, 9, 11, 31, 49].map((x) => nearestPlace('\u5b57\u5b57a', x, 10, wide)), [0, 0, 1, 2, 3]);
+  assert.deepEqual([wordAround('LD V0, 5', 4), wordAround('LD V0, 5', 5), wordAround('LD V0, 5', 6), wordAround('', 0)], [[3, 5], [3, 5], [6, 7], [0, 0]]);
 });

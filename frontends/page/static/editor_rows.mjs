@@ -1,0 +1,107 @@
+// What is drawn of the source around the text area: numbers, addresses and bytes, colours, faults, and the line that pc is at. Only
+// the rows in sight, or nearly so, are there.
+
+import { byId, element, setChildren } from './dom.mjs';
+import { hex } from './answers.mjs';
+import { columnOf, widthOf } from './columns.mjs';
+import { coloured } from './colours.mjs';
+
+export const ROW = 20;
+const SPARE_ROWS = 12;
+/** More rows than these aren't kept. */
+const MOST_MADE = 1000;
+
+export class EditorRows {
+  #content;
+  #layers = Object.fromEntries(['gutter', 'bands', 'colours', 'marks'].map((name) => [name, byId(name)]));
+  #rows = new Map();
+  /** The rows as they were made, by their line, each with the text that it was made of. */
+  #made = { gutter: new Map(), colours: new Map() };
+  #band = element('div', { className: 'here', hidden: true });
+  /** A hundred columns, to know how wide one is. */
+  #measure = element('span', { className: 'measure', textContent: '0'.repeat(100) });
+
+  /** `content` is the editor: the lines, and what is known of each. */
+  constructor(content) {
+    this.#content = content;
+  }
+
+  measureColumn() {
+    return this.#measure.getBoundingClientRect().width / 100;
+  }
+
+  /** Draws the rows that are in sight. */
+  draw({ top, height }) {
+    const { lines } = this.#content;
+    const first = Math.max(0, Math.floor(top / ROW) - SPARE_ROWS);
+    const last = Math.min(lines.length, Math.ceil((top + height) / ROW) + SPARE_ROWS);
+    for (const made of Object.values(this.#made)) if (made.size > MOST_MADE) made.clear();
+    this.#rows = new Map();
+    const [bands, marks, colours] = [[this.#band], [this.#measure], []];
+    for (let line = first + 1; line <= last; line += 1) {
+      const text = lines[line - 1];
+      this.#rows.set(line, this.#gutterRow(line));
+      colours.push(this.#row('colours', line, text, () => coloured(text)));
+      if (this.#content.faultAt(line) === null) continue;
+      bands.push(at(line, element('div', { className: 'faulty' })));
+      marks.push(...this.#faultMarks(line, text));
+    }
+    setChildren(this.#layers.gutter, [...this.#rows.values()]);
+    setChildren(this.#layers.bands, bands);
+    setChildren(this.#layers.colours, colours);
+    setChildren(this.#layers.marks, marks);
+    this.drawHere();
+  }
+
+  /** Marks the line that pc is at, and no other. */
+  drawHere() {
+    const { here } = this.#content;
+    const row = this.#rows.get(here);
+    for (const other of this.#layers.gutter.querySelectorAll('.here')) if (other !== row) other.classList.remove('here');
+    row?.classList.add('here');
+    if (this.#band.hidden !== (here === null)) this.#band.hidden = here === null;
+    at(here ?? 1, this.#band);
+  }
+
+  /** The row that was made of the same text for that line, or a new one. */
+  #row(kind, line, text, make) {
+    const known = this.#made[kind].get(line);
+    if (known?.text === text) return known.row;
+    const row = at(line, make());
+    this.#made[kind].set(line, { text, row });
+    return row;
+  }
+
+  /** What is wrong with a line, after it; and a line under the tokens where it is, once the program has said so. */
+  #faultMarks(line, text) {
+    const told = at(line, element('span', { className: 'told', textContent: `${this.#content.faultAt(line)}: ${this.#content.faultText(line)}` }));
+    told.style.left = `${widthOf(text) + 2}ch`;
+    const place = this.#content.faultPlace(line);
+    if (place === null) return [told];
+    const underline = at(line, element('span', { className: 'underline' }));
+    const from = columnOf(text, place.start);
+    underline.style.left = `${from}ch`;
+    underline.style.width = `${Math.max(1, columnOf(text, place.end) - from)}ch`;
+    return [told, underline];
+  }
+
+  #gutterRow(line) {
+    const fault = this.#content.faultAt(line);
+    const { address, field } = this.#content.listing[line - 1] ?? { address: null, field: '' };
+    const shown = address === null ? (this.#content.listing[line - 1] ? '----' : '') : hex(address, 4);
+    const covered = this.#content.coveredAt(line);
+    const kinds = ['row', fault !== null && 'faulty', this.#content.breakpoints.has(line) && 'break', covered !== undefined && 'covered'];
+    const [name, title] = [kinds.filter(Boolean).join(' '), covered ?? ''];
+    const part = (className, textContent) => element('span', { className, textContent });
+    return this.#row('gutter', line, [name, title, shown, fault ?? field].join('|'), () =>
+      element('div', { className: name, title }, part('number', line), part('address', shown), part('field', fault ?? field)),
+    );
+  }
+}
+
+/** Puts an element at the height of a line. */
+function at(line, made) {
+  const place = `translateY(${(line - 1) * ROW}px)`;
+  if (made.style.transform !== place) made.style.transform = place;
+  return made;
+}
