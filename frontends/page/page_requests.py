@@ -26,7 +26,12 @@ OPTION_VALUES = {
     "every": re.compile(r"[0-9]{1,9}"),
 }
 WORDS = ("dis", "explain", "check", "trace", "test")
-NAMES = ("about", "open", "ask", "search", "word", "keys", "files", "read", "save")
+NAMES = ("about", "open", "ask", "search", "word", "keys", "files", "read", "save", "example")
+# the examples that the page begins with, and the step of the picture of each
+EXAMPLES = {"bounce": 300, "breaker": 3000, "maze": 3000}
+TOP = Path(__file__).resolve().parents[1]
+#: in the repository, and where it is installed
+EXAMPLE_FOLDERS = (TOP.parent / "examples", TOP.parent / "doc/chipbench/examples")
 TAKEN = "another window has started the program anew"
 
 
@@ -136,6 +141,20 @@ class Bridge:
         source = self._files.source
         found = {"name": None, "path": None, "text": None, "digest": None} if source is None else self._read(source.name)
         return {**found, "isImage": False}
+
+    def example(self, request: dict[str, Any]) -> dict[str, Any]:
+        """A game to begin with: its text, and the screen after some steps as `run` prints it, or none without such a file."""
+        name = request.get("name")
+        if name not in EXAMPLES:
+            raise Refused(400, "no such example")
+        for folder in EXAMPLE_FOLDERS:
+            content = read_file(folder / f"{name}.asm")
+            if content is None:
+                continue
+            status, output, _ = run_once([self._program, "run", str(folder / f"{name}.asm"), "--steps", str(EXAMPLES[name])])
+            shown_rows = output.decode("latin-1").split("\n", 3)[3] if status == 0 else None
+            return {"text": content.decode("latin-1"), "screen": shown_rows}
+        return {"text": None, "screen": None}
 
     def about(self, _: dict[str, Any]) -> dict[str, Any]:
         """What the page was opened on, and what the program takes."""

@@ -36,6 +36,8 @@ export class AboutLine {
     this.#count.classList.toggle('some', lines.length > 0);
     setText(this.#count, lines.length === 0 ? 'no faults' : `${lines.length} ${lines.length === 1 ? 'fault' : 'faults'}, the first in line ${lines[0]}`);
     setProperty(this.#next, 'hidden', lines.length === 0);
+    setProperty(byId('faults-badge'), 'hidden', lines.length === 0);
+    setText(byId('faults-badge'), String(lines.length));
   }
 
   #tellLine() {

@@ -1,34 +1,38 @@
-// How the page looks: its colours, the widths of its parts, and which part is shown where there is room for one. The browser keeps colours and widths.
+// How the page looks: its colours, the width of the machine, which panel is shown, and whether the bytes are. The browser keeps it.
 
 import { byId, themeChanged } from './dom.mjs';
 
 const KEPT = 'chipbench-page, appearance';
 const THEMES = { system: '(prefers-color-scheme: dark)', light: 'not all', dark: 'all' };
-const SCREENS = ['theme', 'white', 'green', 'amber', 'lcd'];
+export const SCREENS = ['theme', 'white', 'green', 'amber', 'lcd', 'paper'];
 const STEP_PIXELS = 24;
-const LEAST_PIXELS = 200;
-/** For each splitter: the width that it sets, and whether the part lies before it. */
-const SPLITTERS = [
-  { id: 'split-source', width: '--source-width', of: 'source-part', isBefore: true },
-  { id: 'split-machine', width: '--machine-width', of: 'machine-column', isBefore: false },
-];
+const LEAST_PIXELS = 280;
+const MOST_OF_WIDTH = 0.7;
+const MACHINE = '--machine-width';
+const TABS = ['words', 'stack', 'memory', 'sprite', 'keys', 'search'];
 
 const system = matchMedia(THEMES.system);
-/** Where the source is behind a tab, as in style.css. */
-const narrow = matchMedia('(max-width: 699px)');
+/** Where the source is behind a tab, as in sizes.css. */
+const compact = matchMedia('(max-width: 999px), (max-height: 599px)');
 
-export class Appearance {
+export class Appearance extends EventTarget {
   #kept = kept();
+  #tabs = [...document.querySelectorAll('#tabs [role=tab]')];
 
   constructor() {
-    for (const splitter of SPLITTERS) this.#listen(splitter);
-    for (const tab of document.querySelectorAll('#tabs [role=tab]')) tab.addEventListener('click', () => this.showTab(tab.dataset.tab));
+    super();
+    this.#listenToSplitter(byId('split-source'));
+    for (const tab of this.#tabs) tab.addEventListener('click', () => this.showTab(tab.dataset.tab));
     byId('tabs').addEventListener('keydown', (event) => this.#moveTab(event));
     byId('full-screen').addEventListener('click', () => this.#toggleFullScreen());
+    byId('switch-theme').addEventListener('click', () => this.#keep({ theme: this.#isDark ? 'light' : 'dark' }));
+    byId('bytes').addEventListener('click', () => this.#keep({ bytes: !this.#kept.bytes }));
     system.addEventListener('change', themeChanged);
-    narrow.addEventListener('change', () => this.showTab(document.body.dataset.tab));
+    compact.addEventListener('change', () => this.#markTab());
+    addEventListener('resize', () => this.#apply());
     this.#apply();
-    this.showTab(document.body.dataset.tab);
+    document.body.dataset.tab = this.#kept.tab;
+    this.#markTab();
   }
 
   get theme() {
@@ -39,25 +43,44 @@ export class Appearance {
     return this.#kept.screen;
   }
 
+  get #isDark() {
+    return this.#kept.theme === 'dark' || (this.#kept.theme === 'system' && system.matches);
+  }
+
   choose({ theme, screen }) {
     this.#keep({ theme, screen });
   }
 
+  /** The panel that is in sight; the source hides it where that is one of the tabs. */
+  get tab() {
+    return compact.matches && document.body.dataset.pane === 'source' ? 'source' : document.body.dataset.tab;
+  }
+
+  /** Shows a panel, or the source where that is behind a tab. */
   showTab(name) {
-    document.body.dataset.tab = name;
-    // a source that has a place of its own leaves the one below the timeline to the machine
-    const shown = name === 'source' && !narrow.matches ? 'machine' : name;
-    for (const tab of document.querySelectorAll('#tabs [role=tab]')) {
-      tab.setAttribute('aria-selected', String(tab.dataset.tab === shown));
-      tab.tabIndex = tab.dataset.tab === shown ? 0 : -1;
+    document.body.dataset.pane = name === 'source' ? 'source' : 'panel';
+    if (TABS.includes(name)) {
+      document.body.dataset.tab = name;
+      this.#keep({ tab: name });
     }
+    this.#markTab();
+  }
+
+  #markTab() {
+    const { tab } = this;
+    for (const one of this.#tabs) {
+      one.setAttribute('aria-selected', String(one.dataset.tab === tab));
+      one.tabIndex = one.dataset.tab === tab ? 0 : -1;
+    }
+    this.#tabs.find((one) => one.dataset.tab === tab)?.scrollIntoView({ block: 'nearest', inline: 'nearest' });
+    this.dispatchEvent(new Event('tab'));
   }
 
   #moveTab(event) {
     const by = { ArrowLeft: -1, ArrowRight: 1 }[event.key];
     if (by === undefined) return;
     event.preventDefault();
-    const tabs = [...event.currentTarget.children].filter((tab) => tab.checkVisibility());
+    const tabs = this.#tabs.filter((tab) => tab.checkVisibility());
     const next = tabs[(tabs.indexOf(document.activeElement) + by + tabs.length) % tabs.length];
     this.showTab(next.dataset.tab);
     next.focus();
@@ -74,19 +97,20 @@ export class Appearance {
   }
 
   #apply() {
-    const { theme, screen } = this.#kept;
+    const { theme, screen, bytes } = this.#kept;
+    const root = document.documentElement;
     byId('dark-theme').media = THEMES[theme];
-    document.documentElement.dataset.screen = screen;
-    for (const { width } of SPLITTERS) {
-      const pixels = this.#kept[width];
-      if (Number.isFinite(pixels)) document.documentElement.style.setProperty(width, `${Math.max(LEAST_PIXELS, Math.min(innerWidth / 2, pixels))}px`);
-    }
+    root.dataset.screen = screen;
+    root.dataset.bytes = bytes ? 'shown' : 'hidden';
+    byId('bytes').setAttribute('aria-pressed', String(bytes));
+    const pixels = this.#kept[MACHINE];
+    if (Number.isFinite(pixels)) root.style.setProperty(MACHINE, `${Math.max(LEAST_PIXELS, Math.min(MOST_OF_WIDTH * innerWidth, pixels))}px`);
     themeChanged();
   }
 
-  #listen({ id, width, of, isBefore }) {
-    const splitter = byId(id);
-    const move = (change) => this.#keep({ [width]: byId(of).getBoundingClientRect().width + (isBefore ? change : -change) });
+  /** The border between the columns. */
+  #listenToSplitter(splitter) {
+    const move = (change) => this.#keep({ [MACHINE]: byId('screen-part').getBoundingClientRect().width - change });
     splitter.addEventListener('pointerdown', (event) => splitter.setPointerCapture(event.pointerId));
     splitter.addEventListener('pointermove', (event) => {
       if (!splitter.hasPointerCapture(event.pointerId)) return;
@@ -114,5 +138,12 @@ function kept() {
   } catch {
     // as at the start
   }
-  return { ...read, theme: read?.theme in THEMES ? read.theme : 'system', screen: SCREENS.includes(read?.screen) ? read.screen : 'theme' };
+  const { theme, screen, tab, bytes } = read ?? {};
+  return {
+    [MACHINE]: read?.[MACHINE],
+    theme: theme in THEMES ? theme : 'system',
+    screen: SCREENS.includes(screen) ? screen : 'theme',
+    tab: TABS.includes(tab) ? tab : 'words',
+    bytes: bytes !== false,
+  };
 }

@@ -1,6 +1,6 @@
-// The call stack: where the run is, and where each call returns to, with names.
+// The call stack: where the run is, and where each call returns to, with names; and the flag registers.
 
-import { byId, element } from './dom.mjs';
+import { byId, element, setText } from './dom.mjs';
 import { hex } from './answers.mjs';
 
 export class CallStackView {
@@ -14,6 +14,7 @@ export class CallStackView {
 
   show({ code, registers }, { names, map }) {
     if (code !== null) return;
+    setText(byId('flags'), `flags ${registers.flags.map((flag) => hex(flag, 2)).join(' ')}`);
     const told = [registers.pc, ...registers.stack.toReversed()].map((address, place) => [address, names.told(address), map.lineAt(address), place]);
     if (JSON.stringify(told) === this.#told) return;
     this.#told = JSON.stringify(told);

@@ -19,7 +19,7 @@ export class DisassemblyView {
     const head = element('tr', {}, ...HEAD.map((name) => element('th', { textContent: name, scope: 'col' })));
     const columns = HEAD.map(() => element('col'));
     const table = element('table', {}, element('colgroup', {}, ...columns), element('thead', { className: 'unseen' }, head), this.#body);
-    table.setAttribute('aria-labelledby', 'disassembly-title');
+    table.setAttribute('aria-label', 'Words around pc, with their lines');
     byId('disassembly').append(table);
   }
 

@@ -9,7 +9,9 @@ import { Store, tabDocument } from './store.mjs';
 import { TextHistory } from './text_history.mjs';
 import { readFile, writeFile } from './text_form.mjs';
 
+/** The slot of a document that was never in a file, and what it is called. */
 const WITHOUT_NAME = 'without a file';
+const UNTITLED = 'untitled';
 
 /**
  * A document: its name, the slot under which the browser keeps it, whether it is a file of the bridge's folder, and then the
@@ -26,16 +28,16 @@ const imageDocument = ({ name, text, digest }) => ({ ...elsewhere(name, readFile
 
 /** The name under which a document that is in no file is saved, where the author gives no other. */
 function sourceName(name) {
-  if (name === WITHOUT_NAME) return 'game.asm';
+  if (name === UNTITLED) return 'game.asm';
   return /\.(asm|s|txt)$/i.test(name) ? name : `${name.replace(/\.[^.]*$/, '')}.asm`;
 }
 
-export class Documents {
+export class Documents extends EventTarget {
   #about;
   #model;
   #editor;
   #store;
-  #open = { name: WITHOUT_NAME, slot: WITHOUT_NAME, isFile: false, digest: null, file: null };
+  #open = { name: UNTITLED, slot: WITHOUT_NAME, isFile: false, digest: null, file: null };
   /** The text of the file when it was read or saved last, or null; and the digest of the file's text that the author was told of last. */
   #savedText = null;
   #toldDigest = null;
@@ -43,6 +45,7 @@ export class Documents {
 
   /** `about` is what the page was opened on; `askName(name)` asks under which name to save. */
   constructor(about, { model, editor, askName }) {
+    super();
     this.#about = about;
     this.#model = model;
     this.#editor = editor;
@@ -103,8 +106,8 @@ export class Documents {
     return kept;
   }
 
-  #take({ text, form, encoding, lineEnd, keys = new KeyScript(), breakLines = [], textHistory = new TextHistory(), keyHistory = new KeyHistory() }) {
-    this.#model.startWith({ text, form: form ?? { encoding, lineEnd }, keys, textHistory, keyHistory });
+  #take({ text, form, encoding, lineEnd, keys = new KeyScript(), played = 0, breakLines = [], textHistory = new TextHistory(), keyHistory = new KeyHistory() }) {
+    this.#model.startWith({ text, form: form ?? { encoding, lineEnd }, keys, played, textHistory, keyHistory });
     this.#editor.text = text;
     this.#editor.breakpoints.set(breakLines);
     this.tellState();
@@ -131,11 +134,23 @@ export class Documents {
     const kept = this.#start();
     if (kept !== null) this.#model.setStep(kept.step);
     if (isLost) this.#offerEarlier(why);
+    this.dispatchEvent(new Event('open'));
     return kept;
   }
 
   openFile(found) {
     this.open(fileDocument(found), `${found.name} is open now.`);
+  }
+
+  /** Whether this is a new document without a text. */
+  get isBlank() {
+    return this.#model.text === '' && this.#open.file === null;
+  }
+
+  /** A first text: of a file that isn't there yet, or of a document of that name. */
+  startFrom(name, byteString) {
+    if (!this.#open.isFile || !this.isBlank) this.openText(name, byteString);
+    else this.#editor.replace(0, 0, readFile(byteString).text);
   }
 
   openText(name, byteString) {
@@ -172,7 +187,7 @@ export class Documents {
     takeAway('aside');
     if (slot !== this.#open.slot && slot !== undefined) {
       const found = isFile ? await request('read', { name }).then(fileDocument).catch(() => null) : null;
-      this.open(found ?? elsewhere(name ?? WITHOUT_NAME, null), `${name} is open again.`);
+      this.open(found ?? elsewhere(name ?? UNTITLED, null), `${name} is open again.`);
     }
     if (text !== this.#model.text) this.#replace(text, form, 'The text was taken back.');
   }

@@ -1,4 +1,4 @@
-// What is drawn of the source around the text area: numbers, addresses and bytes, colours, faults, and the line that pc is at. Only
+// What is drawn of the source around the text area: numbers, colours, addresses and bytes, faults, and the line that pc is at. Only
 // the rows in sight, or nearly so, are there.
 
 import { byId, element, setChildren } from './dom.mjs';
@@ -13,11 +13,15 @@ const MOST_MADE = 1000;
 
 export class EditorRows {
   #content;
-  #layers = Object.fromEntries(['gutter', 'bands', 'colours', 'marks'].map((name) => [name, byId(name)]));
+  #layers = Object.fromEntries(['gutter', 'bands', 'colours', 'marks', 'fields'].map((name) => [name, byId(name)]));
+  /** The rows of the gutter, and of the addresses, by line. */
   #rows = new Map();
+  #fields = new Map();
   /** The rows as they were made, by their line, each with the text that it was made of. */
-  #made = { gutter: new Map(), colours: new Map() };
+  #made = { gutter: new Map(), colours: new Map(), fields: new Map() };
   #band = element('div', { className: 'here', hidden: true });
+  /** The rows that are marked as those of the line that pc is at. */
+  #marked = [];
   /** A hundred columns, to know how wide one is. */
   #measure = element('span', { className: 'measure', textContent: '0'.repeat(100) });
 
@@ -37,16 +41,19 @@ export class EditorRows {
     const last = Math.min(lines.length, Math.ceil((top + height) / ROW) + SPARE_ROWS);
     for (const made of Object.values(this.#made)) if (made.size > MOST_MADE) made.clear();
     this.#rows = new Map();
+    this.#fields = new Map();
     const [bands, marks, colours] = [[this.#band], [this.#measure], []];
     for (let line = first + 1; line <= last; line += 1) {
       const text = lines[line - 1];
       this.#rows.set(line, this.#gutterRow(line));
+      this.#fields.set(line, this.#fieldsRow(line));
       colours.push(this.#row('colours', line, text, () => coloured(text)));
       if (this.#content.faultAt(line) === null) continue;
       bands.push(at(line, element('div', { className: 'faulty' })));
       marks.push(...this.#faultMarks(line, text));
     }
     setChildren(this.#layers.gutter, [...this.#rows.values()]);
+    setChildren(this.#layers.fields, [...this.#fields.values()]);
     setChildren(this.#layers.bands, bands);
     setChildren(this.#layers.colours, colours);
     setChildren(this.#layers.marks, marks);
@@ -56,9 +63,10 @@ export class EditorRows {
   /** Marks the line that pc is at, and no other. */
   drawHere() {
     const { here } = this.#content;
-    const row = this.#rows.get(here);
-    for (const other of this.#layers.gutter.querySelectorAll('.here')) if (other !== row) other.classList.remove('here');
-    row?.classList.add('here');
+    const rows = [this.#rows.get(here), this.#fields.get(here)];
+    for (const other of this.#marked) if (!rows.includes(other)) other?.classList.remove('here');
+    for (const row of rows) if (row !== undefined && !row.classList.contains('here')) row.classList.add('here');
+    this.#marked = rows;
     if (this.#band.hidden !== (here === null)) this.#band.hidden = here === null;
     at(here ?? 1, this.#band);
   }
@@ -86,15 +94,21 @@ export class EditorRows {
   }
 
   #gutterRow(line) {
-    const fault = this.#content.faultAt(line);
+    const covered = this.#content.coveredAt(line);
+    const kinds = ['row', this.#content.faultAt(line) !== null && 'faulty', this.#content.breakpoints.has(line) && 'break', covered !== undefined && 'covered'];
+    const [name, title] = [kinds.filter(Boolean).join(' '), covered ?? ''];
+    return this.#row('gutter', line, `${name}|${title}`, () =>
+      element('div', { className: name, title }, element('span', { className: 'number', textContent: line }), element('span', { className: 'mark' })),
+    );
+  }
+
+  /** The address and the bytes of a line, which stand at the right. */
+  #fieldsRow(line) {
     const { address, field } = this.#content.listing[line - 1] ?? { address: null, field: '' };
     const shown = address === null ? (this.#content.listing[line - 1] ? '----' : '') : hex(address, 4);
-    const covered = this.#content.coveredAt(line);
-    const kinds = ['row', fault !== null && 'faulty', this.#content.breakpoints.has(line) && 'break', covered !== undefined && 'covered'];
-    const [name, title] = [kinds.filter(Boolean).join(' '), covered ?? ''];
-    const part = (className, textContent) => element('span', { className, textContent });
-    return this.#row('gutter', line, [name, title, shown, fault ?? field].join('|'), () =>
-      element('div', { className: name, title }, part('number', line), part('address', shown), part('field', fault ?? field)),
+    const name = this.#content.faultAt(line) === null ? 'row' : 'row faulty';
+    return this.#row('fields', line, [name, shown, field].join('|'), () =>
+      element('div', { className: name }, element('span', { textContent: shown }), element('span', { className: 'field', textContent: field })),
     );
   }
 }

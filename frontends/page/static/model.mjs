@@ -14,6 +14,8 @@ export class Model extends EventTarget {
   options = {};
   step = 0;
   lastStep = 100_000;
+  /** The furthest step that was played; the last event may lie further on. */
+  played = 0;
   withheld = new Map();
   /** The lines with breakpoints. */
   breakLines = [];
@@ -28,6 +30,11 @@ export class Model extends EventTarget {
       this.#wanted = { lines: given, keys: this.keys, options: this.options };
     }
     return this.#wanted;
+  }
+
+  /** Up to which step there is a play: the furthest that was played, or the last event. */
+  get playedTo() {
+    return Math.max(this.played, this.keys.events.at(-1)?.step ?? 0);
   }
 
   get rate() {
@@ -47,7 +54,8 @@ export class Model extends EventTarget {
   }
 
   /** Another document: what can be undone of it begins with what was kept. */
-  startWith({ text, form, keys, textHistory, keyHistory }) {
+  startWith({ text, form, keys, textHistory, keyHistory, played = 0 }) {
+    this.played = played;
     this.textHistory = textHistory;
     this.keyHistory = keyHistory;
     this.setText(text, form);
@@ -96,6 +104,13 @@ export class Model extends EventTarget {
     if (whole === this.step) return;
     this.step = whole;
     this.#changed('step');
+  }
+
+  /** The run was played up to a step. */
+  setPlayed(step) {
+    if (step <= this.played) return;
+    this.played = step;
+    this.#changed('played');
   }
 
   setLastStep(lastStep) {

@@ -1,6 +1,10 @@
-// What the author has to know or to choose, in a row below the header.
+// What the author has to know or to choose, in one line over the page. The newest is seen; an older one that still has to be
+// answered comes back once that is closed.
 
 import { byId, element } from './dom.mjs';
+
+/** What only tells, and asks nothing, goes by itself. */
+const TOLD_MILLISECONDS = 12_000;
 
 const place = byId('notices');
 
@@ -15,14 +19,30 @@ export function notice(name, text, { bad = false, choices = [] } = {}) {
   for (const [label, action] of choices.length > 0 ? choices : [['Close', () => {}]]) {
     const button = element('button', { type: 'button', textContent: label });
     button.addEventListener('click', () => {
-      row.remove();
+      remove(row);
       action();
     });
     row.append(button);
   }
+  row.append(element('span', { className: 'count' }));
   place.append(row);
+  count();
+  if (!bad && choices.length === 0) setTimeout(() => remove(row), TOLD_MILLISECONDS);
 }
 
 export function takeAway(name) {
-  for (const row of place.querySelectorAll('.notice')) if (row.dataset.name === name) row.remove();
+  for (const row of place.querySelectorAll('.notice')) if (row.dataset.name === name) remove(row);
+}
+
+function remove(row) {
+  row.remove();
+  count();
+}
+
+/** Says on the newest how many there are. */
+function count() {
+  const rows = [...place.children];
+  rows.forEach((row) => {
+    row.lastChild.textContent = rows.length > 1 ? `1 of ${rows.length}` : '';
+  });
 }

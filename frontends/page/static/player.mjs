@@ -54,6 +54,7 @@ export class Player extends EventTarget {
     this.#hold(step);
     this.#shown = step;
     this.#model.setStep(step);
+    if (this.#direction > 0) this.#model.setPlayed(step);
     if ((this.#direction < 0 && step === 0) || (this.#direction > 0 && this.#position >= lastStep)) {
       this.play(0);
       return;

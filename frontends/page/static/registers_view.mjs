@@ -1,58 +1,56 @@
-// Registers, timers, flags and stack, with what the step before changed marked.
+// Registers and timers, with what the step before changed marked.
 
 import { byId, element, setText, setTitle } from './dom.mjs';
 import { hex } from './answers.mjs';
 
 /** The fields that are shown, in order: a name, its text in the registers of a machine, and what it means where the name doesn't say. */
 const SMALL = Array.from({ length: 16 }, (_, number) => [`V${hex(number, 1).toUpperCase()}`, ({ v }) => hex(v[number], 2)]);
-const WIDE = [
+const OTHERS = [
   ['pc', ({ pc }) => hex(pc, 4), '', ({ pc }) => pc],
   ['I', ({ i }) => hex(i, 4), '', ({ i }) => i],
-  ['DT', ({ dt }) => hex(dt, 2)],
-  ['ST', ({ st }) => hex(st, 2)],
-  ['random', ({ draws }) => draws, 'random bytes used so far'],
-  ['size', ({ size }) => size],
-  ['state', ({ state }) => state],
+  ['DT', ({ dt }) => hex(dt, 2), 'the delay timer'],
+  ['ST', ({ st }) => hex(st, 2), 'the sound timer'],
+  ['rnd', ({ draws }) => draws, 'random bytes used so far'],
+  ['state', ({ state }) => state, 'run, or why it stopped'],
 ];
-const WHOLE = [
-  ['flags', ({ flags }) => flags.map((flag) => hex(flag, 2)).join(' ')],
-  ['stack', ({ stack }) => stack.map((frame) => hex(frame, 4)).join(' ') || 'empty'],
-];
+/** What an edit may change besides. */
+const ELSEWHERE = [['size', ({ size }) => size], ['flags', ({ flags }) => flags.join()], ['stack', ({ stack }) => stack.join()]];
+/** Those for which a phone has no room. */
+const FEW = ['rnd', 'state'];
 
 /** The names of the fields that differ between two machines. */
 export function fieldsApart(one, other) {
-  return [...SMALL, ...WIDE, ...WHOLE].filter(([, text]) => text(one) !== text(other)).map(([name]) => name);
+  return [...SMALL, ...OTHERS, ...ELSEWHERE].filter(([, text]) => text(one) !== text(other)).map(([name]) => name);
 }
 
 export class RegistersView {
   #cells = [];
 
   constructor() {
-    const place = byId('registers');
-    place.append(this.#list('', SMALL), this.#list('wide', [...WIDE, ...WHOLE]));
+    byId('registers').append(element('dl', {}, ...[...SMALL, ...OTHERS].map((field) => this.#cell(field))));
   }
 
-  #list(kind, fields) {
-    return element('dl', { className: kind }, ...fields.map((field) => this.#cell(field)));
-  }
-
-  #cell(field) {
+  #cell([title, text, meaning = '', address = null]) {
     const value = element('dd', { textContent: '–' });
-    const cell = element('div', { className: WHOLE.includes(field) ? 'whole' : '' }, element('dt', { textContent: field[0] }), value);
-    this.#cells.push({ text: field[1], meaning: field[2] ?? '', address: field[3] ?? null, cell, value });
+    const name = element('dd', { className: 'name' });
+    const kind = [address !== null && 'wide', FEW.includes(title) && 'few'].filter(Boolean).join(' ');
+    // what the state is needs no name
+    const head = element('dt', { className: title === 'state' ? 'unseen' : '', textContent: title });
+    const cell = element('div', { className: kind }, head, value, ...(address === null ? [] : [name]));
+    this.#cells.push({ text, meaning, address, cell, value, name });
     return cell;
   }
 
   show({ code, registers, before }, { names }) {
     if (code !== null) return;
-    for (const { text, meaning, address, cell, value } of this.#cells) {
+    for (const { text, meaning, address, cell, value, name } of this.#cells) {
       const now = text(registers);
       const was = before === null ? now : text(before.registers);
       setText(value, now);
       cell.classList.toggle('changed', now !== was);
-      const name = address === null ? null : names.at(address(registers));
-      const description = describe([meaning, name].filter(Boolean).join(''), now, was);
-      setTitle(cell, description);
+      const label = address === null ? '' : (names.at(address(registers)) ?? '');
+      setText(name, label);
+      setTitle(cell, describe(meaning || label, now, was));
     }
   }
 }

@@ -40,6 +40,11 @@ export class RunControl {
     this.#tell(await this.#search.find(forward, question));
   }
 
+  /** What was told of a step isn't of another one. */
+  forget() {
+    this.#tell('');
+  }
+
   #tell(text) {
     this.#result.textContent = text ?? '';
   }

@@ -24,12 +24,12 @@ export class ScreenView {
   show(machine) {
     this.#state.classList.toggle('stopped', machine.code !== null || machine.registers.state !== 'run');
     if (machine.code !== null) {
-      this.#tell(`${machine.code}: ${codeText(machine.code)}`);
+      this.#tell(machine.code === 'Q1' ? 'before the faults' : `${machine.code}: ${codeText(machine.code)}`);
       return;
     }
     const { size, state } = machine.registers;
-    const shape = size === 'high' ? 'high, 128 × 64' : 'low, 64 × 32';
-    this.#tell(state === 'run' ? shape : `${state}: ${stopText(state, machine.wanted.options.profile)}`);
+    setText(byId('screen-size'), size === 'high' ? '128 × 64' : '64 × 32');
+    this.#tell(state === 'run' ? '' : `${state}: ${stopText(state, machine.wanted.options.profile)}`);
     this.#rows = machine.screen.rows;
     clearTimeout(this.#flashing);
     this.#draw();

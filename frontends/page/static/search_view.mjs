@@ -1,6 +1,6 @@
 // The search in time: what is looked for, the progress, and a stop.
 
-import { byId, element, grouped } from './dom.mjs';
+import { byId, element, grouped, setText } from './dom.mjs';
 import { hex } from './answers.mjs';
 import { findStep, NoSuchStep, SearchStopped, subject } from './finder.mjs';
 import { readNumber } from './numbers.mjs';
@@ -52,7 +52,9 @@ export class SearchView {
     this.#stop.addEventListener('click', () => this.stop());
     byId('search-line').addEventListener('click', () => this.toLine(true));
     model.addEventListener('change', ({ detail }) => {
-      if (detail !== 'step' && detail !== 'lastStep' && detail !== 'breakpoints') this.stop();
+      if (['text', 'keys', 'options'].includes(detail)) this.stop();
+      // what was told of a step isn't of another one
+      if (detail === 'step' && !this.#running) this.#tell('');
     });
     this.#shape();
   }
@@ -153,6 +155,6 @@ export class SearchView {
   }
 
   #tell(text) {
-    this.#result.textContent = text;
+    setText(this.#result, text);
   }
 }

@@ -1,6 +1,6 @@
 // The dialog of the settings that the program takes.
 
-import { byId } from './dom.mjs';
+import { byId, setText } from './dom.mjs';
 
 /** A longer tape, in digits, is told by its length. */
 const TAPE_SHOWN = 12;
@@ -27,7 +27,7 @@ export class SettingsView {
       if (event.submitter?.value === 'apply') this.#apply();
     });
     model.addEventListener('change', ({ detail }) => {
-      if (detail === 'options') byId('settings-state').textContent = this.#summary();
+      if (detail === 'options') setText(byId('settings-state'), this.#summary());
     });
     for (const name of ['seed', 'tape']) {
       this.#form.elements[name].addEventListener('input', () => {

@@ -30,6 +30,8 @@ const BY_NAME = {
   t: ['to-timeline'],
   T: ['to-timeline'],
   '/': ['to-search'],
+  i: ['to-panel'],
+  I: ['to-panel'],
   '?': ['help'],
 };
 

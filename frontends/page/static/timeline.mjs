@@ -1,39 +1,46 @@
-// The two timelines: the whole run, and a part of it close up, with a lane for each key that has events.
+// The time: all that was played, and a part of it close up, with a lane for each key that has events.
 
-import { byId, colour, grouped, oncePerFrame, onTheme, setAttribute } from './dom.mjs';
+import { byId, grouped, oncePerFrame, onTheme, setAttribute, setProperty } from './dom.mjs';
+import { drawCloseUp, drawOverview, LABEL_PIXELS, laneAt, lanesOf } from './timeline_drawing.mjs';
 
 const GRAB_PIXELS = 6;
-const LABEL_PIXELS = 16;
-const AXIS_PIXELS = 14;
-const AXIS_FONT = '10px system-ui, sans-serif';
-/** At most so wide is a digit of the axis. */
-const DIGIT_PIXELS = 7;
+const LEAST_SPAN = 1000;
+const LEAST_WIDTH = 100;
+/** A part more than was played is shown; and while it plays the time grows by a quarter, each time that the step comes near its end. */
+const MORE = 1.05;
+const NEAR_END = 0.97;
+const GROWTH = 1.25;
+const KEYS = { Home: 'first', End: 'last', PageUp: 'back-thousand', PageDown: 'on-thousand', ArrowUp: 'on', ArrowDown: 'back' };
 
 export class Timeline {
   #model;
+  #isPlaying;
   #overview = byId('overview');
   #closeUp = byId('close-up');
-  #zoom = byId('zoom');
+  /** How many steps the overview has; the first step of the close-up; how many it shows, or null for all. */
+  #span = LEAST_SPAN;
   #from = 0;
-  #grabbed = null;
+  #width = null;
+  /** What the pointer holds: the event that it moves, or the step, or an edge of the close-up; null where none is down. */
+  #held = null;
   #draw = oncePerFrame(() => this.#drawBoth());
+  /** The sizes of the tracks, in pixels, as the browser told them last, with the pen of each. */
+  #sizes = new Map();
 
-  /** `move(name)` carries out the moves of the keyboard. */
-  constructor(model, move) {
+  /** `move(name)` carries out the moves of the keyboard; `isPlaying()` says whether the run plays. */
+  constructor(model, { move, isPlaying }) {
     this.#model = model;
-    this.#listen(this.#overview, () => [0, model.lastStep]);
-    this.#listen(this.#closeUp, () => this.#window);
+    this.#isPlaying = isPlaying;
+    this.#listenTo(this.#closeUp, (event) => this.#grabCloseUp(event));
+    this.#listenTo(this.#overview, (event) => this.#grabOverview(event));
     for (const track of [this.#overview, this.#closeUp]) {
-      track.addEventListener('keydown', (event) => {
-        const name = { Home: 'first', End: 'last', PageUp: 'back-thousand', PageDown: 'on-thousand', ArrowUp: 'on', ArrowDown: 'back' }[event.key];
-        if (name === undefined || event.ctrlKey || event.altKey || event.metaKey) return;
-        event.preventDefault();
-        move(name);
-      });
+      track.addEventListener('keydown', (event) => this.#pressed(event, move));
+      track.addEventListener('wheel', (event) => this.#wheeled(event), { passive: false });
       new ResizeObserver(() => this.#resized(track)).observe(track);
     }
-    this.#closeUp.addEventListener('wheel', (event) => this.#wheeled(event), { passive: false });
-    this.#zoom.addEventListener('change', this.#draw);
+    byId('zoom-in').addEventListener('click', () => this.zoom(0.5));
+    byId('zoom-out').addEventListener('click', () => this.zoom(2));
+    byId('zoom-fit').addEventListener('click', () => this.zoom(null));
     model.addEventListener('change', ({ detail }) => {
       if (detail !== 'text' && detail !== 'breakpoints') this.#draw();
     });
@@ -45,8 +52,130 @@ export class Timeline {
     this.#closeUp.focus();
   }
 
-  /** The sizes of the tracks, in pixels, as the browser told them last, with the pen of each. */
-  #sizes = new Map();
+  /** The first and the last step of the close-up. */
+  get window() {
+    return this.#width === null ? [0, this.#span] : [this.#from, this.#from + this.#width];
+  }
+
+  /** Shows a part as wide as `by` times the one that is shown, around the step; with null, all. */
+  zoom(by) {
+    const [from, to] = this.window;
+    const wide = by === null ? Infinity : Math.max(LEAST_WIDTH, Math.round((to - from) * by));
+    this.#width = wide >= this.#span ? null : wide;
+    this.#center();
+    this.#draw();
+  }
+
+  // The pointer and the keyboard ----------------------------------------------------------------------------------------------
+
+  #pressed(event, move) {
+    if (event.ctrlKey || event.altKey || event.metaKey) return;
+    const zoom = { '+': 0.5, '-': 2, '−': 2, 0: null }[event.key];
+    // 0 is a key of the game on the keypad of numbers alone
+    if (zoom !== undefined && event.code !== 'Numpad0') this.zoom(zoom);
+    else if (event.key in KEYS) move(KEYS[event.key]);
+    else return;
+    event.preventDefault();
+  }
+
+  #listenTo(track, grab) {
+    track.addEventListener('pointerdown', (event) => {
+      if (event.button !== 0) return;
+      track.setPointerCapture(event.pointerId);
+      this.#held = grab(event);
+      this.#held(event);
+    });
+    track.addEventListener('pointermove', (event) => {
+      if (track.hasPointerCapture(event.pointerId)) this.#held?.(event);
+      else if (track === this.#closeUp) setProperty(track.style, 'cursor', this.#eventNear(event) === null ? '' : 'grab');
+      else setProperty(track.style, 'cursor', this.#edgeNear(event) === null ? '' : 'col-resize');
+    });
+    const done = () => {
+      this.#held = null;
+      this.#draw();
+    };
+    track.addEventListener('pointerup', done);
+    track.addEventListener('pointercancel', done);
+  }
+
+  /** The step under the pointer, of a track that shows these steps. */
+  #stepUnder(track, [from, to], event) {
+    const box = track.getBoundingClientRect();
+    const part = (event.clientX - box.left - LABEL_PIXELS) / Math.max(1, box.width - LABEL_PIXELS);
+    return Math.round(from + part * (to - from));
+  }
+
+  #grabCloseUp(event) {
+    const range = this.window;
+    const grabbed = this.#eventNear(event);
+    if (grabbed === null) return (now) => this.#model.setStep(Math.max(0, this.#stepUnder(this.#closeUp, range, now)));
+    this.#model.setStep(grabbed.step);
+    const move = `move ${Date.now()}`;
+    let moved = grabbed;
+    return (now) => {
+      moved = this.#moveEvent(moved, this.#stepUnder(this.#closeUp, range, now), move);
+    };
+  }
+
+  /** An edge of the part that is shown is moved, or the part as a whole; elsewhere, or where all is shown, the step. */
+  #grabOverview(event) {
+    const range = [0, this.#span];
+    const stepOf = (now) => this.#stepUnder(this.#overview, range, now);
+    const edge = this.#edgeNear(event);
+    const [from, to] = this.window;
+    if (edge === 'left') return (now) => this.#show(Math.min(stepOf(now), to - LEAST_WIDTH), to);
+    if (edge === 'right') return (now) => this.#show(from, Math.max(stepOf(now), from + LEAST_WIDTH));
+    const start = stepOf(event);
+    if (this.#width !== null && start > from && start < to) return (now) => this.#show(from + stepOf(now) - start, to + stepOf(now) - start);
+    return (now) => this.#model.setStep(Math.max(0, stepOf(now)));
+  }
+
+  #edgeNear(event) {
+    const box = this.#overview.getBoundingClientRect();
+    const x = (step) => LABEL_PIXELS + (step / this.#span) * (box.width - LABEL_PIXELS);
+    const near = this.window.map((step) => Math.abs(x(step) - (event.clientX - box.left)) <= GRAB_PIXELS);
+    return near[0] && this.#width !== null ? 'left' : near[1] ? 'right' : null;
+  }
+
+  #show(from, to) {
+    const width = Math.max(LEAST_WIDTH, Math.min(this.#span, to - from));
+    this.#width = width >= this.#span ? null : width;
+    this.#from = Math.max(0, Math.min(this.#span - width, from));
+    this.#draw();
+  }
+
+  /** The event whose edge is under the pointer, or null. */
+  #eventNear(event) {
+    const box = this.#closeUp.getBoundingClientRect();
+    const lanes = lanesOf(this.#model.keys);
+    const key = lanes[laneAt(event.clientY - box.top, lanes.length, box.height)];
+    if (key === undefined) return null;
+    const [from, to] = this.window;
+    const away = ({ step }) => Math.abs(LABEL_PIXELS + ((step - from) / (to - from)) * (box.width - LABEL_PIXELS) - (event.clientX - box.left));
+    const near = this.#model.keys.events.filter((one) => one.key === key && away(one) <= GRAB_PIXELS).sort((one, other) => away(one) - away(other));
+    return near[0] ?? null;
+  }
+
+  /** A grabbed event follows the pointer, up to the next event of its key on either side. Returns the event as it is then. */
+  #moveEvent({ step, key, down }, wanted, move) {
+    const others = this.#model.keys.events.filter((event) => event.key === key && event.step !== step).map((event) => event.step);
+    const low = Math.max(-1, ...others.filter((other) => other < step)) + 1;
+    const high = Math.min(this.#model.lastStep + 1, ...others.filter((other) => other > step)) - 1;
+    const place = Math.max(low, Math.min(high, wanted));
+    if (place === step) return { step, key, down };
+    this.#model.setKeys(this.#model.keys.without(step, key).with(place, key, down), { move });
+    this.#model.setStep(place);
+    return { step: place, key, down };
+  }
+
+  /** The wheel changes how much is shown, with Ctrl, or where the track has the focus. */
+  #wheeled(event) {
+    if (!event.ctrlKey && document.activeElement !== event.currentTarget) return;
+    event.preventDefault();
+    if (event.deltaY !== 0) this.zoom(event.deltaY > 0 ? 2 : 0.5);
+  }
+
+  // Drawing -------------------------------------------------------------------------------------------------------------------
 
   #resized(track) {
     const { width, height } = track.getBoundingClientRect();
@@ -59,200 +188,39 @@ export class Timeline {
     this.#drawBoth();
   }
 
-  /** The first and the last step of the close-up. */
-  get #window() {
-    const width = Math.min(Number(this.#zoom.value), this.#model.lastStep);
-    return [this.#from, this.#from + width];
-  }
-
-  #listen(track, range) {
-    const stepAt = (event) => {
-      const box = track.getBoundingClientRect();
-      const [from, to] = range();
-      const left = this.#left(track);
-      return Math.round(from + ((event.clientX - box.left - left) / (box.width - left)) * (to - from));
-    };
-    track.addEventListener('pointerdown', (event) => {
-      if (event.button !== 0) return;
-      track.setPointerCapture(event.pointerId);
-      this.#grabbed = track === this.#closeUp ? this.#eventNear(event) : null;
-      this.#move = `move ${Date.now()}`;
-      if (this.#grabbed === null) this.#model.setStep(stepAt(event));
-      else this.#model.setStep(this.#grabbed.step);
-    });
-    track.addEventListener('pointermove', (event) => {
-      if (!track.hasPointerCapture(event.pointerId)) {
-        if (track === this.#closeUp) track.style.cursor = this.#eventNear(event) === null ? '' : 'grab';
-        return;
-      }
-      if (this.#grabbed === null) this.#model.setStep(stepAt(event));
-      else this.#moveEvent(stepAt(event));
-    });
-    const done = () => {
-      this.#grabbed = null;
-      this.#draw();
-    };
-    track.addEventListener('pointerup', done);
-    track.addEventListener('pointercancel', done);
-  }
-
-  #move = '';
-
-  /** The event whose edge is under the pointer, or null. */
-  #eventNear(event) {
-    const box = this.#closeUp.getBoundingClientRect();
-    const lanes = this.#lanes();
-    const lane = Math.floor((event.clientY - box.top) / this.#laneHeight(lanes, box.height));
-    if (lanes[lane] === undefined) return null;
-    const [from, to] = this.#window;
-    const left = this.#left(this.#closeUp);
-    const x = (step) => left + ((step - from) / (to - from)) * (box.width - left);
-    const near = this.#model.keys.events
-      .filter((one) => one.key === lanes[lane] && Math.abs(x(one.step) - (event.clientX - box.left)) <= GRAB_PIXELS)
-      .sort((one, other) => Math.abs(x(one.step) - (event.clientX - box.left)) - Math.abs(x(other.step) - (event.clientX - box.left)));
-    if (near.length === 0) return null;
-    return near[0];
-  }
-
-  /** A grabbed event follows the pointer, up to the next event of its key on either side. */
-  #moveEvent(wanted) {
-    const { step, key, down } = this.#grabbed;
-    const others = this.#model.keys.events.filter((event) => event.key === key && event.step !== step).map((event) => event.step);
-    const low = Math.max(-1, ...others.filter((other) => other < step)) + 1;
-    const high = Math.min(this.#model.lastStep + 1, ...others.filter((other) => other > step)) - 1;
-    const place = Math.max(low, Math.min(high, wanted));
-    if (place === step) return;
-    this.#grabbed = { step: place, key, down };
-    this.#model.setKeys(this.#model.keys.without(step, key).with(place, key, down), { move: this.#move });
-    this.#model.setStep(place);
-  }
-
-  /** The wheel changes how much is shown, with Ctrl, or where the close-up has the focus; else it scrolls the page. */
-  #wheeled(event) {
-    if (!event.ctrlKey && document.activeElement !== this.#closeUp) return;
-    event.preventDefault();
-    const choices = [...this.#zoom.options].map((option) => option.value);
-    const place = choices.indexOf(this.#zoom.value) + Math.sign(event.deltaY);
-    if (event.deltaY === 0 || choices[place] === undefined) return;
-    this.#zoom.value = choices[place];
-    this.#center();
-    this.#draw();
+  /** As many steps as were played, and some more; the time doesn't change under a pointer that is down. */
+  #fitSpan() {
+    if (this.#held !== null) return;
+    const { step, playedTo, lastStep } = this.#model;
+    const wanted = Math.max(LEAST_SPAN, Math.ceil(MORE * Math.max(playedTo, step)));
+    if (!this.#isPlaying()) this.#span = wanted;
+    else if (step > NEAR_END * this.#span) this.#span = Math.max(wanted, Math.ceil(GROWTH * this.#span));
+    this.#span = Math.min(lastStep, this.#span);
+    if (this.#width !== null && this.#width >= this.#span) this.#width = null;
   }
 
   #center() {
-    const width = Math.min(Number(this.#zoom.value), this.#model.lastStep);
-    this.#from = Math.max(0, Math.min(this.#model.lastStep - width, Math.round(this.#model.step - width / 2)));
+    if (this.#width === null) return;
+    this.#from = Math.max(0, Math.min(this.#span - this.#width, Math.round(this.#model.step - this.#width / 2)));
   }
 
   #drawBoth() {
-    const { step, lastStep } = this.#model;
-    const width = Math.min(Number(this.#zoom.value), lastStep);
-    const out = step < this.#from || step > this.#from + width || this.#from + width > lastStep;
+    this.#fitSpan();
+    const { step, lastStep, playedTo } = this.#model;
+    const [first, last] = this.window;
     // the window stays while something is dragged in it, and follows where the step leaves it
-    if (out) this.#center();
-    this.#drawTrack(this.#overview, 0, lastStep, [this.#from, this.#from + width]);
-    this.#drawTrack(this.#closeUp, ...this.#window, null);
+    if (this.#held === null && (step < first || step > last || last > this.#span)) this.#center();
     for (const track of [this.#overview, this.#closeUp]) {
       setAttribute(track, 'aria-valuemin', '0');
       setAttribute(track, 'aria-valuemax', String(lastStep));
       setAttribute(track, 'aria-valuenow', String(step));
-      setAttribute(track, 'aria-valuetext', `step ${grouped(step)} of ${grouped(lastStep)}`);
+      setAttribute(track, 'aria-valuetext', `step ${grouped(step)} of ${grouped(playedTo)} played`);
+      const size = this.#sizes.get(track);
+      if (size === undefined || size.width === 0) continue;
+      if (size.scale !== devicePixelRatio) this.#resized(track);
+      const what = { model: this.#model, range: this.window, span: this.#span, played: playedTo, size };
+      if (track === this.#overview) drawOverview(what);
+      else drawCloseUp(what);
     }
   }
-
-  #lanes() {
-    return [...new Set(this.#model.keys.events.map((event) => event.key))].sort((one, other) => one - other);
-  }
-
-  #laneHeight(lanes, height) {
-    return Math.min(14, (height - AXIS_PIXELS) / Math.max(1, lanes.length));
-  }
-
-  #left(track) {
-    return track === this.#closeUp ? LABEL_PIXELS : 0;
-  }
-
-  #drawTrack(track, from, to, shaded) {
-    const { width, height, pen, scale } = this.#sizes.get(track) ?? { width: 0 };
-    if (width === 0) return;
-    if (scale !== devicePixelRatio) {
-      this.#resized(track);
-      return;
-    }
-    pen.clearRect(0, 0, width, height);
-    const left = this.#left(track);
-    const x = (step) => left + ((step - from) / Math.max(1, to - from)) * (width - left);
-    if (shaded !== null) {
-      pen.fillStyle = colour('--accent-ground');
-      pen.fillRect(x(shaded[0]), 0, Math.max(3, x(shaded[1]) - x(shaded[0])), height);
-    }
-    if (left > 0) {
-      this.#drawFrames(pen, x, from, to, height);
-      this.#drawLanes(pen, x, from, to, width, height);
-    } else {
-      this.#drawEvents(pen, x, height);
-    }
-    pen.fillStyle = colour('--accent');
-    pen.fillRect(Math.min(width - 2, x(this.#model.step) - 1), 0, 2, height);
-  }
-
-  /** A mark at round steps, with numbers as far apart as they have room. */
-  #drawFrames(pen, x, from, to, height) {
-    const unit = niceUnit((to - from) / Math.max(2, (x(to) - x(from)) / 90));
-    pen.fillStyle = colour('--faint');
-    setFont(pen, AXIS_FONT);
-    for (let step = Math.ceil(from / unit) * unit; step <= to; step += unit) {
-      pen.globalAlpha = 0.35;
-      pen.fillRect(x(step), 0, 1, height - AXIS_PIXELS + 3);
-      pen.globalAlpha = 1;
-      const label = grouped(step);
-      const room = x(to) - x(step) > DIGIT_PIXELS * label.length + 4;
-      if (room) pen.fillText(label, x(step) + 2, height - 3);
-    }
-  }
-
-  #drawEvents(pen, x, height) {
-    pen.fillStyle = colour('--key-bar');
-    let last = -1;
-    for (const { step } of this.#model.keys.events) {
-      const place = Math.round(x(step));
-      if (place !== last) pen.fillRect(place, height - 8, 1, 8);
-      last = place;
-    }
-  }
-
-  #drawLanes(pen, x, from, to, width, height) {
-    const lanes = this.#lanes();
-    const tall = this.#laneHeight(lanes, height);
-    const downs = new Map();
-    const bar = (key, start, end) => {
-      if (end < from || start > to) return;
-      const [begin, stop] = [Math.max(x(start), LABEL_PIXELS), Math.min(width, x(end))];
-      pen.fillRect(begin, lanes.indexOf(key) * tall + 1, Math.max(2, stop - begin), tall - 2);
-    };
-    pen.fillStyle = colour('--key-bar');
-    for (const { step, key, down } of this.#model.keys.events) {
-      if (down && !downs.has(key)) downs.set(key, step);
-      if (!down && downs.has(key)) {
-        bar(key, downs.get(key), step);
-        downs.delete(key);
-      }
-      if (!down && step >= from && step <= to) pen.fillRect(x(step) - 1, lanes.indexOf(key) * tall + 1, 2, tall - 2);
-    }
-    for (const [key, start] of downs) bar(key, start, this.#model.lastStep + 1);
-    pen.fillStyle = colour('--text');
-    if (lanes.length > 0) setFont(pen, `${Math.max(7, Math.min(11, tall))}px ui-monospace, monospace`);
-    lanes.forEach((key, lane) => pen.fillText(key.toString(16).toUpperCase(), 4, (lane + 1) * tall - Math.max(0, tall - 9) / 2));
-  }
-}
-
-/** Sets the font where it isn't the one: the browser looks up the styles of the page for it. */
-function setFont(pen, font) {
-  if (pen.font !== font) pen.font = font;
-}
-
-/** The least of 1, 2, 5, 10, 20 .. that isn't below a number. */
-function niceUnit(number) {
-  const power = 10 ** Math.floor(Math.log10(Math.max(1, number)));
-  return [1, 2, 5, 10].map((factor) => factor * power).find((unit) => unit >= number) ?? 10 * power;
 }

@@ -10,6 +10,7 @@ import traceback
 from pathlib import Path
 
 from browser_files import FileTests
+from browser_layout import LayoutTests
 from browser_page import PROVED, TOP
 from browser_run import RunTests
 from browser_shape import ShapeTests
@@ -22,7 +23,7 @@ from firefox import Firefox
 BROWSERS = {"chromium": Chromium, "firefox": Firefox}
 
 
-class Tests(SourceTests, TypingTests, RunTests, FileTests, ShapeTests):
+class Tests(SourceTests, TypingTests, RunTests, FileTests, ShapeTests, LayoutTests):
     """Each method whose name begins with `test_` is one test."""
 
 

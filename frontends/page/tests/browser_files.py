@@ -502,7 +502,7 @@ class FileTests(PageTests):
             assert len(children) == 1, children
             os.kill(int(children[0]), signal.SIGKILL)
             self.put_line(1, "; mine")
-            browser.wait("/signal 9/.test(document.getElementById('notices').textContent)")
+            browser.wait("/The program ended because/.test(document.getElementById('notices').textContent)")
             self.picture("killed")
             self.check_step(text, 90, ["kins 20 3 down"])
             assert browser.value("document.getElementById('source-text').value").startswith("; mine\n")

@@ -73,7 +73,15 @@ class PageTests:
         """The page on a new file with this text, or on an image with these bytes, in a browser that keeps nothing of it yet."""
         self.path = self.folder / name
         self.path.write_bytes(text.encode() if isinstance(text, str) else text)
-        opened = [str(self.path)] if isinstance(text, str) else ["--image", str(self.path)]
+        with self.page_on([str(self.path)] if isinstance(text, str) else ["--image", str(self.path)], words) as browser:
+            yield browser
+
+    def page_of_nothing(self) -> contextlib.AbstractContextManager[Browser]:
+        """The page on a source that isn't there yet."""
+        return self.page_on([str(self.folder / "nothing.asm")], ())
+
+    @contextlib.contextmanager
+    def page_on(self, opened: list[str], words: tuple[str, ...]) -> Iterator[Browser]:
         self.bridge = subprocess.Popen(
             [sys.executable, "-B", str(self.page_folder / "bridge.py"), "--program", self.program, "--no-open", "--port", "0", *words, *opened],
             stdout=subprocess.PIPE,
@@ -115,6 +123,14 @@ class PageTests:
     def step(self, step: int) -> None:
         self.browser.value(f"chipbenchPage.model.setStep({step}); {REST}")
 
+    def tab(self, name: str) -> None:
+        """Shows one of the panels, or the source where that is behind a tab."""
+        self.browser.value(f"chipbenchPage.appearance.showTab({json.dumps(name)})")
+
+    def press_button(self, selector: str) -> None:
+        """Presses a button, wherever it is: in a menu that is closed, or behind a tab."""
+        self.browser.value(f"document.querySelector({json.dumps(selector)}).click()")
+
     def rest(self) -> None:
         self.browser.value(REST)
 
@@ -135,7 +151,8 @@ class PageTests:
         first, second = said[0].split(), said[1].split()
         shown = self.registers()
         assert [shown[f"V{number:X}"] for number in range(16)] == first[1:], (shown, first)
-        assert [shown["pc"], shown["I"], shown["DT"], shown["ST"], shown["random"], shown["size"], shown["state"]] == [
+        size = {"64 × 32": "low", "128 × 64": "high"}[self.text_of("#screen-size")]
+        assert [shown["pc"], shown["I"], shown["DT"], shown["ST"], shown["rnd"], size, shown["state"]] == [
             *second[1:10:2],
             second[10],
             second[11],
@@ -171,7 +188,7 @@ class PageTests:
         with self.document_page("guess", "dark", folder, ("--tape", "05")) as browser:
             events = [(62, 6), (150, 6), (330, 0), (420, 0), (610, 5), (700, 5)]
             made = "".join(f".with({step}, {key}, {str(place % 2 == 0).lower()})" for place, (step, key) in enumerate(events))
-            browser.value(f"document.getElementById('zoom').value = '1000'; chipbenchPage.model.setKeys(chipbenchPage.model.keys{made})")
+            browser.value(f"chipbenchPage.appearance.showTab('keys'); chipbenchPage.model.setKeys(chipbenchPage.model.keys{made})")
             self.step(350)
         with self.document_page("scroller", "light", folder):
             self.step(77)

@@ -63,7 +63,9 @@ class RunTests(PageTests):
                 for step in (0, 6, 100, 207, 1000, 3):
                     self.check_step(text, step, [])
                 listing = self.said(text, ["list"]).splitlines()[:-1]
-                rows = browser.value("[...document.querySelectorAll('#gutter .row')].map((row) => [...row.children].map((part) => part.textContent))")
+                rows = browser.value(
+                    "[...document.querySelectorAll('#gutter .row')].map((row, place) => [row.firstChild, ...document.querySelectorAll('#fields .row')[place].children].map((part) => part.textContent))"
+                )
                 for line, (number, address, field) in zip(listing, rows):
                     assert (line[:4].strip(), line[5:9], line[10:23].strip()) == (number, address, field), line
                 assert self.text_of("#fault-count") == "no faults"
@@ -76,7 +78,10 @@ class RunTests(PageTests):
         self.browser.open("about:blank")
         drawn = max(self.browser.value(EMPTY_PAGE) for _ in range(2))
         with self.page(text) as browser:
-            browser.value("document.getElementById('overview').addEventListener('pointerdown', (event) => { globalThis.held = event.pointerId; })")
+            browser.value(
+                "document.getElementById('overview').addEventListener('pointerdown', (event) => { globalThis.held = event.pointerId; });"
+                "chipbenchPage.model.setPlayed(0.95 * chipbenchPage.model.lastStep)"
+            )
             # other work on this machine may slow a try down
             tries = [self.drag() for _ in range(6 if drawn > 55 else 3)]
             best = max(tries, key=lambda one: one["shown"])
@@ -148,12 +153,14 @@ class RunTests(PageTests):
             assert "S1" in self.text_of("#machine-state")
             self.picture("page-guess")
             # the second guess becomes the hit: drag the first event of key 0 away
+            self.tab("keys")
             browser.click("#undo-play")
             assert browser.value("chipbenchPage.model.keys.size") == 0
 
     def test_keys_by_the_pointer(self) -> None:
         text = self.example("guess")
         with self.page(text, words=("--tape", "05")) as browser:
+            self.tab("keys")
             x, y = browser.center('[aria-label="Key 7"]')
             browser.click("#play")
             browser.wait("chipbenchPage.model.step > 50")
@@ -237,6 +244,7 @@ class RunTests(PageTests):
                 return self.text_of("#search-result")
 
             self.step(0)
+            self.tab("search")
             assert search("pc", "is", "BALL", "next").startswith("no such step")
             found = int(search("v2", "is", "255", "next").removeprefix("step ").replace(",", ""))
             said = self.said(text, [f"regs {found - 1}", f"regs {found}"]).split()
@@ -269,17 +277,20 @@ class RunTests(PageTests):
             browser.value("chipbenchPage.model.setKeys(chipbenchPage.model.keys.with(500, 5, true).with(1500, 5, false)); chipbenchPage.model.setStep(2000)")
             self.rest()
             box = browser.value("(() => { const b = document.getElementById('close-up').getBoundingClientRect(); return [b.x, b.y, b.width, b.height]; })()")
-            def x(step: int) -> float:
-                return box[0] + 16 + step / 4000 * (box[2] - 16)
+            self.tab("keys")
+            last = browser.value("chipbenchPage.timeline.window[1]")
 
-            browser.mouse("mouseMoved", x(500), box[1] + 6, 0)
-            browser.mouse("mousePressed", x(500), box[1] + 6)
+            def x(step: int) -> float:
+                return box[0] + 24 + step / last * (box[2] - 24)
+
+            browser.mouse("mouseMoved", x(500), box[1] + 26, 0)
+            browser.mouse("mousePressed", x(500), box[1] + 26)
             for step in (600, 800, 1000):
-                browser.mouse("mouseMoved", x(step), box[1] + 6)
-            browser.mouse("mouseReleased", x(1000), box[1] + 6, 0)
+                browser.mouse("mouseMoved", x(step), box[1] + 26)
+            browser.mouse("mouseReleased", x(1000), box[1] + 26, 0)
             self.rest()
             events = browser.value("chipbenchPage.model.keys.events")
-            assert len(events) == 2 and abs(events[0]["step"] - 1000) < 15 and events[1]["step"] == 1500, events
+            assert len(events) == 2 and abs(events[0]["step"] - 1000) < 5 and events[1]["step"] == 1500, events
             self.check_step(text, 1200, [f"kins {events[0]['step']} 5 down", "kins 1500 5 up"], ("--tape", "05"))
             browser.value("{ const field = document.querySelector('#event-rows input'); field.value = '700'; field.dispatchEvent(new Event('change')); }")
             self.check_step(text, 1200, ["kins 700 5 down", "kins 1500 5 up"], ("--tape", "05"))
@@ -372,6 +383,7 @@ class RunTests(PageTests):
             time.sleep(0.5)
             self.reload()
             self.rest()
+            self.tab("keys")
             browser.click("#undo-play")
             assert browser.value(size) == 0
             for _ in range(4):
@@ -467,7 +479,7 @@ class RunTests(PageTests):
 
             def run(name: str) -> int:
                 before = browser.value("chipbenchPage.model.step")
-                browser.click(f"[data-run={name}]")
+                self.press_button(f"[data-run={name}]")
                 browser.wait(f"chipbenchPage.model.step !== {before}")
                 self.rest()
                 return browser.value("chipbenchPage.model.step")
@@ -478,6 +490,7 @@ class RunTests(PageTests):
             self.step(3)
             assert depths[3] == 2
             assert run("out") == next(step for step in range(4, 40) if depths[step] == 1)
+            self.tab("stack")
             assert "TWICE+2" in self.text_of("#call-stack"), self.text_of("#call-stack")
             assert run("out-back") == 1
             number = browser.value("(() => { const b = document.querySelectorAll('#gutter .number')[7].getBoundingClientRect(); return [b.x + b.width / 2, b.y + 9]; })()")

@@ -41,6 +41,7 @@ class ShapeTests(PageTests):
             assert at > 100
             browser.press("o", "KeyO")
             assert browser.value("document.activeElement.id") == "source-text"
+            browser.press("Home", modifiers=CONTROL)
             browser.press("Tab")
             browser.press(".", "Period", ALT)
             assert browser.value("chipbenchPage.model.step") == 1
@@ -60,7 +61,7 @@ class ShapeTests(PageTests):
             browser.value("document.querySelector('.skip').focus(); globalThis.reached = new Set(); document.addEventListener('focusin', ({ target }) => reached.add(target))")
             for _ in range(120):
                 if browser.value("document.activeElement.id") == "source-text":
-                    browser.value("document.getElementById('line-state').setAttribute('tabindex', '-1'); document.getElementById('line-state').focus()")
+                    browser.value("document.getElementById('split-source').focus()")
                 browser.press("Tab")
             missed = browser.value(
                 "[...document.querySelectorAll('button, input, select, textarea, summary, [tabindex=\"0\"]')]"
@@ -72,8 +73,8 @@ class ShapeTests(PageTests):
         with self.page(self.example("guess")) as browser:
             browser.value("chipbenchPage.model.setKeys(chipbenchPage.model.keys.with(20, 3, true))")
             self.rest()
-            for tab in ("source", "machine", "keys", "search"):
-                browser.value(f"chipbenchPage.appearance.showTab({json.dumps(tab)})")
+            for tab in ("source", "words", "stack", "memory", "sprite", "keys", "search"):
+                self.tab(tab)
                 assert browser.nameless() == [], (tab, browser.nameless())
 
     def test_themes_and_widths(self) -> None:
@@ -90,7 +91,7 @@ class ShapeTests(PageTests):
                     wide = browser.value("document.documentElement.scrollWidth")
                     assert wide <= width, f"{wide} pixels at {width}"
                     spilt = browser.value(
-                        "[...document.querySelectorAll('button, input, select, section, .track')].filter((one) => one.checkVisibility() && !one.closest('.scroller'))"
+                        "[...document.querySelectorAll('button, input, select, section, .track')].filter((one) => one.checkVisibility() && !one.closest('.scroller, #tabs'))"
                         ".filter((one) => { const box = one.getBoundingClientRect(); return box.right > innerWidth + 1 || box.left < -1; }).map((one) => one.id || one.textContent)"
                     )
                     assert spilt == [], (width, spilt)
@@ -98,13 +99,13 @@ class ShapeTests(PageTests):
                     assert abs(square - 2) < 0.02, square
                     self.picture(f"theme-{theme}-{width}")
                 for one, other in (
-                    ("--text", "--ground"), ("--text", "--panel"), ("--text", "--sunken"), ("--faint", "--panel"), ("--faint", "--sunken"),
-                    ("--fault", "--fault-ground"), ("--fault", "--panel"), ("--changed", "--changed-ground"), ("--text", "--here-ground"),
-                    ("--faint", "--here-ground"), ("--accent-text", "--accent"), ("--text", "--changed-ground"), ("--text", "--fault-ground"), ("--faint", "--ground"),
+                    ("--text", "--chrome"), ("--text", "--panel"), ("--text", "--sunken"), ("--faint", "--panel"), ("--faint", "--sunken"), ("--faint", "--chrome"),
+                    ("--fault", "--fault-ground"), ("--fault", "--panel"), ("--changed", "--changed-ground"), ("--text", "--accent-ground"),
+                    ("--faint", "--accent-ground"), ("--accent-text", "--accent"), ("--text", "--changed-ground"), ("--text", "--fault-ground"), ("--accent", "--accent-ground"),
                 ):  # fmt: skip
                     assert self.contrast(one, other) >= 4.5, (theme, one, other, self.contrast(one, other))
                 for one in ("--comment", "--word", "--directive", "--register", "--number", "--string"):
-                    for other in ("--sunken", "--here-ground", "--fault-ground"):
+                    for other in ("--panel", "--accent-ground", "--fault-ground"):
                         assert self.contrast(one, other) >= 4.5, (theme, one, other, self.contrast(one, other))
                 assert self.contrast("--screen-lit", "--screen-dark") >= 7
 
@@ -122,7 +123,7 @@ class ShapeTests(PageTests):
         """At each size the line of pc is in view after each step, and the screen and the timelines without scrolling."""
         text = "; a game of 120 lines\n" + "".join(f"L{number}: LD V{number % 16:X}, {number}\n" for number in range(115)) + "JP L0\n"
         with self.page(text) as browser:
-            for width, height in ((1440, 900), (1240, 700), (1000, 700), (800, 600), (700, 900), (360, 740), (360, 640)):
+            for width, height in ((1440, 900), (1240, 700), (1024, 768), (800, 600), (720, 450), (390, 844), (360, 640)):
                 browser.size(width, height)
                 for theme in ("light", "dark"):
                     browser.theme(theme)
@@ -131,51 +132,34 @@ class ShapeTests(PageTests):
                     self.picture(f"view-{width}-{height}-{theme}")
 
     def test_tabs(self) -> None:
-        """At each width the chosen tab is that of the part that is shown, and the keyboard reaches it."""
+        """The chosen tab is that of the panel that is shown, and the keyboard reaches it; the source is a tab where there is little room."""
         chosen = "[...document.querySelectorAll('#tabs [role=tab]')].filter((tab) => tab.checkVisibility() && tab.getAttribute('aria-selected') === 'true' && tab.tabIndex === 0).map((tab) => tab.dataset.tab).join()"
-        parts = {"source": "source-part", "machine": "registers-part", "keys": "keys-part", "search": "search-part"}
+        shown = "[...document.querySelectorAll('.panel')].filter((panel) => panel.checkVisibility()).map((panel) => panel.id).join()"
+        panels = ("words", "stack", "memory", "sprite", "keys", "search")
         with self.page(self.example("bounce")) as browser:
-            for width, at_first in ((1000, "machine"), (360, "source")):
-                browser.size(width, 740)
-                browser.value("chipbenchPage.appearance.showTab('source')")
-                browser.wait(f"{chosen} === '{at_first}'")
-                for tab in (at_first, "keys", "search", "machine"):
-                    browser.value(f"[...document.querySelectorAll('#tabs [role=tab]')].find((tab) => tab.dataset.tab === '{tab}').click()")
-                    assert browser.value(chosen) == tab, (width, tab, browser.value(chosen))
-                    visible = [name for name, part in parts.items() if browser.value(f"document.getElementById('{part}').checkVisibility()")]
-                    assert set(visible) - ({"source"} if width >= 700 else set()) == {tab}, (width, tab, visible)
-            # a window that is made wider or narrower keeps to that
-            browser.value("chipbenchPage.appearance.showTab('source')")
-            for width, tab in ((1000, "machine"), (360, "source")):
-                browser.size(width, 740)
-                browser.wait(f"{chosen} === '{tab}'")
-
-    def test_keypad_and_marks(self) -> None:
-        """In a large window the keypad is whole, and the number of a line with a breakpoint lies inside its mark."""
-        bottoms = "['#keypad button:last-child', '#play-rest'].map((name) => document.querySelector(name).getBoundingClientRect().bottom)"
-        edges = (
-            "(() => { const number = document.querySelector('#gutter .break .number'); const text = document.createRange(); text.selectNodeContents(number);"
-            "const [inner, outer] = [text.getBoundingClientRect(), number.getBoundingClientRect()]; return [inner.left - outer.left, outer.right - inner.right]; })()"
-        )
-        with self.page(self.example("bounce")) as browser:
-            browser.value("chipbenchPage.editor.breakpoints.set([9]); chipbenchPage.editor.goToLine(9)")
-            for width, height in ((1440, 900), (1600, 1000)):
+            for width, height in ((1440, 900), (720, 450), (390, 844)):
                 browser.size(width, height)
-                time.sleep(0.15)
-                key, column = browser.value(bottoms)
-                assert key <= column, (width, height, key, column)
-                before, after = browser.value(edges)
-                assert before >= 2 and after >= 2, (width, height, before, after)
+                for tab in (*panels, "words"):
+                    browser.value(f"document.getElementById('tab-{tab}').click()")
+                    assert browser.value(chosen) == tab, (width, tab, browser.value(chosen))
+                    assert browser.value(shown) == f"{tab}-part", (width, tab, browser.value(shown))
+                    assert browser.value("document.getElementById('source-part').checkVisibility()") == (width == 1440)
+                if width < 1440:
+                    browser.value("document.getElementById('tab-source').click()")
+                    assert (browser.value(chosen), browser.value(shown)) == ("source", "")
+                browser.value("document.querySelector('#tabs [aria-selected=true]').focus()")
+                browser.press("ArrowRight")
+                assert browser.value(chosen) == ("stack" if width == 1440 else "words"), (width, browser.value(chosen))
 
     def check_view(self, width: int, height: int) -> None:
         boxes = (
             "(() => { const box = (name) => { const b = document.querySelector(name).getBoundingClientRect(); return [b.left, b.top, b.right, b.bottom]; };"
-            "return [box('#gutter .here'), box('#editor'), box('#screen'), box('#overview'), box('#close-up'), box('#play'), scrollY]; })()"
+            "return [box('#gutter .here'), box('#editor'), box('#screen'), box('#registers-part'), box('#close-up'), box('#play'), scrollY]; })()"
         )
         for step in (3, 30, 31, 60, 61, 90, 114, 116):
-            if width < 700 and step in (61, 116):
+            if width < 1000 and step in (61, 116):
                 # it is so when the source comes back from behind a tab
-                self.browser.value("chipbenchPage.appearance.showTab('machine')")
+                self.tab("words")
                 self.step(step)
                 self.browser.value(f"chipbenchPage.appearance.showTab('source'); {REST}")
             self.step(step)

@@ -36,7 +36,7 @@ class SourceTests(PageTests):
             self.rest()
             assert self.text_of("#fault-count") == "1 fault, the first in line 11"
             assert self.text_of("#marks .told").startswith("F4: "), self.text_of("#marks .told")
-            assert self.text_of("#machine-state").startswith("Q1")
+            assert self.text_of("#machine-state") == "before the faults"
             assert "F4" in self.text_of("#line-state")
             assert self.registers()["V0"] == "1f"
             browser.value("chipbenchPage.editor.goToLine(1)")

@@ -1,0 +1,53 @@
+// What the keys of the keyboard and the buttons of the time carry out, by its name.
+
+import { byId } from './dom.mjs';
+
+/** `page` has the parts of the page. Returns `act(name)`. */
+export function actionsOf(page) {
+  const { model, player, editor, timeline, documents, appearance, search, runControl } = page;
+
+  /** Where the source is behind a tab, it comes out. */
+  const inSource = (action) => {
+    if (!byId('source-part').checkVisibility()) appearance.showTab('source');
+    action();
+  };
+  const inTab = (tab, action) => {
+    appearance.showTab(tab);
+    action();
+  };
+  const move = (by) => () => {
+    player.play(0);
+    model.setStep(model.step + by());
+  };
+  const actions = {
+    back: move(() => -1),
+    on: move(() => 1),
+    'back-frame': move(() => -model.rate),
+    'on-frame': move(() => model.rate),
+    'back-thousand': move(() => -1000),
+    'on-thousand': move(() => 1000),
+    first: move(() => -model.step),
+    last: move(() => model.lastStep - model.step),
+    play: () => player.play(player.direction === 0 ? 1 : 0),
+    'play-back': () => player.toggle(-1),
+    'event-before': () => model.setStep(model.keys.previous(model.step)?.step ?? model.step),
+    'event-after': () => model.setStep(model.keys.next(model.step)?.step ?? model.step),
+    'undo-keys': () => model.undoKeys(),
+    'redo-keys': () => model.redoKeys(),
+    breakpoint: () => editor.breakpoints.toggle(editor.line),
+    'to-step': () => byId('step').select(),
+    'to-source': () => inSource(() => editor.focus()),
+    'to-timeline': () => timeline.focus(),
+    'to-search': () => inTab('search', () => search.focus()),
+    'to-panel': () => inTab(document.body.dataset.tab, () => document.querySelector('#tabs [aria-selected="true"]').focus()),
+    'next-fault': () => inSource(() => editor.goToFault(true)),
+    'fault-before': () => inSource(() => editor.goToFault(false)),
+    explain: () => (editor.fault === null ? byId('help').showModal() : page.explain(editor.fault)),
+    help: () => byId('help').showModal(),
+    save: () => documents.save(),
+  };
+  return (name) => {
+    if (name in actions) actions[name]();
+    else runControl.run(name);
+  };
+}

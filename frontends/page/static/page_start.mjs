@@ -1,0 +1,44 @@
+// What the page begins with: the settings and the place that the browser kept, as far as the program takes them.
+
+import { BridgeFault } from './bridge.mjs';
+import { grouped } from './dom.mjs';
+import { KeyScript } from './key_script.mjs';
+import { notice } from './notices.mjs';
+import { ProgramEnded } from './workbench.mjs';
+
+/** The settings that were kept, but for those that the command line says; of those that the program takes. */
+export function optionsAtStart({ settings, options }, kept) {
+  const taken = { rate: '10', ...kept?.options, ...settings };
+  if ('seed' in settings) delete taken.tape;
+  if ('tape' in settings) delete taken.seed;
+  return Object.fromEntries(Object.entries(taken).filter(([option]) => options.includes(option)));
+}
+
+/** Which steps there are has to be known before a step or an event is taken. Settings that are refused are dropped once. */
+export async function findLastStep(about, { model, workbench }, isAgain = false) {
+  try {
+    // without the kept events, which the program refuses where one is past its last step
+    await workbench.answers({ ...model.wanted, keys: new KeyScript() }, []);
+    model.setLastStep(workbench.lastStep);
+  } catch (fault) {
+    const isRefused = (fault instanceof ProgramEnded || fault instanceof BridgeFault) && !isAgain && fault.status !== 0;
+    if (isRefused && JSON.stringify(model.options) !== JSON.stringify({ rate: '10', ...about.settings })) {
+      notice('settings', `The settings that this browser kept were left out: ${fault.message}.`);
+      model.setOptions(optionsAtStart(about, null));
+      return findLastStep(about, { model, workbench }, true);
+    }
+    // the first question tells what is wrong
+  }
+  return undefined;
+}
+
+/** Takes the keys and the step that were kept, as far as the program has such steps. */
+export function takeKeptPlace(model, { keys, step }) {
+  const { lastStep } = model;
+  const past = keys.events.filter((event) => event.step > lastStep);
+  if (past.length > 0) {
+    notice('past', `Events past the last step of this program, ${grouped(lastStep)}, were left out: ${past.length}.`);
+    model.startWithKeys(past.reduce((script, event) => script.without(event.step, event.key), keys));
+  }
+  model.setStep(step);
+}

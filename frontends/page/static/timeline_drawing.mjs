@@ -1,0 +1,139 @@
+// Draws the time on a canvas: a ruler, a lane for each key that has events, what was played, and the step.
+
+import { colour, grouped } from './dom.mjs';
+
+export const LABEL_PIXELS = 24;
+const RULER_PIXELS = 18;
+const RULER_FONT = '11px system-ui, sans-serif';
+/** At most so wide is a digit of the ruler. */
+const DIGIT_PIXELS = 7;
+const TALLEST_LANE = 20;
+const HATCH_PIXELS = 7;
+const LEAST_BAR = 2;
+
+/** How high each of so many lanes is, in a track of that height. */
+export function laneHeight(count, height) {
+  return Math.min(TALLEST_LANE, (height - RULER_PIXELS) / Math.max(1, count));
+}
+
+/** The lane at a height of a track, of so many lanes; -1 above them. */
+export function laneAt(y, count, height) {
+  return y < RULER_PIXELS ? -1 : Math.floor((y - RULER_PIXELS) / laneHeight(count, height));
+}
+
+/** The keys that have events, in their order. */
+export const lanesOf = (keys) => [...new Set(keys.events.map((event) => event.key))].sort((one, other) => one - other);
+
+/** When each key is down: from a step up to another, which is null where it stays down. */
+export function barsOf(keys) {
+  const [bars, downs] = [[], new Map()];
+  for (const { step, key, down } of keys.events) {
+    if (down && !downs.has(key)) downs.set(key, step);
+    if (!down) bars.push({ key, from: downs.get(key) ?? step, to: step });
+    if (!down) downs.delete(key);
+  }
+  for (const [key, from] of downs) bars.push({ key, from, to: null });
+  return bars;
+}
+
+/** `what` has the model, the steps that are shown, how many were played, and the size and the pen of the track. */
+export function drawCloseUp({ model, range: [from, to], played, size: { width, height, pen } }) {
+  const x = (step) => LABEL_PIXELS + ((step - from) / Math.max(1, to - from)) * (width - LABEL_PIXELS);
+  pen.clearRect(0, 0, width, height);
+  pen.fillStyle = colour('--sunken');
+  pen.fillRect(LABEL_PIXELS, RULER_PIXELS, width - LABEL_PIXELS, height - RULER_PIXELS);
+  drawRuler(pen, x, from, to, height);
+  if (played < to) hatch(pen, Math.max(LABEL_PIXELS, x(played)), RULER_PIXELS, width, height);
+  drawLanes({ pen, x, from, to, width, height, model });
+  drawStep(pen, x(model.step), model.step, width, height);
+}
+
+export function drawOverview({ model, range: [from, to], span, played, size: { width, height, pen } }) {
+  const x = (step) => LABEL_PIXELS + (step / Math.max(1, span)) * (width - LABEL_PIXELS);
+  pen.clearRect(0, 0, width, height);
+  if (played < span) hatch(pen, x(played), 0, width, height);
+  const lanes = lanesOf(model.keys);
+  const tall = Math.max(1, (height - 4) / Math.max(2, lanes.length));
+  pen.fillStyle = colour('--key-bar');
+  for (const { key, from: start, to: end } of barsOf(model.keys)) {
+    pen.fillRect(x(start), 2 + lanes.indexOf(key) * tall, Math.max(1, x(end ?? played) - x(start)), Math.max(1, tall - 1));
+  }
+  pen.strokeStyle = colour('--edge');
+  pen.lineWidth = 1;
+  pen.strokeRect(x(from) + 0.5, 0.5, Math.max(4, x(to) - x(from)) - 1, height - 1);
+  pen.fillStyle = colour('--edge');
+  for (const edge of [x(from), Math.max(x(from) + 4, x(to)) - 3]) pen.fillRect(edge, 0, 3, height);
+  pen.fillStyle = colour('--accent');
+  pen.fillRect(Math.min(width - 2, x(model.step) - 1), 0, 2, height);
+}
+
+/** What wasn't played. */
+function hatch(pen, from, top, width, height) {
+  pen.save();
+  pen.beginPath();
+  pen.rect(from, top, Math.max(0, width - from), height - top);
+  pen.clip();
+  pen.strokeStyle = colour('--line');
+  pen.lineWidth = 1;
+  pen.beginPath();
+  for (let at = from - height; at < width + height; at += HATCH_PIXELS) {
+    pen.moveTo(at, height);
+    pen.lineTo(at + height - top, top);
+  }
+  pen.stroke();
+  pen.restore();
+}
+
+/** A mark at round steps, with numbers as far apart as they have room. */
+function drawRuler(pen, x, from, to, height) {
+  const unit = niceUnit((to - from) / Math.max(2, (x(to) - x(from)) / 90));
+  setFont(pen, RULER_FONT);
+  for (let step = Math.ceil(from / unit) * unit; step <= to; step += unit) {
+    pen.fillStyle = colour('--line');
+    pen.fillRect(x(step), 2, 1, height - 2);
+    pen.fillStyle = colour('--faint');
+    const label = grouped(step);
+    if (x(to) - x(step) > DIGIT_PIXELS * label.length + 4) pen.fillText(label, x(step) + 4, 12);
+  }
+}
+
+function drawLanes({ pen, x, from, to, width, height, model }) {
+  const lanes = lanesOf(model.keys);
+  const tall = laneHeight(lanes.length, height);
+  const gap = tall > 6 ? 2 : 0.5;
+  for (const { key, from: start, to: end } of barsOf(model.keys)) {
+    if ((end ?? Infinity) < from || start > to) continue;
+    const isHeld = start <= model.step && model.step < (end ?? Infinity);
+    const [begin, stop] = [Math.max(x(start), LABEL_PIXELS), Math.min(width, end === null ? width : x(end))];
+    pen.fillStyle = colour(isHeld ? '--accent' : '--key-bar');
+    pen.fillRect(begin, RULER_PIXELS + lanes.indexOf(key) * tall + gap, Math.max(LEAST_BAR, stop - begin), tall - 2 * gap);
+  }
+  if (lanes.length === 0 || tall < 8) return;
+  pen.fillStyle = colour('--faint');
+  setFont(pen, `${Math.min(11, tall)}px ui-monospace, monospace`);
+  lanes.forEach((key, lane) => pen.fillText(key.toString(16).toUpperCase(), 6, RULER_PIXELS + (lane + 1) * tall - (tall - 8) / 2));
+}
+
+/** The step, as a line with its number above it. */
+function drawStep(pen, place, step, width, height) {
+  setFont(pen, `600 ${RULER_FONT}`);
+  const label = grouped(step);
+  const wide = DIGIT_PIXELS * label.length + 8;
+  const left = Math.max(0, Math.min(width - wide, place - wide / 2));
+  pen.fillStyle = colour('--accent');
+  pen.fillRect(Math.min(width - 2, place - 1), 0, 2, height);
+  pen.fillRect(left, 0, wide, 16);
+  pen.fillStyle = colour('--accent-text');
+  pen.fillText(label, left + (wide - pen.measureText(label).width) / 2, 12);
+}
+
+/** Sets the font where it isn't the one: the browser looks up the styles of the page for it. */
+function setFont(pen, font) {
+  if (pen.font !== font) pen.font = font;
+}
+
+/** The least of 1, 2, 5, 10, 20 .. that isn't below a number. */
+export function niceUnit(number) {
+  const power = 10 ** Math.floor(Math.log10(Math.max(1, number)));
+  return [1, 2, 5, 10].map((factor) => factor * power).find((unit) => unit >= number) ?? 10 * power;
+}

@@ -1,0 +1,224 @@
+"""How the page is laid out: at each size each part is in sight, no text lies over another, and the colours can be told apart."""
+
+from __future__ import annotations
+
+import tempfile
+import time
+from pathlib import Path
+
+from browser_page import PageTests
+from driver import CONTROL, Browser
+from small_png import pixels
+
+SIZES = ((1440, 900), (1280, 800), (1024, 768), (720, 450), (390, 844), (360, 640))
+PANELS = ("words", "stack", "memory", "sprite", "keys", "search")
+# the texts that are seen, each with its box, cut off where its parts are, its colour and the colour below it
+TEXTS = """(() => {
+    const seen = [];
+    const walker = document.createTreeWalker(document.body, NodeFilter.SHOW_TEXT);
+    const parse = (colour) => { const parts = colour.match(/[\\d.]+/g).map(Number); return [...parts.slice(0, 3), parts[3] ?? 1]; };
+    const over = (above, below) => above.slice(0, 3).map((part, place) => part * above[3] + below[place] * (1 - above[3]));
+    const ground = (element) => {
+        const grounds = [];
+        for (let at = element; at !== null; at = at.parentElement) {
+            const colour = parse(getComputedStyle(at).backgroundColor);
+            if (colour[3] > 0) grounds.push(colour);
+            if (colour[3] === 1) break;
+        }
+        return grounds.reverse().reduce((below, above) => over(above, below), [255, 255, 255]);
+    };
+    while (walker.nextNode()) {
+        const node = walker.currentNode;
+        const element = node.parentElement;
+        if (node.data.trim() === '' || element.closest('#editor, script, .unseen, .skip, #notices') || !element.checkVisibility({ opacityProperty: true, visibilityProperty: true })) continue;
+        const range = document.createRange();
+        range.selectNodeContents(node);
+        let { left, top, right, bottom } = range.getBoundingClientRect();
+        for (let at = element; at !== null; at = at.parentElement) {
+            const style = getComputedStyle(at);
+            if (style.overflow === 'visible' && at !== document.body) continue;
+            const box = at.getBoundingClientRect();
+            [left, top, right, bottom] = [Math.max(left, box.left), Math.max(top, box.top), Math.min(right, box.right), Math.min(bottom, box.bottom)];
+        }
+        if (right - left < 2 || bottom - top < 4) continue;
+        const style = getComputedStyle(element);
+        const large = parseFloat(style.fontSize) >= 24 || (parseFloat(style.fontSize) >= 18.66 && Number(style.fontWeight) >= 700);
+        const below = ground(element);
+        seen.push({ text: node.data.trim().slice(0, 40), box: [left, top, right, bottom], colour: over(parse(style.color), below), below, large,
+            path: `${element.closest('[id]')?.id} ${element.localName}` });
+    }
+    return seen;
+})()"""
+# what lies where something else should be: the middle of a control that another part covers
+COVERED = """[...document.querySelectorAll('button, input, select, summary, .track, textarea')]
+    .filter((one) => one.checkVisibility() && !one.closest('dialog, #sprite, .unseen') && one.id !== 'source-text')
+    .filter((one) => { one.scrollIntoView({ block: 'nearest', inline: 'nearest' }); const b = one.getBoundingClientRect();
+        const there = document.elementFromPoint(b.x + b.width / 2, b.y + b.height / 2);
+        return there === null || !(one.contains(there) || there.contains(one) || there.closest('label')?.contains(one)); })
+    .map((one) => one.outerHTML.slice(0, 90))"""
+
+
+def light(colour: list[float]) -> float:
+    parts = [part / 255 for part in colour]
+    linear = [part / 12.92 if part <= 0.03928 else ((part + 0.055) / 1.055) ** 2.4 for part in parts]
+    return 0.2126 * linear[0] + 0.7152 * linear[1] + 0.0722 * linear[2]
+
+
+def contrast(one: list[float], other: list[float]) -> float:
+    lighter, darker = sorted((light(one), light(other)), reverse=True)
+    return (lighter + 0.05) / (darker + 0.05)
+
+
+class LayoutTests(PageTests):
+    def played(self, browser: Browser) -> None:
+        """A game with some keys, a breakpoint and a call, at a step in the middle."""
+        browser.value(
+            "{ const { model, editor } = chipbenchPage; model.setKeys(model.keys.with(200, 5, true).with(400, 5, false).with(900, 6, true).with(1500, 6, false));"
+            "model.setPlayed(3000); editor.breakpoints.set([60]); }"
+        )
+        self.step(2300)
+
+    def test_parts_at_each_size(self) -> None:
+        """No panel is without height, no text lies over another, nothing covers a control, and each text has a contrast of 4.5 or more."""
+        with self.page(self.example("breaker")) as browser:
+            self.played(browser)
+            for width, height in SIZES:
+                browser.size(width, height)
+                for theme in ("light", "dark"):
+                    browser.theme(theme)
+                    for tab in PANELS if theme == "light" else ("words", "keys"):
+                        self.tab(tab)
+                        time.sleep(0.1)
+                        self.check_part(f"#{tab}-part", width, height)
+                        self.check_texts((width, height, theme, tab))
+                    self.tab("source")
+                    time.sleep(0.1)
+                    self.check_part("#editor", width, height)
+                    assert browser.value(COVERED) == [], (width, height, browser.value(COVERED))
+                    self.picture(f"layout-{width}-{height}-{theme}")
+
+    def check_part(self, selector: str, width: int, height: int) -> None:
+        """The panel, the screen, the registers and the time are in sight and have a size."""
+        for part, least in ((selector, 90), ("#screen", 90), ("#registers-part", 70), ("#close-up", 30), ("#transport", 36), ("#tabs", 30)):
+            left, top, right, bottom = self.browser.value(
+                f"(() => {{ const b = document.querySelector('{part}').getBoundingClientRect(); return [b.left, b.top, b.right, b.bottom]; }})()"
+            )
+            assert left >= -1 and top >= -1 and right <= width + 1 and bottom <= height + 1, (part, width, height, left, top, right, bottom)
+            assert bottom - top >= least and right - left >= 150, (part, width, height, bottom - top, right - left)
+
+    def check_texts(self, where: tuple[object, ...]) -> None:
+        texts = self.browser.value(TEXTS)
+        assert len(texts) > 30, where
+        for text in texts:
+            told = contrast(text["colour"], text["below"])
+            assert told >= (3 if text["large"] else 4.5), (where, text, told)
+        for place, one in enumerate(texts):
+            for other in texts[place + 1 :]:
+                wide = min(one["box"][2], other["box"][2]) - max(one["box"][0], other["box"][0])
+                tall = min(one["box"][3], other["box"][3]) - max(one["box"][1], other["box"][1])
+                assert wide < 2 or tall < 5, (where, one, other)
+
+    def test_pictures_of_the_sizes(self) -> None:
+        """In a picture of the page the screen is where it is said to be, with as many lit points, and the other parts aren't blank."""
+        with self.page(self.example("breaker")) as browser, tempfile.TemporaryDirectory() as folder:
+            self.played(browser)
+            lit_share = browser.value(
+                "(() => { const lit = document.getElementById('screen').getContext('2d').getImageData(0, 0, 128, 64).data; let count = 0;"
+                "for (let place = 0; place < lit.length; place += 4) if (lit[place] > 100) count += 1; return count / 8192; })()"
+            )
+            for width, height in ((1440, 900), (720, 450), (390, 844)):
+                browser.size(width, height)
+                self.tab("source")
+                time.sleep(0.3)
+                place = Path(folder) / "page.png"
+                browser.picture(place)
+                wide, tall, colours = pixels(place.read_bytes())
+                assert (wide, tall) == (width, height)
+
+                def part(selector: str) -> list[tuple[int, ...]]:
+                    left, top, right, bottom = (
+                        round(edge)
+                        for edge in browser.value(f"(() => {{ const b = document.querySelector('{selector}').getBoundingClientRect(); return [b.left, b.top, b.right, b.bottom]; }})()")
+                    )
+                    return [colour for row in range(top, bottom) for colour in colours[row * wide + left : row * wide + right]]
+
+                screen = part("#screen")
+                share = sum(colour[1] > 150 for colour in screen) / len(screen)
+                assert abs(share - lit_share) < 0.03, (width, share, lit_share)
+                for selector in ("#editor", "#registers-part", "#close-up", "#transport", "header"):
+                    assert len(set(part(selector))) > 8, (width, selector)
+
+    def test_nothing_moves(self) -> None:
+        """A notice, a fault, a message and a play leave each part where it is."""
+        boxes = """['#source-part', '#editor', '#screen', '#registers-part', '#tabs', '#words-part', '#transport', '#play', '#step', '#close-up', '#overview', 'footer']
+            .map((name) => { const b = document.querySelector(name).getBoundingClientRect(); return [name, b.x, b.y, b.width, b.height].join(' '); })"""
+        text = self.example("breaker")
+        with self.page(text) as browser:
+            for width, height in ((1440, 900), (1024, 768)):
+                browser.size(width, height)
+                self.step(300)
+                before = browser.value(boxes)
+                self.put_line(30, "        LD V1, NOWHERE")
+                self.rest()
+                assert browser.value(boxes) == before, width
+                browser.press("z", "KeyZ", CONTROL)
+                browser.value("chipbenchPage.model.setOptions({ rate: '2000' })")
+                browser.wait("document.querySelector('.notice') !== null")
+                assert browser.value(boxes) == before, width
+                browser.value("chipbenchPage.model.setOptions({ rate: '10' })")
+                browser.wait("document.querySelector('.notice') === null")
+                browser.value("document.querySelector('[data-run=out]').click()")
+                browser.wait("document.getElementById('run-result').textContent !== ''")
+                browser.click("#play")
+                browser.wait("chipbenchPage.model.step > 700")
+                assert browser.value(boxes) == before, width
+                browser.click("#play")
+
+    def test_the_focus_is_seen(self) -> None:
+        """Whatever Tab reaches shows that it has the focus."""
+        with self.page(self.example("breaker")) as browser:
+            self.played(browser)
+            self.tab("keys")
+            browser.value("document.querySelector('.skip').focus()")
+            unseen = []
+            for _ in range(90):
+                browser.press("Tab")
+                if browser.value("document.activeElement.id") == "source-text":
+                    browser.value("document.getElementById('split-source').focus()")
+                told = browser.value(
+                    "(() => { const one = document.activeElement; const style = getComputedStyle(one); const after = getComputedStyle(one, '::after');"
+                    "const ring = style.outlineStyle !== 'none' && parseFloat(style.outlineWidth) >= 2; const line = one.id === 'split-source' && after.backgroundColor !== 'rgba(0, 0, 0, 0)';"
+                    "return ring || line || one === document.body ? '' : one.outerHTML.slice(0, 90); })()"
+                )
+                if told:
+                    unseen.append(told)
+            assert unseen == [], unseen
+
+    def test_the_start(self) -> None:
+        """A new source begins with examples and a template, which run at once."""
+        with self.page("", "old.asm", ()) as browser:
+            assert not browser.value("document.getElementById('start').checkVisibility()")
+        with self.page_of_nothing() as browser:
+            browser.wait("document.querySelectorAll('.example').length === 4")
+            for width, height in SIZES:
+                browser.size(width, height)
+                time.sleep(0.1)
+                assert browser.value("document.getElementById('start').checkVisibility()")
+                self.check_texts((width, height, "start"))
+            self.picture("start")
+            browser.size(1440, 900)
+            browser.wait("[...document.querySelectorAll('.example')].find((one) => /breaker/.test(one.textContent)).checkVisibility()")
+            browser.value("[...document.querySelectorAll('.example')].find((one) => /breaker/.test(one.textContent)).click()")
+            browser.wait("chipbenchPage.model.text.length > 1000")
+            assert browser.value("chipbenchPage.model.text") == self.example("breaker")
+            assert browser.value("document.activeElement.id") == "play"
+            browser.press(" ", "Space", text=" ")
+            browser.wait("chipbenchPage.model.step > 300")
+            browser.press(" ", "Space", text=" ")
+            assert self.text_of("#fault-count") == "no faults"
+            # the template is one more, and takes the place of nothing that was typed
+            browser.value("document.getElementById('show-start').click()")
+            browser.value("[...document.querySelectorAll('.example')].find((one) => /Template/.test(one.textContent)).click()")
+            browser.wait("chipbenchPage.model.text.startsWith('; A ship')")
+            self.rest()
+            assert self.text_of("#fault-count") == "no faults"
