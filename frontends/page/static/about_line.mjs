@@ -3,7 +3,7 @@
 import { byId, element, setProperty, setText } from './dom.mjs';
 import { hex } from './answers.mjs';
 import { placeOf } from './columns.mjs';
-import { rowsOf, tokensOf } from './language.mjs';
+import { rowOfWord, rowsOf, tokensOf } from './language.mjs';
 
 export class AboutLine {
   #editor;
@@ -61,16 +61,24 @@ export class AboutLine {
   /** What stands at the cursor, in one line. */
   #aboutWord() {
     const { line, column } = this.#editor.cursor;
-    return this.#about(this.#editor.lines[line - 1] ?? '', column).join('; ');
+    return this.#about(line, column).join('; ');
   }
 
   /** What is known of the token at a place of a line: a row of text each; none where there is nothing to say. */
   #about(line, place) {
-    const token = tokensOf(line).find(({ start, text }) => start <= place && place <= start + text.length);
-    if (token?.kind === 'mnemonic' || token?.kind === 'directive') return rowsOf(token.text);
+    const token = tokensOf(this.#editor.lines[line - 1] ?? '').find(({ start, text }) => start <= place && place <= start + text.length);
+    if (token?.kind === 'mnemonic') return this.#aboutInstruction(line, token.text);
+    if (token?.kind === 'directive') return rowsOf(token.text);
     if (token?.kind !== 'name') return [];
     const symbol = this.#assembled().symbols.find(({ name }) => name === token.text.toUpperCase());
     return symbol === undefined ? [] : [`${symbol.name} = ${symbol.value} (#${hex(symbol.value < 0 ? 2 ** 32 + symbol.value : symbol.value, 3)}), line ${symbol.line}`];
+  }
+
+  /** The form that the line has, where the program has made a word of it; else all forms. */
+  #aboutInstruction(line, mnemonic) {
+    const { field = '' } = this.#editor.listing[line - 1] ?? {};
+    const row = this.#editor.faultAt(line) === null && /^[0-9a-f]{4}$/.test(field) ? rowOfWord(field) : null;
+    return row !== null && row.startsWith(mnemonic.toUpperCase()) ? [row] : rowsOf(mnemonic);
   }
 
   #pointed(event) {
@@ -78,7 +86,7 @@ export class AboutLine {
     const text = this.#editor.lines[line - 1];
     const place = text === undefined ? 0 : placeOf(text, column);
     const isOnText = text !== undefined && column >= 0 && place < text.length;
-    const rows = isOnText ? [...this.#faultAt(line, place), ...this.#about(text, place)] : [];
+    const rows = isOnText ? [...this.#faultAt(line, place), ...this.#about(line, place)] : [];
     if (rows.length === 0) {
       this.#hide();
       return;

@@ -3,12 +3,12 @@
 
 import { byId, oncePerFrame } from './dom.mjs';
 import { Breakpoints } from './breakpoints.mjs';
-import { codeText } from './codes.mjs';
 import { columnOf, widthOf } from './columns.mjs';
 import { EditorKeys } from './editor_keys.mjs';
 import { EditorPointer } from './editor_pointer.mjs';
 import { EditorRows, ROW } from './editor_rows.mjs';
 import { EditorSight } from './editor_sight.mjs';
+import { LineFacts } from './line_facts.mjs';
 import { difference, SourceText } from './source_text.mjs';
 import { TextWindow } from './text_window.mjs';
 
@@ -16,7 +16,7 @@ const TYPED = ['insertText', 'deleteContentBackward', 'deleteContentForward'];
 /** Columns left of the text, as style.css has them. */
 const INDENT_COLUMNS = 0.6;
 
-export class Editor extends EventTarget {
+export class Editor extends LineFacts {
   #area = byId('source-text');
   #model;
   #source = new SourceText();
@@ -24,12 +24,6 @@ export class Editor extends EventTarget {
   #rows = new EditorRows(this);
   #sight = new EditorSight(() => this.#draw(), (before) => this.#resizedSight(before));
   #keys = new EditorKeys(this, this.#sight);
-  #listing = [];
-  #faults = new Map();
-  /** Where the faults lie and what the program says of them, by line; other faulty lines show their code alone. */
-  #places = new Map();
-  #covered = new Map();
-  #here = null;
   #draw = oncePerFrame(() => this.#drawRows());
   /** The selection before what is typed now, and where the page stood when the key went down. */
   #before = { start: 0, end: 0 };
@@ -87,15 +81,6 @@ export class Editor extends EventTarget {
     return this.#source.lines;
   }
 
-  get listing() {
-    return this.#listing;
-  }
-
-  /** The line that pc is at, or null. */
-  get here() {
-    return this.#here;
-  }
-
   /** The places between which the text is selected, and in which direction. */
   get selection() {
     return this.#window.selection;
@@ -137,61 +122,17 @@ export class Editor extends EventTarget {
     this.#window.leaveFar();
   }
 
-  // What is known of the lines ------------------------------------------------------------------------------------------------
-
-  /** The lines with a fault, in order, and the code at the cursor's line, or null. */
-  get faultLines() {
-    return [...this.#faults.keys()].sort((one, other) => one - other);
-  }
-
   get fault() {
     return this.faultAt(this.line);
   }
 
-  faultAt(line) {
-    return this.#faults.get(line) ?? null;
-  }
-
-  /** What is said of the fault of a line. */
-  faultText(line) {
-    return this.#places.get(line)?.sentence ?? codeText(this.#faults.get(line));
-  }
-
-  /** Where the fault of a line lies, once the program has said so; else null. */
-  faultPlace(line) {
-    return this.#places.get(line) ?? null;
-  }
-
-  coveredAt(line) {
-    return this.#covered.get(line);
-  }
-
-  /** The listing and the codes by line, once the program has answered. */
-  show(listing, faults) {
-    this.#listing = listing;
-    this.#faults = faults;
-    this.#places = new Map();
+  /** What is known of the lines has changed. */
+  factsChanged() {
     this.#drawRows();
     this.#tellCursor();
   }
 
-  /** Where the faults of the lines that are shown lie. */
-  showPlaces(places) {
-    this.#places = places;
-    this.#drawRows();
-    this.#tellCursor();
-  }
-
-  /** When each line was carried out last, by line; an empty map shows nothing. */
-  showCovered(covered) {
-    this.#covered = covered;
-    this.#drawRows();
-  }
-
-  /** The line that pc is at, or null. */
-  showHere(line) {
-    if (line === this.#here) return;
-    this.#here = line;
+  hereChanged() {
     this.#rows.drawHere();
   }
 
@@ -199,7 +140,7 @@ export class Editor extends EventTarget {
 
   /** Brings the line that pc is at into sight. */
   revealHere() {
-    if (this.#here !== null) this.#reveal(this.#here);
+    if (this.here !== null) this.#reveal(this.here);
   }
 
   #reveal(line) {
@@ -217,17 +158,28 @@ export class Editor extends EventTarget {
   /** The line that pc is at stays in sight where it was, and comes into sight where the source was behind a tab. */
   #resizedSight(before) {
     if (before.height === 0) this.#measure();
-    const follows = this.#here !== null && (before.height === 0 || this.#sight.holds(this.#here, before));
-    if (follows && this.#sight.height > 0) this.#reveal(this.#here);
+    const follows = this.here !== null && (before.height === 0 || this.#sight.holds(this.here, before));
+    if (follows && this.#sight.height > 0) this.#reveal(this.here);
     this.#draw();
   }
 
   goToLine(line) {
-    const place = this.placeOf(line, 0);
     this.focus();
+    this.showLine(line);
+    this.#sight.toBegin();
+  }
+
+  /** Shows a line, with the cursor in it, and leaves the focus where it is. */
+  showLine(line) {
+    const place = this.placeOf(line, 0);
     this.select(place, place);
     this.#reveal(line);
-    this.#sight.toBegin();
+  }
+
+  /** Puts a card below a line, as near to its left edge as it stays in sight. */
+  placeBelow(card, line) {
+    card.style.transform = `translate(${this.#sight.left}px, ${line * ROW + 2}px)`;
+    card.style.maxWidth = `${this.#sight.width - 2 * ROW}px`;
   }
 
   /** To the next fault after the cursor's line, or the one before; round the end. */

@@ -6,9 +6,9 @@ import { decodeText } from './text_form.mjs';
 const LATER_MILLISECONDS = 120;
 
 /**
- * The places in an answer of `check`, by line: the code, the sentence, and the first and the last character. Each fault is a line
+ * The places in an answer of `check`, by line: the code, the sentence, the first and the last character, and its help. Each fault is a line
  * `NAME:LINE:COLUMN: CODE: SENTENCE`, the line itself, and signs under the place, which is empty where one `^` alone stands behind
- * the text. Columns count bytes.
+ * the text; then its help, a line `help: SENTENCE` or `note: SENTENCE` each. Columns count bytes.
  */
 export function readPlaces(output, lines, encoding) {
   const places = new Map();
@@ -19,7 +19,12 @@ export function readPlaces(output, lines, encoding) {
     if (found === null || marks === null) return;
     const [line, column] = [Number(found[1]), Number(found[2])];
     const start = charactersIn(lines[line - 1] ?? '', column - 1, encoding);
-    places.set(line, { code: found[3], sentence: found[4], start, end: charactersIn(lines[line - 1] ?? '', column - 1 + marks[1].length, encoding) });
+    const end = charactersIn(lines[line - 1] ?? '', column - 1 + marks[1].length, encoding);
+    const after = answer.slice(place + 3);
+    const count = after.findIndex((one) => !/^(help|note): /.test(one));
+    const help = after.slice(0, count < 0 ? after.length : count).map((one) => one.replace(/^(help|note): /, ''));
+    // the first fault of a line is the one that is shown
+    if (!places.has(line)) places.set(line, { code: found[3], sentence: found[4], start, end, help });
   });
   return places;
 }

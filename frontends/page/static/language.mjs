@@ -92,9 +92,19 @@ export function tokensOf(line) {
   return tokens;
 }
 
+/** The row of the instruction that a word of the image is, `6a02` for one, or null. The form with the most digits of its own is meant. */
+export function rowOfWord(word) {
+  const fits = ([code]) => [...code].every((digit, place) => 'XYNK'.includes(digit) || digit.toLowerCase() === word[place]);
+  const own = ([code]) => [...code].filter((digit) => !'XYNK'.includes(digit)).length;
+  const [found] = INSTRUCTIONS.filter(fits).sort((one, other) => own(other) - own(one));
+  return found === undefined ? null : rowOf(found);
+}
+
+const rowOf = ([code, source, effect]) => `${source}  (${code}): ${effect}`;
+
 /** What a word of the language does, a row of text for each of its forms; empty for other words. */
 export function rowsOf(word) {
   const wanted = word.toUpperCase();
   if (DIRECTIVES.has(wanted)) return [DIRECTIVES.get(wanted)];
-  return INSTRUCTIONS.filter(([, source]) => source.split(' ')[0] === wanted).map(([code, source, effect]) => `${source}  (${code}): ${effect}`);
+  return INSTRUCTIONS.filter(([, source]) => source.split(' ')[0] === wanted).map(rowOf);
 }

@@ -14,8 +14,10 @@ import { byId, grouped, setAttribute, setText, setTitle } from './dom.mjs';
 import { Editor } from './editor.mjs';
 import { EventsView } from './events_view.mjs';
 import { Exports } from './exports.mjs';
+import { FaultHelp } from './fault_help.mjs';
 import { FaultPlaces } from './fault_places.mjs';
 import { askName, FileDialogs } from './file_dialogs.mjs';
+import { FindBar } from './find_bar.mjs';
 import { Keypad } from './keypad.mjs';
 import { MemoryView } from './memory_view.mjs';
 import { Model } from './model.mjs';
@@ -67,6 +69,8 @@ class Page {
     this.editor = new Editor(this.model);
     this.aboutLine = new AboutLine(this.editor, { assembled: () => this.viewer.assembled, explains, explain: (code) => this.explain(code) });
     this.completion = new Completion(this.editor, () => this.viewer.assembled.symbols);
+    this.findBar = new FindBar(this.editor);
+    this.faultHelp = new FaultHelp(this.editor, this.model, explains ? (code) => this.explain(code) : null);
     this.faultPlaces = new FaultPlaces(this.model, (places) => {
       this.editor.showPlaces(places);
     });
@@ -148,6 +152,7 @@ class Page {
     for (const button of document.querySelectorAll('[data-click]')) button.addEventListener('click', () => byId(button.dataset.click).click());
     this.#listenToStep(byId('step'));
     byId('show-settings').addEventListener('click', () => this.settings.open());
+    byId('show-find').addEventListener('click', () => this.#act('find'));
     byId('show-help').addEventListener('click', () => byId('help').showModal());
     byId('download-case').hidden = !this.#about.words.includes('test');
     for (const menu of document.querySelectorAll('.menu')) this.#listenToMenu(menu);

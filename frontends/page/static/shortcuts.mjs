@@ -70,7 +70,10 @@ function actionOf(event) {
   if (event.key === 'F8') return event.shiftKey ? 'fault-before' : 'next-fault';
   if (event.key === 'F1') return 'explain';
   if (event.key === 'F9') return 'breakpoint';
-  if (control && !event.altKey && event.code === 'KeyS') return 'save';
+  if (event.key === 'F3') return event.shiftKey ? 'find-back' : 'find-on';
+  const withControl = { KeyS: 'save', KeyF: 'find', KeyH: 'replace', KeyG: 'to-line' }[event.code];
+  if (control && !event.altKey && !event.shiftKey && withControl !== undefined) return withControl;
+  if (event.key === 'Enter' && event.altKey && inText) return 'fix';
   if (control && !event.altKey && event.code === 'KeyZ') return inText ? undefined : event.shiftKey ? 'redo-keys' : 'undo-keys';
   if (control && !event.altKey && event.code === 'KeyY') return inText ? undefined : 'redo-keys';
   if (control || event.metaKey) return undefined;

@@ -2,12 +2,13 @@
 
 from __future__ import annotations
 
+import json
 import re
 import subprocess
 import time
 
 from browser_page import PageTests
-from driver import CONTROL, SHIFT
+from driver import ALT, CONTROL, SHIFT
 
 
 class SourceTests(PageTests):
@@ -183,6 +184,74 @@ class SourceTests(PageTests):
                 assert browser.value("document.querySelector('#marks .underline')") is None
         finally:
             self.program = program
+
+    def test_fixes(self) -> None:
+        """What the program says of the cursor's line stands below it, with buttons that put it right; a fix that doesn't help isn't there."""
+        text = "START:  LD V0 5\n        JP STRAT\n        LD V1, 300\n        MOV V2, 1\n"
+        with self.page(text) as browser:
+            shown = "(document.getElementById('fault-help').hidden ? '' : document.getElementById('fault-help').innerText)"
+            buttons = "[...document.querySelectorAll('#fault-help button')].map((button) => button.firstChild.textContent)"
+            below = "document.getElementById('fault-help').getBoundingClientRect().top - document.getElementById('editor').getBoundingClientRect().top"
+            for line, sentence, title, fixed in (
+                (1, "a comma is missing", "Put a comma", "START:  LD V0, 5"),
+                (2, "did you mean START?", "Write START", "        JP START"),
+                (4, "MOV is written LD here", "Write LD", "        LD V2, 1"),
+            ):
+                browser.value(f"chipbenchPage.editor.goToLine({line})")
+                browser.wait(f"{shown}.includes({json.dumps(sentence)}) && {buttons}[0] === {json.dumps(title)}")
+                assert browser.value(below) >= 20 * line, browser.value(below)
+                self.picture(f"fix-{line}")
+                if line == 1:
+                    browser.value("document.querySelector('#fault-help button').click()")
+                else:
+                    browser.press("Enter", "Enter", ALT)
+                assert browser.value(f"chipbenchPage.editor.lines[{line - 1}]") == fixed, browser.value("chipbenchPage.editor.text")
+                browser.wait(f"{shown} === ''")
+            browser.value("chipbenchPage.editor.goToLine(3)")
+            browser.wait(f"{shown}.includes('has to lie from -128 to 255')")
+            assert browser.value(buttons) == ["More"], browser.value(buttons)
+            browser.press("Escape")
+            assert browser.value(shown) == "" and browser.value("document.activeElement.id") == "source-text"
+            # a fix is one change, which is undone
+            browser.press("z", "KeyZ", CONTROL)
+            assert browser.value("chipbenchPage.editor.lines[3]") == "        MOV V2, 1"
+
+    def test_find_and_replace(self) -> None:
+        text = "".join(f"L{number}: LD V{number % 16:X}, {number % 200}\n" for number in range(600))
+        with self.page(text) as browser:
+            cursor = "(({ line, column }) => [line, column])(chipbenchPage.editor.cursor)"
+            browser.value("chipbenchPage.editor.goToLine(5)")
+            browser.press("f", "KeyF", CONTROL)
+            browser.wait("document.activeElement.name === 'what'")
+            browser.type("va, 1")
+            assert browser.value(cursor) == [11, 13], browser.value(cursor)
+            browser.press("Enter", text="\r")
+            assert browser.value(cursor) == [107, 14], browser.value(cursor)
+            assert self.text_of("#find-told") == f"2 of {text.count('VA, 1')}", self.text_of("#find-told")
+            browser.press("Enter", modifiers=SHIFT)
+            assert browser.value(cursor) == [11, 13], browser.value(cursor)
+            browser.value("document.querySelector('#find [name=by]').value = 'VA, 2'; document.querySelector('#find [value=all]').click()")
+            assert browser.value("chipbenchPage.editor.text") == text.replace("VA, 1", "VA, 2")
+            browser.press("Escape")
+            assert browser.value("document.activeElement.id") == "source-text"
+            browser.press("z", "KeyZ", CONTROL)
+            assert browser.value("chipbenchPage.editor.text") == text
+            browser.press("g", "KeyG", CONTROL)
+            browser.wait("document.activeElement.name === 'line'")
+            browser.type("432")
+            browser.press("Enter", text="\r")
+            assert browser.value(cursor) == [432, 0]
+            browser.wait("[...document.querySelectorAll('#gutter .number')].some((one) => one.textContent === '432')")
+            assert browser.value("document.getElementById('find').hidden && document.activeElement.id === 'source-text'")
+
+    def test_the_form_of_the_line(self) -> None:
+        """On an instruction the line's own form is told, and not all that its word has."""
+        with self.page("LD V0, 5\nLD V1, V0\nLD V2, DT\nLD B, V2\n") as browser:
+            x, y = browser.value("(() => { const b = document.querySelector('#colours div').getBoundingClientRect(); return [b.x, b.y]; })()")
+            for line, form in enumerate(("LD Vx, kk  (6XKK): Vx := kk", "LD Vx, Vy  (8XY0): Vx := Vy", "LD Vx, DT  (FX07): Vx := delay timer", "LD B, Vx  (FX33)")):
+                browser.mouse("mouseMoved", x + 12, y + 20 * line + 10, 0)
+                browser.wait(f"document.getElementById('hover').textContent.startsWith({json.dumps(form)})")
+                assert "\n" not in self.text_of("#hover"), self.text_of("#hover")
 
     def with_check(self, said: str) -> str:
         """The program; where it lacks the command `check`, one that has it, with this answer."""

@@ -9,14 +9,16 @@ import { Breakpoints } from '../static/breakpoints.mjs';
 import { columnOf, indentAfter, outdentLength, placeOf } from '../static/columns.mjs';
 import { completionsOf } from '../static/completion.mjs';
 import { readPlaces } from '../static/fault_places.mjs';
+import { fixed, fixesOf } from '../static/fixes.mjs';
 import { readGame, writeGame } from '../static/game_file.mjs';
 import { encodeGif } from '../static/gif.mjs';
 import { KeyScript } from '../static/key_script.mjs';
 import { nearestPlace, wordAround } from '../static/editor_pointer.mjs';
-import { DIRECTIVES, INSTRUCTIONS, MNEMONICS, REGISTERS, tokensOf } from '../static/language.mjs';
+import { DIRECTIVES, INSTRUCTIONS, MNEMONICS, REGISTERS, rowOfWord, tokensOf } from '../static/language.mjs';
 import { Model } from '../static/model.mjs';
 import { Names } from '../static/names.mjs';
 import { difference, SourceText } from '../static/source_text.mjs';
+import { placeFrom, placesOf, replacedAll } from '../static/text_find.mjs';
 import { TextHistory } from '../static/text_history.mjs';
 
 /** A generator of numbers below a bound, the same in each run. */
@@ -166,14 +168,45 @@ test('language: tokens, and what completes them', () => {
 });
 
 test('faults: their places and sentences, as `check` prints them', () => {
-  const output = 'a.asm:1:16: F9: undefined name\n        LD V0, COLUMN\n               ^~~~~~\nb:c.asm:3:9: F4: operands don\'t fit\nCLS LD V\n        ^\n';
+  const output = 'a.asm:1:16: F9: undefined name\n        LD V0, COLUMN\n               ^~~~~~\nhelp: did you mean COLUMNS?\nnote: it is in line 9\nb:c.asm:3:9: F4: operands don\'t fit\nCLS LD V\n        ^\n';
   const places = readPlaces(output, ['        LD V0, COLUMN', '', 'CLS LD V'], 'utf-8');
   assert.deepEqual([...places], [
-    [1, { code: 'F9', sentence: 'undefined name', start: 15, end: 21 }],
-    [3, { code: 'F4', sentence: "operands don't fit", start: 8, end: 8 }],
+    [1, { code: 'F9', sentence: 'undefined name', start: 15, end: 21, help: ['did you mean COLUMNS?', 'it is in line 9'] }],
+    [3, { code: 'F4', sentence: "operands don't fit", start: 8, end: 8, help: [] }],
   ]);
   const bytes = readPlaces("x:1:9: F1: bad character\nDB '\u00c3\u00a9'?\n       ^\n", ["DB '\u00c3\u00a9'?"], 'utf-8');
-  assert.deepEqual(bytes.get(1), { code: 'F1', sentence: 'bad character', start: 7, end: 7 });
+  assert.deepEqual(bytes.get(1), { code: 'F1', sentence: 'bad character', start: 7, end: 7, help: [] });
+});
+
+test('faults: what may be written in their place', () => {
+  const made = (line, start, end, code, ...help) => fixesOf(line, { start, end, code, help }).map((fix) => [fix.title, fixed(line, fix)]);
+  assert.deepEqual(made(' LD V1, NOWERE', 8, 14, 'F9', 'did you mean NOWHERE?'), [['Write NOWHERE', ' LD V1, NOWHERE']]);
+  assert.deepEqual(made(' jp stat ; x', 4, 8, 'F9', 'did you mean START?'), [['Write START', ' jp start ; x']]);
+  assert.deepEqual(made(' MOV V0, 1', 1, 4, 'F3', 'MOV is written LD here'), [['Write LD', ' LD V0, 1']]);
+  assert.deepEqual(made(' LD V0, 0x12', 8, 12, 'F1', 'a hexadecimal number begins with `#`: #12'), [['Write #12', ' LD V0, #12']]);
+  assert.deepEqual(made('A: LD V0 5', 6, 8, 'F4', 'a comma is missing between two operands'), [['Put a comma', 'A: LD V0, 5']]);
+  assert.deepEqual(made(' DA "abc ', 4, 8, 'F2', 'a text ends with the quote that it begins with'), [['Close the text', ' DA "abc"']]);
+  assert.deepEqual(made('LOOPS', 0, 5, 'F3'), [['Make LOOPS a label', 'LOOPS:']]);
+  assert.deepEqual(made(' LD V0, 300', 8, 11, 'F10', 'the value is 300, and has to lie from -128 to 255'), []);
+});
+
+test('the form of an instruction is that of its word', () => {
+  // docs/MACHINE.md: the words and their rows
+  for (const [word, form] of [['00e0', 'CLS'], ['6a02', 'LD Vx, kk'], ['8ab0', 'LD Vx, Vy'], ['f10a', 'LD Vx, K'], ['f155', 'LD [I], Vx'], ['0123', 'SYS a'], ['00c4', 'SCD n'], ['d014', 'DRW Vx, Vy, n']]) {
+    assert.equal(rowOfWord(word).split('  ')[0], form, word);
+  }
+  assert.equal(rowOfWord('f1ff'), null);
+});
+
+test('text: finding and replacing', () => {
+  const text = 'Ball, ball; BALLS\nball';
+  assert.deepEqual(placesOf(text, 'ball'), [0, 6, 12, 18]);
+  assert.deepEqual(placesOf(text, 'ball', true), [6, 18]);
+  assert.deepEqual([placesOf(text, ''), placesOf('aaaa', 'aa'), placesOf('\u0130ball', 'ball')], [[], [0, 2], [1]]);
+  assert.deepEqual([0, 6, 7, 19].map((cursor) => placeFrom([0, 6, 12, 18], cursor, true)), [0, 1, 2, 0]);
+  assert.deepEqual([0, 6, 7, 19].map((cursor) => placeFrom([0, 6, 12, 18], cursor, false)), [3, 0, 1, 3]);
+  assert.equal(placeFrom([], 3, true), -1);
+  assert.equal(replacedAll(text, 'ball', 'x$&'), 'x$&, x$&; x$&S\nx$&');
 });
 
 test('columns, with tabs; indents', () => {

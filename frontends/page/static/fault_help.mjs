@@ -1,0 +1,112 @@
+// The card under a faulty line: what the program says of it, its help, and buttons that put it right.
+
+import { request } from './bridge.mjs';
+import { byId, element } from './dom.mjs';
+import { readPlaces } from './fault_places.mjs';
+import { fixed, fixesOf } from './fixes.mjs';
+import { encodeText } from './text_form.mjs';
+
+const REST_MILLISECONDS = 400;
+
+export class FaultHelp {
+  #editor;
+  #model;
+  #explain;
+  #place = byId('fault-help');
+  #timer = null;
+  /** The fault that is shown, and its fixes; null where the card is closed. */
+  #shown = null;
+  /** The text whose card the author closed. */
+  #closed = null;
+
+  /** `explain(code)` tells more of a code, or is null where the program can't. */
+  constructor(editor, model, explain) {
+    this.#editor = editor;
+    this.#model = model;
+    this.#explain = explain;
+    editor.addEventListener('cursor', () => this.#later());
+    editor.addEventListener('edit', () => this.#hide());
+    byId('source-text').addEventListener('keydown', (event) => this.#pressed(event), { capture: true });
+    this.#place.addEventListener('mousedown', (event) => event.preventDefault());
+  }
+
+  /** Takes the first fix of the line with the cursor, if one is shown. */
+  takeFirst() {
+    const fix = this.#shown?.fixes[0];
+    if (fix !== undefined) this.#take(fix);
+  }
+
+  #pressed(event) {
+    if (event.key !== 'Escape' || this.#shown === null) return;
+    event.preventDefault();
+    event.stopImmediatePropagation();
+    this.#closed = this.#shown.key;
+    this.#hide();
+  }
+
+  /** Shows the card once the author rests on a faulty line whose fault the program has told. */
+  #later() {
+    const { line } = this.#editor;
+    if (this.#shown !== null && this.#shown.line !== line) this.#hide();
+    clearTimeout(this.#timer);
+    const place = this.#editor.faultPlace(line);
+    const text = this.#editor.lines[line - 1];
+    if (place === null || this.#closed === `${line} ${text}` || this.#shown?.line === line) return;
+    this.#timer = setTimeout(() => this.#show(line, place), REST_MILLISECONDS);
+  }
+
+  async #show(line, place) {
+    if (this.#editor.line !== line || this.#editor.faultPlace(line) !== place) return;
+    const text = this.#editor.lines[line - 1];
+    this.#shown = { line, key: `${line} ${text}`, fixes: [] };
+    this.#draw(line, place);
+    const fixes = await this.#tried(line, fixesOf(text, place));
+    if (this.#shown?.key !== `${line} ${text}` || this.#editor.lines[line - 1] !== text) return;
+    this.#shown.fixes = fixes;
+    this.#draw(line, place);
+  }
+
+  /** The fixes after which the program finds no fault in the line. */
+  async #tried(line, fixes) {
+    const { form } = this.#model;
+    const lines = this.#editor.lines.map((one) => encodeText(one, form.encoding));
+    const tried = await Promise.all(
+      fixes.map(async (fix) => {
+        const content = lines.with(line - 1, encodeText(fixed(this.#editor.lines[line - 1], fix), form.encoding));
+        const { status, output } = await request('word', { word: 'check', content: `${content.join('\n')}\n` }).catch(() => ({ status: -1 }));
+        return status === 0 || (status === 1 && !readPlaces(output, content, form.encoding).has(line));
+      }),
+    );
+    return fixes.filter((_, place) => tried[place]);
+  }
+
+  #draw(line, { code, sentence, help }) {
+    const buttons = this.#shown.fixes.map((fix, place) => this.#button(fix.title, place === 0 ? 'Alt+Enter' : '', () => this.#take(fix)));
+    if (this.#explain !== null) buttons.push(this.#button('More', 'F1', () => this.#explain(code)));
+    const told = [element('strong', { textContent: code }), ` ${sentence}`, ...help.map((one) => element('span', { textContent: one }))];
+    this.#place.replaceChildren(element('p', {}, ...told), element('div', { className: 'buttons' }, ...buttons));
+    this.#place.hidden = false;
+    this.#editor.placeBelow(this.#place, line);
+  }
+
+  #button(title, key, action) {
+    const button = element('button', { type: 'button', className: 'bordered' }, title, ...(key === '' ? [] : [element('kbd', { textContent: key })]));
+    button.addEventListener('click', action);
+    return button;
+  }
+
+  #take({ start, end, text }) {
+    const { line } = this.#shown;
+    const from = this.#editor.placeOf(line, 0);
+    this.#hide();
+    this.#editor.focus();
+    this.#editor.replace(from + start, from + end, text);
+  }
+
+  #hide() {
+    clearTimeout(this.#timer);
+    if (this.#shown === null) return;
+    this.#shown = null;
+    this.#place.hidden = true;
+  }
+}
