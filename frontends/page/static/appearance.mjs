@@ -4,7 +4,6 @@ import { byId, themeChanged } from './dom.mjs';
 
 const KEPT = 'chipbench-page, appearance';
 const THEMES = { system: '(prefers-color-scheme: dark)', light: 'not all', dark: 'all' };
-export const SCREENS = ['theme', 'white', 'green', 'amber', 'lcd', 'paper'];
 const STEP_PIXELS = 24;
 const LEAST_PIXELS = 280;
 const MOST_OF_WIDTH = 0.7;
@@ -39,16 +38,18 @@ export class Appearance extends EventTarget {
     return this.#kept.theme;
   }
 
-  get screen() {
-    return this.#kept.screen;
-  }
-
   get #isDark() {
     return this.#kept.theme === 'dark' || (this.#kept.theme === 'system' && system.matches);
   }
 
-  choose({ theme, screen }) {
-    this.#keep({ theme, screen });
+  choose({ theme }) {
+    this.#keep({ theme });
+  }
+
+  /** The colours of the screen, which are the game's. */
+  showScreen(name) {
+    document.documentElement.dataset.screen = name;
+    themeChanged();
   }
 
   /** The panel that is in sight; the source hides it where that is one of the tabs. */
@@ -97,10 +98,9 @@ export class Appearance extends EventTarget {
   }
 
   #apply() {
-    const { theme, screen, bytes } = this.#kept;
+    const { theme, bytes } = this.#kept;
     const root = document.documentElement;
     byId('dark-theme').media = THEMES[theme];
-    root.dataset.screen = screen;
     root.dataset.bytes = bytes ? 'shown' : 'hidden';
     byId('bytes').setAttribute('aria-pressed', String(bytes));
     const pixels = this.#kept[MACHINE];
@@ -138,11 +138,10 @@ function kept() {
   } catch {
     // as at the start
   }
-  const { theme, screen, tab, bytes } = read ?? {};
+  const { theme, tab, bytes } = read ?? {};
   return {
     [MACHINE]: read?.[MACHINE],
     theme: theme in THEMES ? theme : 'system',
-    screen: SCREENS.includes(screen) ? screen : 'theme',
     tab: TABS.includes(tab) ? tab : 'words',
     bytes: bytes !== false,
   };

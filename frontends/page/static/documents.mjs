@@ -42,14 +42,21 @@ export class Documents extends EventTarget {
   #savedText = null;
   #toldDigest = null;
   #askName;
+  #optionsFor;
+  /** Whether the document is the one that the page was opened on, whose settings the command line may say. */
+  #isFirst = true;
 
-  /** `about` is what the page was opened on; `askName(name)` asks under which name to save. */
-  constructor(about, { model, editor, askName }) {
+  /**
+   * `about` is what the page was opened on; `askName(name)` asks under which name to save; `optionsFor({ kept, isFirst, isNew })` are
+   * the settings of a document by what the browser kept of it.
+   */
+  constructor(about, { model, editor, askName, optionsFor }) {
     super();
     this.#about = about;
     this.#model = model;
     this.#editor = editor;
     this.#askName = askName;
+    this.#optionsFor = optionsFor;
     this.#store = new Store(model, {
       known: () => this.#open.digest,
       onFull: () => notice('full', 'This browser has no room left: save or download the text.', { bad: true }),
@@ -95,7 +102,7 @@ export class Documents extends EventTarget {
     const isKept = kept !== null && kept.text !== file?.text;
     if (isKept && file !== null && (digest === null || kept.known !== digest)) {
       this.#putAside(kept, isFile ? 'the file was changed since' : 'opened anew');
-      this.#take({ ...file, keys: kept.keys, keyHistory: kept.keyHistory });
+      this.#take({ ...kept, ...file, form: undefined, textHistory: undefined, breakLines: [] });
       this.#offerEarlier(`The text is that of ${name}.`);
     } else if (isKept) {
       this.#take(kept);
@@ -103,11 +110,13 @@ export class Documents extends EventTarget {
     } else {
       this.#take({ ...(kept ?? {}), ...(file ?? readFile(kept?.text ?? '')), form: file === null ? kept?.form : undefined });
     }
+    this.#isFirst = false;
     return kept;
   }
 
-  #take({ text, form, encoding, lineEnd, keys = new KeyScript(), played = 0, breakLines = [], textHistory = new TextHistory(), keyHistory = new KeyHistory() }) {
-    this.#model.startWith({ text, form: form ?? { encoding, lineEnd }, keys, played, textHistory, keyHistory });
+  #take({ text, form, encoding, lineEnd, options: kept, look, keys = new KeyScript(), played = 0, breakLines = [], textHistory = new TextHistory(), keyHistory = new KeyHistory() }) {
+    const options = this.#optionsFor({ kept, isFirst: this.#isFirst, isNew: text === '' && this.#open.file === null });
+    this.#model.startWith({ text, form: form ?? { encoding, lineEnd }, keys, played, textHistory, keyHistory, options, look });
     this.#editor.text = text;
     this.#editor.breakpoints.set(breakLines);
     this.tellState();
@@ -132,7 +141,7 @@ export class Documents extends EventTarget {
     if (isLost) this.#putAside(this.#model, 'not saved when another file was opened');
     this.#open = document;
     const kept = this.#start();
-    if (kept !== null) this.#model.setStep(kept.step);
+    this.#model.setStep(kept?.step ?? 0);
     if (isLost) this.#offerEarlier(why);
     this.dispatchEvent(new Event('open'));
     return kept;
@@ -151,6 +160,10 @@ export class Documents extends EventTarget {
   startFrom(name, byteString) {
     if (!this.#open.isFile || !this.isBlank) this.openText(name, byteString);
     else this.#editor.replace(0, 0, readFile(byteString).text);
+  }
+
+  setBreakpoints(lines) {
+    this.#editor.breakpoints.set(lines);
   }
 
   openText(name, byteString) {

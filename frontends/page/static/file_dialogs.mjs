@@ -133,9 +133,11 @@ export class FileDialogs {
     if (game !== null) this.#takeGame(game);
   }
 
-  #takeGame({ keys, options, step }) {
+  #takeGame({ keys, options, look, breakLines, step }) {
     const known = Object.fromEntries(Object.entries(options).filter(([name]) => this.#about.options.includes(name)));
     this.#model.setOptions({ rate: '10', ...known });
+    this.#model.setLook(look);
+    this.#documents.setBreakpoints(breakLines);
     this.#model.setKeys(readKeys(keys));
     this.#model.setStep(step);
   }

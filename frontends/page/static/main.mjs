@@ -3,6 +3,7 @@
 import { AboutLine } from './about_line.mjs';
 import { actionsOf } from './actions.mjs';
 import { Appearance } from './appearance.mjs';
+import { BreakGuard } from './break_guard.mjs';
 import { request } from './bridge.mjs';
 import { CallStackView } from './call_stack_view.mjs';
 import { codeText } from './codes.mjs';
@@ -24,7 +25,7 @@ import { Model } from './model.mjs';
 import { notice, takeAway } from './notices.mjs';
 import { readNumber } from './numbers.mjs';
 import { tellEnd, tellFault } from './page_faults.mjs';
-import { findLastStep, optionsAtStart, takeKeptPlace } from './page_start.mjs';
+import { findLastStep, optionsOf, takeKeptPlace } from './page_start.mjs';
 import { Player } from './player.mjs';
 import { fieldsApart, RegistersView } from './registers_view.mjs';
 import { RunControl } from './run_control.mjs';
@@ -54,6 +55,9 @@ class Page {
     this.workbench = new Workbench({ onEnded: tellEnd });
     this.viewer = new Viewer(this.model, this.workbench);
     this.player = new Player(this.model);
+    this.model.addEventListener('change', ({ detail }) => {
+      if (detail === 'look') this.appearance.showScreen(this.model.look.screen);
+    });
     this.#makeSource();
     this.#makeMachine();
     this.#makeSearch();
@@ -105,6 +109,8 @@ class Page {
       return this.viewer.machine;
     };
     this.runControl = new RunControl(this.editor, { search: this.search, machine });
+    const scan = (question) => this.workbench.steps(this.model.wanted, question);
+    this.player.guard = new BreakGuard(this.model, { addresses: () => this.#breakAddresses, scan });
     this.coverage = new Coverage(this.model, {
       ask: (questions) => this.workbench.answers(this.model.wanted, questions),
       map: () => this.viewer.assembled.map,
@@ -112,8 +118,13 @@ class Page {
     });
   }
 
+  /** Where the run stops at breakpoints; nowhere where the program can't search for them. */
+  get #breakAddresses() {
+    return this.#about.words.includes('trace') ? this.runControl.breakAddresses : [];
+  }
+
   #makeFiles() {
-    this.documents = new Documents(this.#about, { model: this.model, editor: this.editor, askName });
+    this.documents = new Documents(this.#about, { model: this.model, editor: this.editor, askName, optionsFor: (of) => optionsOf(this.#about, of) });
     const parts = { documents: this.documents, model: this.model, workbench: this.workbench };
     this.files = new FileDialogs(this.#about, parts);
     this.exports = new Exports(parts);
@@ -123,7 +134,6 @@ class Page {
   async #begin() {
     this.#listen();
     const kept = await this.documents.begin();
-    this.model.setOptions(optionsAtStart(this.#about, kept));
     await findLastStep(this.#about, this);
     byId('step').max = this.model.lastStep;
     if (kept !== null) takeKeptPlace(this.model, kept);
@@ -142,6 +152,7 @@ class Page {
     this.viewer.addEventListener('shown', ({ detail }) => this.#show(detail));
     this.viewer.addEventListener('fault', ({ detail }) => this.#tellFault(detail));
     this.player.addEventListener('change', () => this.#showPlayer());
+    this.player.addEventListener('told', ({ detail }) => this.runControl.tell(detail));
     this.appearance.addEventListener('tab', () => this.#showPanel());
     byId('play').addEventListener('click', () => this.#act('play'));
     byId('play-back').addEventListener('click', () => this.player.toggle(-1));
@@ -156,7 +167,7 @@ class Page {
     byId('show-help').addEventListener('click', () => byId('help').showModal());
     byId('download-case').hidden = !this.#about.words.includes('test');
     for (const menu of document.querySelectorAll('.menu')) this.#listenToMenu(menu);
-    listen(this.player, (name) => this.#act(name));
+    listen({ player: this.player, look: () => this.model.look, act: (name) => this.#act(name) });
   }
 
   #listenToStep(field) {
@@ -191,7 +202,7 @@ class Page {
     if (what === 'keys') this.keypad.show(this.model.keys, this.model.step);
     if (what === 'step') this.runControl.forget();
     if (what === 'lastStep') byId('step').max = this.model.lastStep;
-    else if (this.#begun && what !== 'breakpoints' && what !== 'played') this.viewer.refresh();
+    else if (this.#begun && !['breakpoints', 'played', 'look'].includes(what)) this.viewer.refresh();
     if (what === 'played' || what === 'keys') this.#tellPlayed();
   }
 
@@ -215,6 +226,7 @@ class Page {
     this.#tellEffect(machine);
     takeAway('fault');
     this.#tellPlayed();
+    this.player.setRun(machine.code === null);
     const isStopped = machine.code === null && machine.registers.state !== 'run';
     if (isStopped && this.player.direction > 0) this.player.play(0);
     this.sound.sound(this.player.direction > 0 && machine.code === null && machine.registers.st > 0);
@@ -262,7 +274,8 @@ class Page {
   }
 
   #showPlayer() {
-    const { direction } = this.player;
+    const { direction, hasRun } = this.player;
+    setAttribute(byId('play'), 'aria-disabled', String(!hasRun));
     setAttribute(byId('play'), 'aria-pressed', String(direction > 0));
     setAttribute(byId('play-back'), 'aria-pressed', String(direction < 0));
     setText(byId('play'), direction === 0 ? 'Play' : 'Pause');

@@ -2,6 +2,7 @@
 
 import { KeyHistory } from './key_history.mjs';
 import { KeyScript } from './key_script.mjs';
+import { lookOf, USUAL_LOOK } from './look.mjs';
 import { TextHistory } from './text_history.mjs';
 import { programLines } from './text_form.mjs';
 
@@ -12,6 +13,7 @@ export class Model extends EventTarget {
   form = { encoding: 'utf-8', lineEnd: '\n' };
   keys = new KeyScript();
   options = {};
+  look = USUAL_LOOK;
   step = 0;
   lastStep = 100_000;
   /** The furthest step that was played; the last event may lie further on. */
@@ -54,8 +56,10 @@ export class Model extends EventTarget {
   }
 
   /** Another document: what can be undone of it begins with what was kept. */
-  startWith({ text, form, keys, textHistory, keyHistory, played = 0 }) {
+  startWith({ text, form, keys, textHistory, keyHistory, options, look, played = 0 }) {
     this.played = played;
+    this.setLook(look);
+    if (JSON.stringify(options) !== JSON.stringify(this.options)) this.setOptions(options);
     this.textHistory = textHistory;
     this.keyHistory = keyHistory;
     this.setText(text, form);
@@ -97,6 +101,12 @@ export class Model extends EventTarget {
     this.options = options;
     this.#wanted = null;
     this.#changed('options');
+  }
+
+  /** How the game wants to be seen and played (look.mjs). */
+  setLook(look) {
+    this.look = lookOf(look);
+    this.#changed('look');
   }
 
   setStep(step) {

@@ -6,11 +6,19 @@ import { KeyScript } from './key_script.mjs';
 import { notice } from './notices.mjs';
 import { ProgramEnded } from './workbench.mjs';
 
-/** The settings that were kept, but for those that the command line says; of those that the program takes. */
-export function optionsAtStart({ settings, options }, kept) {
-  const taken = { rate: '10', ...kept?.options, ...settings };
-  if ('seed' in settings) delete taken.tape;
-  if ('tape' in settings) delete taken.seed;
+/** Seeds of new games are as short as these. */
+const SEEDS = 9999;
+
+/**
+ * The settings of a document: those that were kept of it; of the first document of the page also those that the command line says.
+ * A new game has a seed, so that its random bytes aren't all zero.
+ */
+export function optionsOf({ settings, options }, { kept, isFirst, isNew }) {
+  const said = isFirst ? settings : {};
+  const taken = { rate: '10', ...kept, ...said };
+  if ('seed' in said) delete taken.tape;
+  if ('tape' in said) delete taken.seed;
+  if (isNew && kept === undefined && !('seed' in taken) && !('tape' in taken)) taken.seed = String(1 + Math.floor(SEEDS * Math.random()));
   return Object.fromEntries(Object.entries(taken).filter(([option]) => options.includes(option)));
 }
 
@@ -24,7 +32,7 @@ export async function findLastStep(about, { model, workbench }, isAgain = false)
     const isRefused = (fault instanceof ProgramEnded || fault instanceof BridgeFault) && !isAgain && fault.status !== 0;
     if (isRefused && JSON.stringify(model.options) !== JSON.stringify({ rate: '10', ...about.settings })) {
       notice('settings', `The settings that this browser kept were left out: ${fault.message}.`);
-      model.setOptions(optionsAtStart(about, null));
+      model.setOptions(optionsOf(about, { isFirst: true }));
       return findLastStep(about, { model, workbench }, true);
     }
     // the first question tells what is wrong

@@ -1,7 +1,11 @@
 // Plays the run at the rate's speed, forwards and backwards, a frame at a time; and records keys that are pressed while it plays.
 
+import { grouped } from './dom.mjs';
+
 const FRAMES_A_SECOND = 60;
 const LONGEST_GAP = 0.25;
+/** So long before its end the end of a run is told. */
+const WARNING_SECONDS = 10;
 
 export class Player extends EventTarget {
   #model;
@@ -13,6 +17,11 @@ export class Player extends EventTarget {
   #pressed = new Map();
 
   speed = 1;
+  /** Tells how far a play may go (break_guard.mjs). */
+  guard = null;
+  /** Whether there is a run: a source with a fault has none. */
+  #hasRun = true;
+  #warned = false;
 
   constructor(model) {
     super();
@@ -24,8 +33,27 @@ export class Player extends EventTarget {
     return this.#direction;
   }
 
+  get hasRun() {
+    return this.#hasRun;
+  }
+
+  /** A run that isn't there any more is played no further, and nothing is recorded. */
+  setRun(hasRun) {
+    if (hasRun === this.#hasRun) return;
+    this.#hasRun = hasRun;
+    if (!hasRun && this.#direction !== 0) {
+      this.play(0);
+      this.#tell('paused: a line has a fault');
+    }
+    this.dispatchEvent(new Event('change'));
+  }
+
   play(direction) {
     if (direction === this.#direction) return;
+    if (direction !== 0 && !this.#hasRun) {
+      this.#tell('there is no run, since a line has a fault');
+      return;
+    }
     this.#releaseAll();
     if (direction > 0 && this.#model.step >= this.#model.lastStep) this.#model.setStep(0);
     this.#direction = direction;
@@ -33,6 +61,8 @@ export class Player extends EventTarget {
     this.#shown = this.#model.step;
     this.#time = performance.now();
     this.#play = `play ${Date.now()}`;
+    this.#warned = false;
+    this.guard?.begin(this.#model.step);
     if (direction !== 0) requestAnimationFrame((now) => this.#tick(now));
     this.dispatchEvent(new Event('change'));
   }
@@ -50,21 +80,43 @@ export class Player extends EventTarget {
     this.#time = now;
     this.#position += this.#direction * seconds * FRAMES_A_SECOND * this.speed * rate;
     const frame = Math.floor(this.#position / rate) * rate;
-    const step = Math.max(0, Math.min(lastStep, this.#direction > 0 ? Math.max(frame, this.#shown) : Math.min(frame, this.#shown)));
+    const wanted = Math.max(0, Math.min(lastStep, this.#direction > 0 ? Math.max(frame, this.#shown) : Math.min(frame, this.#shown)));
+    const step = this.#direction > 0 && this.guard !== null ? this.guard.allowed(wanted, this.speed) : wanted;
+    // while the steps ahead are looked at, the play waits
+    if (step < wanted) this.#position = Math.min(this.#position, step + rate);
     this.#hold(step);
     this.#shown = step;
     this.#model.setStep(step);
     if (this.#direction > 0) this.#model.setPlayed(step);
-    if ((this.#direction < 0 && step === 0) || (this.#direction > 0 && this.#position >= lastStep)) {
-      this.play(0);
-      return;
-    }
+    if (this.#isAtEnd(step)) return;
     requestAnimationFrame((next) => this.#tick(next));
+  }
+
+  /** Stops a play at its end, or at a breakpoint, and says so; the end of the run is said before it comes. */
+  #isAtEnd(step) {
+    const { rate, lastStep } = this.#model;
+    const left = (lastStep - step) / (FRAMES_A_SECOND * this.speed * rate);
+    if (this.#direction > 0 && left < WARNING_SECONDS && !this.#warned && lastStep > step) {
+      this.#warned = true;
+      this.#tell(`the run ends in ${Math.ceil(left)} s, at step ${grouped(lastStep)}, the last that the program has`);
+    }
+    const isHit = this.#direction > 0 && this.guard !== null && step === this.guard.hit;
+    const isEnd = this.#direction < 0 ? step === 0 : this.#position >= lastStep;
+    if (!isHit && !isEnd) return false;
+    const played = this.#direction > 0;
+    this.play(0);
+    if (isHit) this.#tell(`breakpoint at step ${grouped(step)}`);
+    else if (played) this.#tell(`the end of the run, step ${grouped(lastStep)}; Play begins anew at step 0`);
+    return true;
+  }
+
+  #tell(text) {
+    this.dispatchEvent(new CustomEvent('told', { detail: text }));
   }
 
   /** A key of the sixteen goes down. While it plays, that is recorded; else the key changes from this step on. */
   press(key) {
-    if (this.#pressed.has(key)) return;
+    if (this.#pressed.has(key) || !this.#hasRun) return;
     const { step, keys, lastStep } = this.#model;
     if (this.#direction <= 0) {
       this.#toggle(key);

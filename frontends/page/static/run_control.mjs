@@ -29,8 +29,13 @@ export class RunControl {
     return this.#find(forward, { of: subject('frames'), relation: 'is', wanted: Array.from({ length: most + 1 }, (_, count) => count) });
   }
 
+  /** The addresses of the lines with breakpoints. */
+  get breakAddresses() {
+    return this.#editor.breakpoints.lines.map((line) => this.#editor.listing[line - 1]?.address ?? null).filter((address) => address !== null);
+  }
+
   #toBreakpoint(forward) {
-    const addresses = this.#editor.breakpoints.lines.map((line) => this.#editor.listing[line - 1]?.address ?? null).filter((address) => address !== null);
+    const addresses = this.breakAddresses;
     if (addresses.length === 0) return this.#tell('no line with an address has a breakpoint: press its number, or F9 in the source');
     return this.#find(forward, { of: subject('pc'), relation: 'is', wanted: addresses });
   }
@@ -43,6 +48,10 @@ export class RunControl {
   /** What was told of a step isn't of another one. */
   forget() {
     this.#tell('');
+  }
+
+  tell(text) {
+    this.#tell(text);
   }
 
   #tell(text) {

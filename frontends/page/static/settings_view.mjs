@@ -29,6 +29,9 @@ export class SettingsView {
     model.addEventListener('change', ({ detail }) => {
       if (detail === 'options') setText(byId('settings-state'), this.#summary());
     });
+    const { preset, arrows, letters } = this.#form.elements;
+    preset.addEventListener('change', () => this.#takePreset(preset.value));
+    for (const field of [arrows, letters]) field.addEventListener('input', () => this.#choosePreset());
     for (const name of ['seed', 'tape']) {
       this.#form.elements[name].addEventListener('input', () => {
         this.#form.elements.random.value = name;
@@ -56,17 +59,35 @@ export class SettingsView {
     elements.profile.value = options.profile ?? 'schip';
     elements.every.value = options.every ?? '1000';
     elements.theme.value = this.#appearance.theme;
-    elements.screen.value = this.#appearance.screen;
+    const { screen, arrows, letters } = this.#model.look;
+    elements.screen.value = screen;
+    elements.arrows.value = arrows;
+    elements.letters.checked = letters;
+    this.#choosePreset();
     this.#dialog.showModal();
   }
 
   /** A run is made anew only where its settings are others. */
   #apply() {
-    const { theme, screen } = this.#form.elements;
-    this.#appearance.choose({ theme: theme.value, screen: screen.value });
+    const { theme, screen, arrows, letters } = this.#form.elements;
+    this.#appearance.choose({ theme: theme.value });
+    this.#model.setLook({ screen: screen.value, arrows: arrows.value.toLowerCase(), letters: letters.checked });
     const chosen = this.#chosen();
     const same = (one, other) => JSON.stringify(Object.entries({ ...USUAL, ...one }).sort()) === JSON.stringify(Object.entries({ ...USUAL, ...other }).sort());
     if (!same(chosen, this.#model.options)) this.#model.setOptions(chosen);
+  }
+
+  /** The preset that the arrows have, if it is one. */
+  #choosePreset() {
+    const { preset, arrows, letters } = this.#form.elements;
+    const name = `${arrows.value}${letters.checked ? ' letters' : ''}`;
+    preset.value = [...preset.options].some((option) => option.value === name) ? name : 'own';
+  }
+
+  #takePreset(name) {
+    if (name === 'own') return;
+    const { arrows, letters } = this.#form.elements;
+    [arrows.value, letters.checked] = [name.split(' ')[0], name.endsWith(' letters')];
   }
 
   #chosen() {

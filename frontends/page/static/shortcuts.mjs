@@ -2,6 +2,7 @@
 
 import { takesText } from './dom.mjs';
 import { keyOf } from './keypad.mjs';
+import { ARROWS, mappedKey } from './look.mjs';
 
 /** Keys that move or play, by their place on the keyboard; with Shift where a second name stands. */
 const BY_PLACE = {
@@ -35,11 +36,30 @@ const BY_NAME = {
   '?': ['help'],
 };
 
-/** Calls `act(name)` for the keys above; the sixteen keys go to the player. */
-export function listen(player, act) {
+/**
+ * Calls `act(name)` for the keys above; the sixteen keys go to the player. While the run plays, so do the arrow keys, by the look
+ * of the game; without such a look they do nothing then, so that none of them ends the play.
+ */
+export function listen({ player, look, act }) {
   const down = new Map();
+  const isBusy = (event) => event.defaultPrevented || event.isComposing || document.querySelector('dialog[open]') !== null;
+  const press = (event, key) => {
+    event.preventDefault();
+    if (event.repeat) return;
+    down.set(event.code, key);
+    player.press(key);
+  };
+  // before a timeline or a list of tabs takes the arrows
   document.addEventListener('keydown', (event) => {
-    if (event.defaultPrevented || event.isComposing || document.querySelector('dialog[open]')) return;
+    if (isBusy(event) || player.direction <= 0 || takesText(event.target) || event.ctrlKey || event.altKey || event.metaKey || event.shiftKey) return;
+    const key = mappedKey(look(), event.code);
+    if (key === null && !ARROWS.includes(event.code)) return;
+    event.stopPropagation();
+    if (key === null) event.preventDefault();
+    else press(event, key);
+  }, { capture: true });
+  document.addEventListener('keydown', (event) => {
+    if (isBusy(event)) return;
     const name = actionOf(event);
     if (name !== undefined) {
       event.preventDefault();
@@ -47,10 +67,8 @@ export function listen(player, act) {
       return;
     }
     const key = keyOf(event.code);
-    if (key === null || event.repeat || event.ctrlKey || event.altKey || event.metaKey || takesText(event.target)) return;
-    event.preventDefault();
-    down.set(event.code, key);
-    player.press(key);
+    if (key === null || event.ctrlKey || event.altKey || event.metaKey || takesText(event.target)) return;
+    press(event, key);
   });
   document.addEventListener('keyup', (event) => {
     const key = down.get(event.code);

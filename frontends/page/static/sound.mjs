@@ -1,7 +1,8 @@
-// A tone while the run plays and ST is above 0. Off at first.
+// A tone while the run plays and ST is above 0. Off at first; the browser keeps it as it was set.
 
 import { byId } from './dom.mjs';
 
+const KEPT = 'chipbench-page, sound';
 const HERTZ = 440;
 const LOUDNESS = 0.08;
 const FADE_SECONDS = 0.01;
@@ -13,6 +14,9 @@ export class Sound {
 
   constructor() {
     this.#button.addEventListener('click', () => this.#turn(!this.isOn));
+    this.#button.setAttribute('aria-pressed', String(kept()));
+    // a browser lets a page sound once something was pressed
+    for (const name of ['pointerdown', 'keydown']) document.addEventListener(name, () => this.isOn && this.#begin(), { capture: true });
   }
 
   get isOn() {
@@ -21,6 +25,11 @@ export class Sound {
 
   #turn(isOn) {
     this.#button.setAttribute('aria-pressed', String(isOn));
+    try {
+      localStorage.setItem(KEPT, isOn ? 'on' : 'off');
+    } catch {
+      // it is then off the next time
+    }
     if (isOn) this.#begin();
     else this.sound(false);
   }
@@ -39,5 +48,13 @@ export class Sound {
     const gain = sounds && this.isOn ? LOUDNESS : 0;
     this.#button.classList.toggle('sounds', gain > 0);
     if (this.#context !== null) this.#volume.gain.setTargetAtTime(gain, this.#context.currentTime, FADE_SECONDS);
+  }
+}
+
+function kept() {
+  try {
+    return localStorage.getItem(KEPT) === 'on';
+  } catch {
+    return false;
   }
 }

@@ -2,6 +2,7 @@
 
 import { KeyHistory } from './key_history.mjs';
 import { KeyScript, readKeys, writeKeys } from './key_script.mjs';
+import { lookOf } from './look.mjs';
 import { TextHistory } from './text_history.mjs';
 
 const PREFIX = 'chipbench-page ';
@@ -63,7 +64,7 @@ export class Store {
     clearTimeout(this.#timer);
     this.#timer = null;
     if (this.#slot === null) return;
-    const { text, form, keys, options, step, played, breakLines, textHistory, keyHistory } = this.#model;
+    const { text, form, keys, options, look, step, played, breakLines, textHistory, keyHistory } = this.#model;
     const work = { text, form, keys: writeKeys(keys), known: this.#known() };
     const isChanged = JSON.stringify(work) !== this.#work;
     const kept = content(PREFIX + this.#slot);
@@ -72,7 +73,7 @@ export class Store {
     if (isOther) this.#putOtherAside(parsed(kept), text);
     this.#work = JSON.stringify(work);
     this.#text = text;
-    this.#seen = this.#write(PREFIX + this.#slot, { ...work, options, step, played, breakLines });
+    this.#seen = this.#write(PREFIX + this.#slot, { ...work, options, look, step, played, breakLines });
     this.#write(`${PREFIX}${this.#slot}, history`, { text: textHistory, keys: keyHistory });
   }
 
@@ -104,6 +105,7 @@ export class Store {
       known: typeof kept.known === 'string' ? kept.known : null,
       keys: keysOf(kept.keys),
       options: optionsOf(kept.options),
+      look: lookOf(kept.look),
       step: Number.isSafeInteger(kept.step) ? kept.step : 0,
       played: Number.isSafeInteger(kept.played) && kept.played > 0 ? kept.played : 0,
       breakLines: Array.isArray(kept.breakLines) ? kept.breakLines.filter((line) => Number.isSafeInteger(line) && line > 0) : [],

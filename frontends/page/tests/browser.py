@@ -12,6 +12,7 @@ from pathlib import Path
 from browser_files import FileTests
 from browser_layout import LayoutTests
 from browser_page import PROVED, TOP
+from browser_play import PlayTests
 from browser_run import RunTests
 from browser_shape import ShapeTests
 from browser_source import SourceTests
@@ -23,7 +24,7 @@ from firefox import Firefox
 BROWSERS = {"chromium": Chromium, "firefox": Firefox}
 
 
-class Tests(SourceTests, TypingTests, RunTests, FileTests, ShapeTests, LayoutTests):
+class Tests(SourceTests, TypingTests, RunTests, FileTests, ShapeTests, LayoutTests, PlayTests):
     """Each method whose name begins with `test_` is one test."""
 
 

@@ -119,13 +119,6 @@ class FileTests(PageTests):
         self.browser.wait("/over 3584 bytes/.test(document.getElementById('notices').textContent)")
         assert str(self.folder.parent) not in self.text_of("#notices"), self.text_of("#notices")
 
-    def open_named(self, name: str) -> None:
-        """Opens a file of the folder in the dialog."""
-        self.browser.click("#upload")
-        self.browser.wait(f"[...document.querySelectorAll('#open-files button')].some((button) => button.firstChild.textContent === {json.dumps(name)})")
-        self.browser.value(f"[...document.querySelectorAll('#open-files button')].find((button) => button.firstChild.textContent === {json.dumps(name)}).click()")
-        self.browser.wait(f"document.getElementById('file-name').textContent === {json.dumps(name)}")
-
     def test_open_takes_the_title(self) -> None:
         """Save writes the file of the title, and no other."""
         with self.page("CLS\n", "first.asm") as browser:
@@ -339,7 +332,7 @@ class FileTests(PageTests):
         with self.page(text, "guess.asm") as browser:
             browser.downloads(place)
             browser.value("chipbenchPage.model.setKeys(chipbenchPage.model.keys.with(20, 3, true).with(44, 3, false)); chipbenchPage.model.setStep(77)")
-            browser.value("document.getElementById('download-game').click()")
+            browser.value("chipbenchPage.model.setLook({ screen: 'amber', arrows: '2486' }); chipbenchPage.editor.breakpoints.set([3, 5]); document.getElementById('download-game').click()")
             wait_for(lambda: has_arrived(place / "guess.game.asm"), "the game")
             assert self.said((place / "guess.game.asm").read_text(), ["image"]) == self.said(text, ["image"])
             browser.value("chipbenchPage.model.setKeys(chipbenchPage.model.keys.without(20, 3).with(5, 5, true)); chipbenchPage.model.setStep(3)")
@@ -348,6 +341,7 @@ class FileTests(PageTests):
             assert self.source() == text
             self.rest()
             assert browser.value("chipbenchPage.model.step") == 77
+            assert browser.value("[chipbenchPage.model.look.screen, chipbenchPage.model.look.arrows, chipbenchPage.model.breakLines]") == ["amber", "2486", [3, 5]]
             self.check_step(text, 77, ["kins 20 3 down", "kins 44 3 up"])
 
     def test_pictures_and_scripts(self) -> None:

@@ -176,6 +176,13 @@ class PageTests:
     def notice_button(self, text: str) -> None:
         self.browser.value(f"[...document.querySelectorAll('.notice button')].find((button) => button.textContent === {json.dumps(text)}).click()")
 
+    def open_named(self, name: str) -> None:
+        """Opens a file of the folder in the dialog."""
+        self.browser.click("#upload")
+        self.browser.wait(f"[...document.querySelectorAll('#open-files button')].some((button) => button.firstChild.textContent === {json.dumps(name)})")
+        self.browser.value(f"[...document.querySelectorAll('#open-files button')].find((button) => button.firstChild.textContent === {json.dumps(name)}).click()")
+        self.browser.wait(f"document.getElementById('file-name').textContent === {json.dumps(name)}")
+
     def upload(self, path: Path) -> None:
         self.browser.choose("#upload-file", path)
 

@@ -15,6 +15,7 @@ import { encodeGif } from '../static/gif.mjs';
 import { KeyScript } from '../static/key_script.mjs';
 import { nearestPlace, wordAround } from '../static/editor_pointer.mjs';
 import { DIRECTIVES, INSTRUCTIONS, MNEMONICS, REGISTERS, rowOfWord, tokensOf } from '../static/language.mjs';
+import { lookOf, mappedKey } from '../static/look.mjs';
 import { Model } from '../static/model.mjs';
 import { Names } from '../static/names.mjs';
 import { difference, SourceText } from '../static/source_text.mjs';
@@ -226,9 +227,14 @@ test('names of addresses', () => {
 
 test('a source with its keys is one file, which is read as it was written', () => {
   const keys = new KeyScript().with(20, 3, true).with(44, 3, false);
-  const game = { text: 'CLS ; é\nRET', form: { encoding: 'utf-8', lineEnd: '\n' }, keys, options: { rate: '7', seed: '1' }, step: 99 };
+  const game = { text: 'CLS ; é\nRET', form: { encoding: 'utf-8', lineEnd: '\n' }, keys, options: { rate: '7', tape: '0f'.repeat(400) }, step: 99 };
+  Object.assign(game, { look: { screen: 'amber', arrows: '2486', letters: true }, breakLines: Array.from({ length: 60 }, (_, place) => place + 1) });
   const read = readGame(writeGame(game));
-  assert.deepEqual(read, { source: 'CLS ; \u00c3\u00a9\nRET\n', keys: '20 3 down\n44 3 up\n', options: { rate: '7', seed: '1' }, step: 99 });
+  assert.deepEqual(read, { source: 'CLS ; \u00c3\u00a9\nRET\n', keys: '20 3 down\n44 3 up\n', options: game.options, look: game.look, breakLines: game.breakLines, step: 99 });
+  for (const line of writeGame(game).split('\n')) assert.ok(line.length <= 200, line);
+  // as it was written before it had a look and breakpoints
+  const older = 'CLS\n; chipbench: the keys, settings and step of this game\n; --seed=7\n; step 5\n; 20 3 down\n';
+  assert.deepEqual(readGame(older), { source: 'CLS\n', keys: '20 3 down\n', options: { seed: '7' }, look: { screen: 'theme', arrows: '', letters: false }, breakLines: [], step: 5 });
   assert.equal(readGame('CLS\nRET\n'), null);
   for (const line of writeGame(game).split('\n').slice(2, -1)) assert.ok(line.startsWith('; '), line);
 });
@@ -320,4 +326,12 @@ test('text: the place under a pointer, and the word around it', () => {
   assert.deepEqual([0, 14, 16, 99].map((x) => nearestPlace('LD V0', x, 10, wide)), [0, 1, 2, 5]);
   assert.deepEqual([0, 9, 11, 31, 49].map((x) => nearestPlace('\u5b57\u5b57a', x, 10, wide)), [0, 0, 1, 2, 3]);
   assert.deepEqual([wordAround('LD V0, 5', 4), wordAround('LD V0, 5', 5), wordAround('LD V0, 5', 6), wordAround('', 0)], [[3, 5], [3, 5], [6, 7], [0, 0]]);
+});
+
+test('look: the keys that arrows stand for, and what was kept', () => {
+  const look = lookOf({ screen: 'amber', arrows: '2486', letters: true });
+  assert.deepEqual(['ArrowUp', 'ArrowLeft', 'ArrowDown', 'ArrowRight', 'KeyA', 'KeyQ'].map((code) => mappedKey(look, code)), [2, 4, 8, 6, 4, null]);
+  assert.deepEqual(['ArrowUp', 'KeyA'].map((code) => mappedKey(lookOf({ arrows: '5789' }), code)), [5, null]);
+  assert.equal(mappedKey(lookOf(null), 'ArrowUp'), null);
+  assert.deepEqual(lookOf({ screen: 5, arrows: '12', letters: 'x' }), { screen: 'theme', arrows: '', letters: false });
 });

@@ -11,6 +11,7 @@ import { keyCommands, KeyScript, readKeys, writeKeys } from '../static/key_scrip
 import { lineCommands } from '../static/line_changes.mjs';
 import { Model } from '../static/model.mjs';
 import { readNumber } from '../static/numbers.mjs';
+import { BreakGuard } from '../static/break_guard.mjs';
 import { Player } from '../static/player.mjs';
 import { SourceMap } from '../static/source_map.mjs';
 import { decodeText, encodeText, programLines, readFile, writeFile } from '../static/text_form.mjs';
@@ -434,6 +435,69 @@ test('player: presses are recorded at their steps, a frame long at least, and ov
   assert.ok(told(model).includes('190 2 up'));
   model.undoKeys(true);
   assert.deepEqual(model.keys.events, before.events);
+});
+
+test('player: without a run nothing is played and nothing recorded', (context) => {
+  const { model, player, pass } = playing(context);
+  const told = [];
+  player.addEventListener('told', ({ detail }) => told.push(detail));
+  player.play(1);
+  pass(100);
+  const { step } = model;
+  assert.ok(step > 0);
+  player.setRun(false);
+  assert.equal(player.direction, 0);
+  pass(100);
+  player.press(5);
+  player.release(5);
+  player.play(1);
+  pass(100);
+  assert.deepEqual([model.step, model.keys.size, player.direction], [step, 0, 0]);
+  assert.match(told.join(), /a line has a fault/);
+  player.setRun(true);
+  player.play(1);
+  pass(100);
+  assert.ok(model.step > step);
+});
+
+test('player: it stops at breakpoints, waits for what lies ahead, and tells the end before it comes', async (context) => {
+  const { model, player, pass } = playing(context);
+  model.setLastStep(30_000);
+  const [asked, told, stops] = [[], [], [130, 4000]];
+  player.addEventListener('told', ({ detail }) => told.push(detail));
+  const scan = async ({ first, last, where }) => {
+    asked.push([first, last, where]);
+    return { steps: stops.filter((stop) => stop >= first && stop <= last).slice(0, 1), end: null };
+  };
+  player.guard = new BreakGuard(model, { addresses: () => [0x202], scan });
+  player.play(1);
+  pass(100);
+  assert.equal(model.step, 0);
+  assert.deepEqual(asked[0][2], [['pc', ['0202'], false]]);
+  const wait = async (milliseconds) => {
+    for (let passed = 0; passed < milliseconds && player.direction !== 0; passed += 50) {
+      pass(50);
+      await new Promise((done) => { setImmediate(done); });
+    }
+  };
+  await wait(3000);
+  assert.deepEqual([model.step, player.direction], [130, 0]);
+  assert.equal(told.at(-1), 'breakpoint at step 130');
+  // it leaves the step with the breakpoint, and a key that is pressed is another run
+  player.play(1);
+  await wait(200);
+  assert.ok(model.step > 130 && model.step < 400, model.step);
+  stops[1] = model.step + 100;
+  player.press(5);
+  await wait(1000);
+  assert.equal(model.step, stops[1]);
+  player.guard = null;
+  model.setStep(25_000);
+  player.play(1);
+  pass(100);
+  assert.match(told.at(-1), /^the run ends in \d+ s, at step 30,000/);
+  for (let count = 0; count < 200 && player.direction !== 0; count += 1) pass(100);
+  assert.equal(told.at(-1), 'the end of the run, step 30,000; Play begins anew at step 0');
 });
 
 test('player: at rest a key is turned from the step on', (context) => {

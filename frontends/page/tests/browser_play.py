@@ -1,0 +1,144 @@
+"""Playing: arrow keys, breakpoints, the end of a run, faults; and the settings, which belong to the file."""
+
+from __future__ import annotations
+
+import json
+import time
+
+from browser_page import SETTLED, PageTests
+
+LOOP = "LD V0, 5\nLOOP: ADD V1, 1\nSE V1, 200\nJP LOOP\nHERE: LD V1, 0\nJP LOOP\n"
+DIRECTION = "chipbenchPage.player.direction"
+
+
+class PlayTests(PageTests):
+    def chosen(self, **fields: str | bool) -> None:
+        """Makes settings in the dialog."""
+        self.browser.click("#show-settings")
+        for name, value in fields.items():
+            field = f"document.querySelector('#settings form').elements.{name}"
+            self.browser.value(f"{field}.{'checked' if isinstance(value, bool) else 'value'} = {json.dumps(value)}")
+            self.browser.value(f"{{ const field = {field}; if (field.dispatchEvent) {{ field.dispatchEvent(new Event('input')); field.dispatchEvent(new Event('change')); }} }}")
+        self.browser.click("#settings [value=apply]")
+        self.rest()
+
+    def test_arrow_keys(self) -> None:
+        """While it plays the arrow keys end no play, and are the game's keys where the settings say which."""
+        with self.page(self.example("guess"), words=("--tape", "05")) as browser:
+            size = "chipbenchPage.model.keys.size"
+            browser.value("document.getElementById('close-up').focus()")
+            browser.press(" ", "Space")
+            browser.wait("chipbenchPage.model.step > 50")
+            for name in ("ArrowLeft", "ArrowRight", "ArrowUp"):
+                browser.press(name, hold=0.05)
+            assert browser.value(f"[{DIRECTION}, {size}]") == [1, 0], browser.value(f"[{DIRECTION}, {size}]")
+            browser.press(" ", "Space")
+            self.chosen(preset="2486")
+            browser.value("document.getElementById('close-up').focus()")
+            browser.press(" ", "Space")
+            time.sleep(0.2)
+            for name in ("ArrowUp", "ArrowLeft"):
+                browser.press(name, hold=0.12)
+                time.sleep(0.15)
+            browser.press(" ", "Space")
+            self.rest()
+            events = browser.value("chipbenchPage.model.keys.events")
+            assert [(event["key"], event["down"]) for event in events] == [(2, True), (2, False), (4, True), (4, False)], events
+            # at rest they move the step, as ever
+            at = browser.value("chipbenchPage.model.step")
+            browser.press("ArrowRight")
+            assert browser.value("chipbenchPage.model.step") == at + 1 and browser.value(size) == 4
+            self.chosen(preset="2486 letters")
+            browser.value("document.getElementById('close-up').focus()")
+            browser.press(" ", "Space")
+            time.sleep(0.2)
+            browser.press("d", "KeyD", hold=0.12)
+            browser.press(" ", "Space")
+            assert 6 in [event["key"] for event in browser.value("chipbenchPage.model.keys.events")]
+
+    def test_play_stops_at_breakpoints(self) -> None:
+        with self.page(LOOP) as browser:
+            states = [line.split()[1] for line in self.said(LOOP, [f"regs {step}" for step in range(1300)]).splitlines()[1::3]]
+            stops = [step for step, pc in enumerate(states) if pc == "0208"]
+            assert len(stops) == 2
+            browser.value("chipbenchPage.editor.breakpoints.set([5])")
+            for stop in stops:
+                browser.click("#play")
+                browser.wait(f"chipbenchPage.model.step === {stop} && {DIRECTION} === 0")
+                browser.wait("/^breakpoint at step/.test(document.getElementById('run-result').textContent)")
+            self.rest()
+            assert self.registers()["pc"] == "0208"
+            # what was told of a step isn't of another one
+            browser.press("ArrowRight")
+            browser.wait("document.getElementById('run-result').textContent === ''")
+
+    def test_play_without_a_run(self) -> None:
+        """A fault pauses a play, which records nothing and says why; it begins none either."""
+        with self.page(LOOP) as browser:
+            browser.click("#play")
+            browser.wait("chipbenchPage.model.step > 100")
+            self.put_line(1, "LD V0, NOWHERE")
+            browser.wait(f"{DIRECTION} === 0")
+            at = browser.value("chipbenchPage.model.step")
+            assert "a line has a fault" in self.text_of("#run-result"), self.text_of("#run-result")
+            browser.value("document.getElementById('close-up').focus()")
+            browser.press(" ", "Space")
+            browser.press("w", "KeyW", hold=0.1)
+            time.sleep(0.3)
+            assert browser.value(f"[chipbenchPage.model.step, chipbenchPage.model.keys.size, {DIRECTION}]") == [at, 0, 0]
+            assert self.text_of("#machine-state") == "before the faults"
+            self.put_line(1, "LD V0, 5")
+            self.rest()
+            browser.click("#play")
+            browser.wait(f"chipbenchPage.model.step > {at + 100}")
+
+    def test_the_end_of_the_run(self) -> None:
+        """It is told before it comes, and what there is then."""
+        with self.page(LOOP) as browser:
+            last = browser.value("chipbenchPage.model.lastStep")
+            self.step(last - 900)
+            browser.click("#play")
+            browser.wait("/^the run ends in [12] s, at step 1,000,000/.test(document.getElementById('run-result').textContent)")
+            browser.wait(f"{DIRECTION} === 0")
+            assert browser.value("chipbenchPage.model.step") == last
+            assert "Play begins anew at step 0" in self.text_of("#run-result"), self.text_of("#run-result")
+
+    def test_settings_belong_to_the_file(self) -> None:
+        """Each file has its own, which come back with it; a new game has a seed, and sound stays as it was set."""
+        text = "RND V0, 255\nADD V1, 1\nJP #200\n"
+        with self.page(text, "first.asm") as browser:
+            (self.folder / "second.asm").write_text("RND V1, 255\n")
+            self.chosen(random="seed", seed="7", rate="20", screen="amber", preset="5789")
+            browser.value("chipbenchPage.editor.breakpoints.set([2])")
+            self.step(40)
+            self.open_named("second.asm")
+            self.rest()
+            state = "(({ model }) => [model.options.seed ?? null, model.options.rate, model.look.screen, model.look.arrows, model.breakLines, model.step])(chipbenchPage)"
+            assert browser.value(state) == [None, "10", "theme", "", [], 0], browser.value(state)
+            self.check_step("RND V1, 255\n", 1, [])
+            self.chosen(random="none", rate="30", screen="lcd")
+            self.step(5)
+            self.open_named("first.asm")
+            self.rest()
+            assert browser.value(state) == ["7", "20", "amber", "5789", [2], 40], browser.value(state)
+            self.check_step(text, 40, [], ("--seed", "7", "--rate", "20"))
+            assert browser.value("document.documentElement.dataset.screen") == "amber"
+            self.open_named("second.asm")
+            self.rest()
+            assert browser.value(state) == [None, "30", "lcd", "", [], 5], browser.value(state)
+            browser.click("#sound")
+            self.reload()
+            assert browser.value("document.getElementById('sound').ariaPressed") == "true"
+            assert browser.value(state) == [None, "30", "lcd", "", [], 5], browser.value(state)
+            browser.click("#sound")
+        with self.page_of_nothing() as browser:
+            seed = browser.value("chipbenchPage.model.options.seed")
+            assert 1 <= int(seed) <= 9999, seed
+            browser.value("document.getElementById('start-empty').click()")
+            self.put_line(1, "RND V0, 255")
+            self.rest()
+            time.sleep(0.5)
+            self.reload()
+            browser.wait(SETTLED)
+            assert browser.value("chipbenchPage.model.options.seed") == seed
+            self.check_step("RND V0, 255", 1, [], ("--seed", seed))
