@@ -12,6 +12,8 @@ import { readFile, writeFile } from './text_form.mjs';
 /** The slot of a document that was never in a file, and what it is called. */
 const WITHOUT_NAME = 'without a file';
 const UNTITLED = 'untitled';
+/** So often a file is looked at, for another program may save it. */
+const LOOK_MILLISECONDS = 1500;
 
 /**
  * A document: its name, the slot under which the browser keeps it, whether it is a file of the bridge's folder, and then the
@@ -25,6 +27,9 @@ const elsewhere = (name, file) => ({ name, slot: `elsewhere ${name}`, isFile: fa
 
 /** The source of an image that the bridge was started on; the digest is that of the image. */
 const imageDocument = ({ name, text, digest }) => ({ ...elsewhere(name, readFile(text)), digest });
+
+/** A name as a source has one, so that Open lists the file. */
+const asSource = (name) => (/\.(asm|s|txt)$/i.test(name) ? name : `${name}.asm`);
 
 /** The name under which a document that is in no file is saved, where the author gives no other. */
 function sourceName(name) {
@@ -43,6 +48,8 @@ export class Documents extends EventTarget {
   #toldDigest = null;
   #askName;
   #optionsFor;
+  /** Whether the file is being looked at. */
+  #isLooking = false;
   /** Whether the document is the one that the page was opened on, whose settings the command line may say. */
   #isFirst = true;
 
@@ -63,6 +70,9 @@ export class Documents extends EventTarget {
       onOther: () => this.#offerEarlier('Another window has changed this text.'),
     });
     addEventListener('focus', () => this.#checkDisk());
+    setInterval(() => {
+      if (!document.hidden) this.#checkDisk();
+    }, LOOK_MILLISECONDS);
   }
 
   get name() {
@@ -83,8 +93,8 @@ export class Documents extends EventTarget {
       if (found !== null) this.#open = found;
     }
     const opened = this.#start();
-    const isOwn = (entry) => entry.slot === this.#open.slot && entry.kind !== 'save';
-    if (this.earlier.some(isOwn)) this.#offerEarlier('');
+    const isNew = (entry) => entry.slot === this.#open.slot && entry.kind !== 'save' && entry.told !== true;
+    if (this.earlier.some(isNew)) this.#offerEarlier('');
     return opened;
   }
 
@@ -188,6 +198,7 @@ export class Documents extends EventTarget {
     takeAway('aside');
     const place = earlier.findLastIndex(({ kind }) => kind !== 'save');
     if (place < 0) return;
+    this.#store.markTold();
     const of = earlier[place].slot === this.#open.slot ? 'the text that you had before' : `your text of ${earlier[place].name}`;
     notice('aside', `${why} This browser keeps ${of}.`.trim(), {
       choices: [['Take it back', () => this.takeBack(place)], ['Earlier texts …', () => byId('show-earlier').click()], ['Close', () => {}]],
@@ -232,7 +243,8 @@ export class Documents extends EventTarget {
 
   async saveAs() {
     const { name: own, isFile, digest } = this.#open;
-    const name = await this.#askName(isFile ? own : sourceName(own));
+    const asked = await this.#askName(isFile ? own : sourceName(own));
+    const name = asked === null || asked === own ? asked : asSource(asked);
     if (name !== null) await this.#write(name, isFile && name === own ? digest : null);
   }
 
@@ -273,12 +285,18 @@ export class Documents extends EventTarget {
     notice('save', `${told} It wasn't saved.`, { bad: true, choices: [['Write mine over it', overwrite], ['Leave it', () => {}]] });
   }
 
-  /** Tells of a file that another program changed, once for each of its texts. */
+  /** Takes a file that another program changed, where nothing is unsaved here; else tells of it, once for each of its texts. */
   async #checkDisk() {
-    if (!this.#open.isFile) return;
+    if (!this.#open.isFile || this.#isLooking) return;
+    this.#isLooking = true;
     const found = await request('read', { name: this.#open.name }).catch(() => null);
+    this.#isLooking = false;
     if (found === null || found.path !== this.#open.slot || found.digest === this.#toldDigest || found.text === null) return;
     this.#toldDigest = found.digest;
+    if (this.#model.text === this.#savedText) {
+      this.#follow(found);
+      return;
+    }
     const take = () => {
       this.#open = fileDocument(found);
       this.#savedText = this.#open.file.text;
@@ -286,6 +304,19 @@ export class Documents extends EventTarget {
       this.tellState();
     };
     notice('disk', `${found.name} was changed by another program.`, { choices: [['Take its text', take], ['Keep mine', () => {}]] });
+  }
+
+  /** The text becomes that of the file, as an edit that can be undone. */
+  #follow(found) {
+    this.#putAside(this.#model, 'in the file before another program changed it', 'save');
+    this.#open = fileDocument(found);
+    const { text, encoding, lineEnd } = this.#open.file;
+    this.#savedText = text;
+    this.#editor.become(text);
+    this.#model.setText(text, { encoding, lineEnd });
+    this.tellState();
+    takeAway('disk');
+    notice('followed', `${found.name} was saved by another program: its text is here now. Undo brings the one before back.`);
   }
 }
 

@@ -297,6 +297,15 @@ export class Editor extends LineFacts {
     this.#put(start, end, text, 'insertReplacementText');
   }
 
+  /** Another text in place of this one, of which what stays is left alone, with the cursor. */
+  become(text) {
+    const { start, end } = this.selection;
+    const { at, removed, inserted } = difference(this.text, text);
+    const moved = (place) => (place <= at ? place : place >= at + removed.length ? place + inserted.length - removed.length : at);
+    this.replace(at, at + removed.length, inserted);
+    this.select(moved(start), moved(end));
+  }
+
   type(text) {
     const { start, end } = this.selection;
     this.replace(start, end, text);

@@ -11,7 +11,7 @@ export class EventsView {
   #model;
   #rows = byId('event-rows');
   #state = byId('keys-state');
-  #buttons = Object.fromEntries(['undo-keys', 'undo-play', 'redo-keys'].map((name) => [name, byId(name)]));
+  #buttons = Object.fromEntries(['undo-keys', 'undo-play', 'redo-keys', 'redo-play'].map((name) => [name, byId(name)]));
   #form = byId('add-event');
   /** The rows as they were made, of which keys, and the place of the first of them among the events. */
   #made = [];
@@ -35,6 +35,7 @@ export class EventsView {
     this.#buttons['undo-keys'].addEventListener('click', () => model.undoKeys());
     this.#buttons['undo-play'].addEventListener('click', () => model.undoKeys(true));
     this.#buttons['redo-keys'].addEventListener('click', () => model.redoKeys());
+    this.#buttons['redo-play'].addEventListener('click', () => model.redoKeys(true));
     this.#draw();
   }
 
@@ -49,6 +50,7 @@ export class EventsView {
     setProperty(this.#buttons['undo-keys'], 'disabled', !keyHistory.canUndo);
     setProperty(this.#buttons['redo-keys'], 'disabled', !keyHistory.canRedo);
     setProperty(this.#buttons['undo-play'], 'hidden', keyHistory.lastPlay < 2);
+    setProperty(this.#buttons['redo-play'], 'hidden', keyHistory.nextPlay < 2);
     setTitle(this.#buttons['undo-play'], `Undoes all ${keyHistory.lastPlay} changes that the last play recorded`);
   }
 
@@ -111,17 +113,17 @@ export class EventsView {
 
   #row(event) {
     const { step, key, down } = event;
-    const name = `key ${hex(key, 1).toUpperCase()} at step ${step}`;
+    const name = `event of key ${hex(key, 1).toUpperCase()} at step ${grouped(step)}`;
     const change = (newStep, newKey, newDown) => {
       const place = Math.max(0, Math.min(this.#model.lastStep, Math.round(newStep)));
       this.#model.setKeys(this.#model.keys.without(step, key).with(place, newKey, newDown));
     };
     const stepField = element('input', { type: 'number', min: '0', max: String(this.#model.lastStep), value: String(step) });
-    stepField.setAttribute('aria-label', `Step of ${name}`);
+    stepField.setAttribute('aria-label', `Step of the ${name}`);
     stepField.addEventListener('change', () => change(Number(stepField.value), key, down));
     stepField.addEventListener('blur', this.#draw);
     const keyField = element('select', {}, ...keyOptions(key));
-    keyField.setAttribute('aria-label', `Key of ${name}`);
+    keyField.setAttribute('aria-label', `Which key the ${name} is of`);
     keyField.addEventListener('change', () => change(step, Number(keyField.value), down));
     const button = (text, label, action) => {
       const made = element('button', { type: 'button', textContent: text });
@@ -135,11 +137,11 @@ export class EventsView {
       {},
       cell(stepField),
       cell(keyField),
-      cell(button(down ? 'down' : 'up', `${name} is ${down ? 'down' : 'up'}; change it`, () => change(step, key, !down))),
+      cell(button(down ? 'down' : 'up', `The ${name} is ${down ? 'down' : 'up'}; change it`, () => change(step, key, !down))),
       cell(
-        button('▸', `To ${name}`, () => this.#model.setStep(step)),
+        button('▸', `To the ${name}`, () => this.#model.setStep(step)),
         ' ',
-        button('×', `Remove ${name}`, () => this.#model.setKeys(this.#model.keys.without(step, key))),
+        button('×', `Remove the ${name}`, () => this.#model.setKeys(this.#model.keys.without(step, key))),
       ),
     );
   }

@@ -3,7 +3,7 @@
 import { request } from './bridge.mjs';
 import { byId, element } from './dom.mjs';
 import { readPlaces } from './fault_places.mjs';
-import { fixed, fixesOf } from './fixes.mjs';
+import { BYTE_ORDER_MARK, fixed, fixesOf } from './fixes.mjs';
 import { encodeText } from './text_form.mjs';
 
 const REST_MILLISECONDS = 400;
@@ -83,7 +83,9 @@ export class FaultHelp {
   #draw(line, { code, sentence, help }) {
     const buttons = this.#shown.fixes.map((fix, place) => this.#button(fix.title, place === 0 ? 'Alt+Enter' : '', () => this.#take(fix)));
     if (this.#explain !== null) buttons.push(this.#button('More', 'F1', () => this.#explain(code)));
-    const told = [element('strong', { textContent: code }), ` ${sentence}`, ...help.map((one) => element('span', { textContent: one }))];
+    const isMarked = this.#editor.lines[line - 1].startsWith(BYTE_ORDER_MARK);
+    const all = isMarked ? [...help, 'a byte order mark, which isn\'t seen, stands before the line'] : help;
+    const told = [element('strong', { textContent: code }), ` ${sentence}`, ...all.map((one) => element('span', { textContent: one }))];
     this.#place.replaceChildren(element('p', {}, ...told), element('div', { className: 'buttons' }, ...buttons));
     this.#place.hidden = false;
     this.#editor.placeBelow(this.#place, line);

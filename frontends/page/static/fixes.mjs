@@ -1,5 +1,8 @@
 // What may be written in place of a fault, by what the program says of it. Whether it is right, the program says too.
 
+/** A sign that some editors put before a text, and that nobody sees. */
+export const BYTE_ORDER_MARK = '\ufeff';
+
 /** What a sentence of help offers: the title of its button, and what becomes of the fault, from `start` to `end` of its line. */
 const OFFERS = [
   [/^did you mean (\w+)\?$/, ([, word], at) => ({ title: `Write ${word}`, ...at, text: word })],
@@ -16,6 +19,7 @@ export function fixesOf(line, { start, end, code, help }) {
   });
   const part = line.slice(start, end);
   const fixes = found.map((fix) => ({ ...fix, text: part !== '' && part === part.toLowerCase() ? fix.text.toLowerCase() : fix.text }));
+  if (line.startsWith(BYTE_ORDER_MARK)) fixes.push({ title: 'Take the byte order mark out', start: 0, end: 1, text: '' });
   if (code === 'F2') fixes.push({ title: 'Close the text', start: line.trimEnd().length, end: line.length, text: line.slice(start, start + 1) });
   if (code === 'F3' && line.trim() === part) fixes.push({ title: `Make ${part} a label`, start: end, end, text: ':' });
   return fixes;

@@ -18,6 +18,11 @@ export class KeyHistory extends History {
     return groupAtEnd(this.done);
   }
 
+  /** How many changes the play has that was undone last, where all of them can be made again; else 0. */
+  get nextPlay() {
+    return groupAtEnd(this.undone);
+  }
+
   /** A script became another: `play` names the play that the change is of, `move` a movement whose changes are one. */
   record(before, after, { play = null, move = null } = {}) {
     const events = differences(before, after);

@@ -152,6 +152,10 @@ class Page {
     this.viewer.addEventListener('shown', ({ detail }) => this.#show(detail));
     this.viewer.addEventListener('fault', ({ detail }) => this.#tellFault(detail));
     this.player.addEventListener('change', () => this.#showPlayer());
+    // another document is no edit of this one
+    this.documents.addEventListener('open', () => {
+      this.#shown = null;
+    });
     this.player.addEventListener('told', ({ detail }) => this.runControl.tell(detail));
     this.appearance.addEventListener('tab', () => this.#showPanel());
     byId('play').addEventListener('click', () => this.#act('play'));
@@ -292,7 +296,7 @@ class Page {
     }
     const before = this.#shown;
     this.#shown = machine;
-    const isEdit = before !== null && before.step === machine.step && before.wanted !== machine.wanted;
+    const isEdit = before !== null && before.step === machine.step && before.wanted !== machine.wanted && before.wanted.options === machine.wanted.options;
     if (!isEdit || this.player.direction !== 0) {
       if (before?.step !== machine.step) this.#tellEdit('');
       return;
@@ -316,6 +320,9 @@ class Page {
   #tellFault(fault) {
     this.player.play(0);
     document.body.toggleAttribute('data-stale', true);
+    // the addresses are of a text that is answered no more
+    this.viewer.forget();
+    this.editor.show([], new Map());
     tellFault(fault, { again: () => this.viewer.refresh(), takeBack: () => this.workbench.takeBack() });
   }
 

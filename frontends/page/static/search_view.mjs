@@ -44,7 +44,7 @@ export class SearchView {
     });
     // Enter would take the first button, which looks back
     this.#form.addEventListener('keydown', (event) => {
-      if (event.key !== 'Enter' || !(event.target instanceof HTMLInputElement) || event.isComposing) return;
+      if (event.key !== 'Enter' || event.target instanceof HTMLButtonElement || event.isComposing) return;
       event.preventDefault();
       this.#search(!event.shiftKey);
     });
@@ -80,6 +80,9 @@ export class SearchView {
     byId('names').replaceChildren(...names.map((value) => element('option', { value })));
   }
 
+  /** Resolves when the search that runs has ended. */
+  #ended = Promise.resolve();
+
   stop() {
     this.#goOn = false;
   }
@@ -108,9 +111,17 @@ export class SearchView {
 
   /** Goes to the next step, or the last before, that a question is true of; returns what is to be said of it. */
   async find(forward, question) {
-    if (this.#running) return null;
+    // a search that runs gives way to the next one
+    while (this.#running) {
+      this.stop();
+      await this.#ended;
+    }
     const from = this.#model.step;
     this.#show(true);
+    let ended = () => {};
+    this.#ended = new Promise((done) => {
+      ended = done;
+    });
     try {
       const found = await this.#found(forward, question, from);
       if (!this.#goOn) throw new SearchStopped();
@@ -122,6 +133,7 @@ export class SearchView {
       return fault instanceof SearchStopped ? 'stopped' : fault.message || 'the search failed';
     } finally {
       this.#show(false);
+      ended();
     }
   }
 

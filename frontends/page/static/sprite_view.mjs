@@ -2,30 +2,9 @@
 
 import { byId, element, setAttribute, setText } from './dom.mjs';
 import { hex } from './answers.mjs';
+import { MOST_ROWS, readSprite, rowText, writeSprite } from './sprite_lines.mjs';
 
 const COLUMNS = 8;
-const MOST_ROWS = 16;
-
-/** A row of a sprite as the language writes it: `$1..1` with a full stop for a dark pixel. */
-export const rowText = (byte) => `$${byte.toString(2).padStart(COLUMNS, '0').replaceAll('0', '.')}`;
-
-/** The bytes of a DB line, where it holds numbers alone, with what stands before them; else null. */
-export function readSpriteLine(line) {
-  const found = /^(?<before>\s*(?:\w+:)?\s*DB\s+)(?<operands>[^;]*?)\s*(?<after>;.*)?$/i.exec(line);
-  if (found === null) return null;
-  const bytes = found.groups.operands.split(',').map((operand) => byteOf(operand.trim()));
-  return bytes.includes(null) ? null : { before: found.groups.before, bytes, after: found.groups.after ?? '' };
-}
-
-function byteOf(operand) {
-  const forms = [[/^\$([01.]{1,8})$/, 2], [/^#([0-9a-f]{1,2})$/i, 16], [/^([0-9]{1,3})$/, 10], [/^@([0-7]{1,3})$/, 8]];
-  for (const [form, base] of forms) {
-    const found = form.exec(operand);
-    const value = found === null ? NaN : parseInt(found[1].replaceAll('.', '0'), base);
-    if (value <= 255) return value;
-  }
-  return null;
-}
 
 export class SpriteView {
   #editor;
@@ -39,6 +18,7 @@ export class SpriteView {
   constructor(editor) {
     this.#editor = editor;
     this.#rows.addEventListener('input', () => this.#resized());
+    this.#listenToPointer();
     byId('sprite-line').addEventListener('click', () => this.#readLine());
     byId('sprite-write').addEventListener('click', () => this.#writeLine());
     this.#draw();
@@ -82,7 +62,10 @@ export class SpriteView {
     const [row, column] = [Math.floor(place / COLUMNS), place % COLUMNS];
     const button = element('button', { type: 'button', tabIndex: place === 0 ? 0 : -1 });
     button.setAttribute('aria-label', `Row ${row + 1}, column ${column + 1}`);
-    button.addEventListener('click', () => this.#flip(row, column));
+    // a click without a pointer comes from the keyboard
+    button.addEventListener('click', (event) => {
+      if (event.detail === 0) this.#flip(row, column);
+    });
     button.addEventListener('keydown', (event) => this.#move(event, row, column));
     return button;
   }
@@ -98,29 +81,64 @@ export class SpriteView {
   }
 
   #flip(row, column) {
+    this.#paint(row, column, ((this.#bytes[row] >> (7 - column)) & 1) === 0);
+  }
+
+  #paint(row, column, isLit) {
+    const bit = 1 << (7 - column);
     this.#drawn = [...this.#bytes];
-    this.#drawn[row] ^= 1 << (7 - column);
+    this.#drawn[row] = isLit ? this.#drawn[row] | bit : this.#drawn[row] & ~bit;
     this.#draw();
   }
 
-  /** The sprite of the cursor's line, or, where it has none, that at I again. */
+  /** A press turns a pixel, and those that the pointer is dragged over become the same. */
+  #listenToPointer() {
+    let isLit = null;
+    const placeUnder = ({ clientX, clientY }) => {
+      const pixel = document.elementFromPoint(clientX, clientY);
+      return pixel?.parentElement === this.#place ? [...this.#place.children].indexOf(pixel) : -1;
+    };
+    const paint = (event) => {
+      const place = placeUnder(event);
+      if (isLit === null || place < 0) return;
+      const [row, column] = [Math.floor(place / COLUMNS), place % COLUMNS];
+      if ((((this.#bytes[row] >> (7 - column)) & 1) === 1) !== isLit) this.#paint(row, column, isLit);
+    };
+    this.#place.addEventListener('pointerdown', (event) => {
+      const place = placeUnder(event);
+      if (event.button !== 0 || place < 0) return;
+      this.#place.releasePointerCapture?.(event.pointerId);
+      isLit = ((this.#bytes[Math.floor(place / COLUMNS)] >> (7 - (place % COLUMNS))) & 1) === 0;
+      paint(event);
+    });
+    this.#place.addEventListener('pointermove', paint);
+    for (const name of ['pointerup', 'pointercancel']) {
+      document.addEventListener(name, () => {
+        isLit = null;
+      });
+    }
+  }
+
+  /** The sprite that begins in the cursor's line, or, where it has none, that at I again. */
   #readLine() {
-    const found = readSpriteLine(this.#editor.lines[this.#editor.line - 1] ?? '');
-    this.#drawn = found === null ? null : found.bytes.slice(0, MOST_ROWS);
+    const found = readSprite(this.#editor.lines, this.#editor.line);
+    this.#drawn = found === null ? null : found.bytes;
     if (found !== null) this.#rows.value = String(this.#drawn.length);
     this.#draw();
     if (found === null) this.#state.textContent += ' (my line is no DB of bytes)';
   }
 
-  /** In the place of the bytes of the cursor's line, or as a line before it. */
+  /** In the place of the DB lines from the cursor's on, or as a line before it. */
   #writeLine() {
     const { lines, line } = this.#editor;
-    const text = lines[line - 1] ?? '';
-    const found = readSpriteLine(text);
-    const operands = this.#bytes.map(rowText).join(', ');
-    const start = lines.slice(0, line - 1).reduce((sum, one) => sum + one.length + 1, 0);
-    if (found === null) this.#editor.replace(start, start, `        DB ${operands}\n`);
-    else this.#editor.replace(start, start + text.length, `${found.before}${operands}${found.after && `  ${found.after}`}`);
+    const found = readSprite(lines, line);
+    const start = this.#editor.placeOf(line, 0);
+    if (found === null) {
+      this.#editor.replace(start, start, `        DB ${this.#bytes.map(rowText).join(', ')}\n`);
+    } else {
+      const last = line + found.lines.length - 1;
+      this.#editor.replace(start, this.#editor.placeOf(last, lines[last - 1].length), writeSprite(found.lines, this.#bytes).join('\n'));
+    }
     this.#drawn = null;
   }
 }

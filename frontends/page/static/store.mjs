@@ -130,6 +130,11 @@ export class Store {
     this.#write(EARLIER, all);
   }
 
+  /** The author was told of these texts: a reload isn't to tell of them again. */
+  markTold() {
+    this.#write(EARLIER, this.earlier.map((one) => ({ ...one, told: true })));
+  }
+
   /** Takes one of them out, by its place, and returns it. */
   takeEarlier(place) {
     const { earlier } = this;

@@ -50,6 +50,11 @@ export class Viewer extends EventTarget {
     this.#goOn();
   }
 
+  /** The next answers tell of the text again, also where it is the same. */
+  forget() {
+    this.#listed = null;
+  }
+
   /** Resolves when all that changed is shown. */
   settle() {
     if (this.#looks === 0) return Promise.resolve();

@@ -40,10 +40,14 @@ class FileTests(PageTests):
             self.path.write_text("CLS\n")
             self.reload()
             assert self.source() == "CLS\n"
+            assert "that you had before" in self.text_of("#notices"), self.text_of("#notices")
             time.sleep(0.5)
+            # it is told once, and there again and again
             self.reload()
             assert self.source() == "CLS\n"
-            self.notice_button("Take it back")
+            assert "that you had before" not in self.text_of("#notices"), self.text_of("#notices")
+            browser.value("document.getElementById('show-earlier').click()")
+            browser.value("document.querySelector('#earlier-texts button').click()")
             assert self.source().startswith("; mine\n")
             assert self.path.read_text() == "CLS\n"
 
@@ -58,8 +62,8 @@ class FileTests(PageTests):
             browser.press("s", "KeyS", CONTROL)
             browser.wait("document.getElementById('file-state').textContent === 'saved'")
             assert self.path.read_bytes() == b"CLS\r\nLD V0, 6\r\n"
-            self.path.write_bytes(b"another\n")
             self.put_line(2, "LD V0, 7")
+            self.path.write_bytes(b"another\n")
             browser.press("s", "KeyS", CONTROL)
             browser.wait("document.querySelector('.notice') !== null")
             assert self.path.read_bytes() == b"another\n"
@@ -517,3 +521,56 @@ class FileTests(PageTests):
             assert self.registers()["V0"] == "07"
             assert browser.value("document.querySelector('.notice') === null")
             self.browser.console = [line for line in self.browser.console if "ERR_INTERNET_DISCONNECTED" not in line]
+
+    def test_a_file_is_followed(self) -> None:
+        """Where nothing is unsaved, what another program saves is here at once, unasked; the cursor stays, and undo brings the text before back."""
+        text = "".join(f"L{number}: LD V0, {number}\n" for number in range(40))
+        with self.page(text) as browser:
+            browser.value("chipbenchPage.editor.goToLine(30)")
+            theirs = "; theirs\n" + text.replace("L5: LD V0, 5", "L5: LD V0, 55")
+            self.path.write_text(theirs)
+            browser.wait(f"chipbenchPage.model.text === {json.dumps(theirs)}")
+            assert self.text_of("#file-state") == "saved"
+            assert "saved by another program" in self.text_of("#notices")
+            assert browser.value("chipbenchPage.editor.line") == 31
+            self.check_step(theirs, 6, [])
+            browser.press("z", "KeyZ", CONTROL)
+            assert browser.value("chipbenchPage.model.text") == text
+            # now there is something unsaved: it is asked
+            self.path.write_text("CLS\n")
+            browser.wait("/changed by another program/.test(document.getElementById('notices').textContent)")
+            assert browser.value("chipbenchPage.model.text") == text
+
+    def test_a_name_without_an_end(self) -> None:
+        """A file that is saved under such a name is one that Open lists."""
+        with self.page("CLS\n", "first.asm") as browser:
+            self.save_as("star2")
+            browser.wait("document.getElementById('file-name').textContent === 'star2.asm'")
+            assert (self.folder / "star2.asm").read_text() == "CLS\n" and not (self.folder / "star2").exists()
+            self.open_named("first.asm")
+            # another document is no edit of the one before
+            self.rest()
+            assert self.text_of("#edit-effect") == "", self.text_of("#edit-effect")
+
+    def test_a_byte_order_mark(self) -> None:
+        """It isn't seen, so the card of its fault names it, and takes it out."""
+        with self.page("\ufeffCLS\nLD V0, 5\n") as browser:
+            browser.value("chipbenchPage.editor.goToLine(1)")
+            browser.wait("/byte order mark, which/.test(document.getElementById('fault-help').textContent)")
+            browser.wait("document.querySelector('#fault-help button')?.firstChild.textContent === 'Take the byte order mark out'")
+            browser.value("document.querySelector('#fault-help button').click()")
+            assert browser.value("chipbenchPage.model.text") == "CLS\nLD V0, 5\n"
+            self.check_step("CLS\nLD V0, 5\n", 2, [])
+
+    def test_a_window_that_lost_the_program(self) -> None:
+        """It shows no addresses beside lines that may be others by now, and all of them once it has the program again."""
+        with self.page("LD V0, 5\nLD V1, 6\n") as browser:
+            addresses = "[...document.querySelectorAll('#fields .row')].map((row) => row.textContent).join(' ').trim()"
+            assert browser.value(addresses).startswith("02006005")
+            browser.value("fetch('open', { method: 'POST', body: JSON.stringify({ source: '', options: {}, commands: [] }) }).then((reply) => reply.json())")
+            self.put_line(1, "CLS")
+            browser.wait("/Another window/.test(document.getElementById('notices').textContent)")
+            assert browser.value(addresses) == "", browser.value(addresses)
+            browser.value("document.querySelector('.notice button').click()")
+            browser.wait(f"{addresses}.startsWith('020000e0')")
+            self.browser.console = [line for line in self.browser.console if "409" not in line]

@@ -386,6 +386,12 @@ class RunTests(PageTests):
             self.tab("keys")
             browser.click("#undo-play")
             assert browser.value(size) == 0
+            # what one press undid, one makes again; or one press for each event
+            browser.wait("!document.getElementById('redo-play').hidden")
+            browser.click("#redo-play")
+            assert browser.value("chipbenchPage.model.keys.events") == events
+            browser.wait("!document.getElementById('undo-play').hidden")
+            browser.click("#undo-play")
             for _ in range(4):
                 browser.click("#redo-keys")
             assert browser.value("chipbenchPage.model.keys.events") == events
@@ -519,3 +525,47 @@ class RunTests(PageTests):
             ], browser.value(rows)  # fmt: skip
             browser.click("#coverage")
             assert browser.value(rows) == []
+
+    def test_enter_in_the_lists_of_the_search(self) -> None:
+        """It searches, and opens no list; and a step over a call is made also while a long search runs."""
+        text = "LOOP: CALL ONE\nRND V0, 255\nJP LOOP\nONE: ADD V1, 1\nRET\n"
+        with self.page(text, words=("--seed", "1")) as browser:
+            self.tab("search")
+            browser.value("{ const { elements } = document.getElementById('search'); elements.subject.value = 'v1'; elements.value.value = '3'; elements.relation.focus(); }")
+            browser.press("Enter", text="\r")
+            browser.wait("/^step/.test(document.getElementById('search-result').textContent)")
+            self.step(0)
+            browser.value("{ const { elements } = document.getElementById('search'); elements.subject.value = 'pc'; elements.value.value = '#300'; document.querySelector('#search [value=next]').click(); }")
+            browser.wait("!document.getElementById('search-stop').hidden")
+            browser.value("document.activeElement.blur()")
+            browser.press("m", "KeyM")
+            browser.wait("chipbenchPage.model.step === 3")
+
+    def test_drawing_a_sprite(self) -> None:
+        """By dragging, over the rows of several DB lines, from them and back into them."""
+        text = "LD I, SHIP\nDRW V0, V1, 4\nSHIP: DB $...11..., $..1111.. ; the top\nDB $.111111., $11111111\nNEXT: DB 1\n"
+        with self.page(text) as browser:
+            self.tab("sprite")
+            browser.value("chipbenchPage.editor.goToLine(3)")
+            browser.click("#sprite-line")
+            rows = "[...document.querySelectorAll('#sprite button')].map((one) => one.ariaPressed === 'true' ? '1' : '.').join('').match(/.{8}/g)"
+            assert browser.value(rows) == ["...11...", "..1111..", ".111111.", "11111111"], browser.value(rows)
+
+            def pixel(row: int, column: int) -> tuple[float, float]:
+                return browser.center(f"#sprite button:nth-child({8 * row + column + 1})")
+
+            browser.mouse("mouseMoved", *pixel(0, 0), 0)
+            browser.mouse("mousePressed", *pixel(0, 0))
+            for place in ((0, 1), (0, 2), (1, 1), (1, 0)):
+                browser.mouse("mouseMoved", *pixel(*place))
+            browser.mouse("mouseReleased", *pixel(1, 0), 0)
+            browser.mouse("mouseMoved", *pixel(3, 7), 0)
+            browser.mouse("mousePressed", *pixel(3, 7))
+            browser.mouse("mouseReleased", *pixel(3, 7), 0)
+            assert browser.value(rows) == ["11111...", "111111..", ".111111.", "1111111."], browser.value(rows)
+            browser.click("#sprite-write")
+            drawn = text.replace("$...11..., $..1111.. ; the top", "$11111..., $111111..  ; the top").replace("$11111111", "$1111111.")
+            assert browser.value("chipbenchPage.model.text") == drawn, browser.value("chipbenchPage.model.text")
+            browser.value("document.querySelector('#sprite button').focus()")
+            browser.press("Enter", text="\r")
+            assert browser.value(rows)[0].startswith(".111"), browser.value(rows)

@@ -20,6 +20,7 @@ import { Model } from '../static/model.mjs';
 import { Names } from '../static/names.mjs';
 import { difference, SourceText } from '../static/source_text.mjs';
 import { placeFrom, placesOf, replacedAll } from '../static/text_find.mjs';
+import { readSprite, readSpriteLine, writeSprite } from '../static/sprite_lines.mjs';
 import { TextHistory } from '../static/text_history.mjs';
 
 /** A generator of numbers below a bound, the same in each run. */
@@ -334,4 +335,15 @@ test('look: the keys that arrows stand for, and what was kept', () => {
   assert.deepEqual(['ArrowUp', 'KeyA'].map((code) => mappedKey(lookOf({ arrows: '5789' }), code)), [5, null]);
   assert.equal(mappedKey(lookOf(null), 'ArrowUp'), null);
   assert.deepEqual(lookOf({ screen: 5, arrows: '12', letters: 'x' }), { screen: 'theme', arrows: '', letters: false });
+});
+
+test('sprites: the DB lines that one is from, and is written to', () => {
+  const lines = ['SHIP: DB $...11..., 255 ; top', '  DB #0f', 'NEXT: DB 1', 'DB 1, NAME', 'LD V0, 5'];
+  const found = readSprite(lines, 1);
+  assert.deepEqual([found.bytes, found.lines.length], [[0x18, 255, 15], 2]);
+  assert.deepEqual(writeSprite(found.lines, [1, 2, 3]), ['SHIP: DB $.......1, $......1.  ; top', '  DB $......11']);
+  assert.deepEqual(writeSprite(found.lines, [1, 2, 3, 4]), ['SHIP: DB $.......1, $......1.  ; top', '  DB $......11, $.....1..']);
+  assert.deepEqual(writeSprite(found.lines, [1]), ['SHIP: DB $.......1  ; top']);
+  assert.deepEqual([readSprite(lines, 3).bytes, readSprite(lines, 4), readSprite(lines, 5)], [[1], null, null]);
+  assert.equal(readSpriteLine('DB 256'), null);
 });
