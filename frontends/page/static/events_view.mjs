@@ -49,8 +49,8 @@ export class EventsView {
     const { keyHistory } = this.#model;
     setProperty(this.#buttons['undo-keys'], 'disabled', !keyHistory.canUndo);
     setProperty(this.#buttons['redo-keys'], 'disabled', !keyHistory.canRedo);
-    setProperty(this.#buttons['undo-play'], 'hidden', keyHistory.lastPlay < 2);
-    setProperty(this.#buttons['redo-play'], 'hidden', keyHistory.nextPlay < 2);
+    setProperty(this.#buttons['undo-play'], 'disabled', keyHistory.lastPlay < 2);
+    setProperty(this.#buttons['redo-play'], 'disabled', keyHistory.nextPlay < 2);
     setTitle(this.#buttons['undo-play'], `Undoes all ${keyHistory.lastPlay} changes that the last play recorded`);
   }
 

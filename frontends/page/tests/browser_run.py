@@ -387,10 +387,10 @@ class RunTests(PageTests):
             browser.click("#undo-play")
             assert browser.value(size) == 0
             # what one press undid, one makes again; or one press for each event
-            browser.wait("!document.getElementById('redo-play').hidden")
+            browser.wait("!document.getElementById('redo-play').disabled")
             browser.click("#redo-play")
-            assert browser.value("chipbenchPage.model.keys.events") == events
-            browser.wait("!document.getElementById('undo-play').hidden")
+            assert browser.value("chipbenchPage.model.keys.events") == events, (browser.value("chipbenchPage.model.keys.events"), events)
+            browser.wait("!document.getElementById('undo-play').disabled")
             browser.click("#undo-play")
             for _ in range(4):
                 browser.click("#redo-keys")
