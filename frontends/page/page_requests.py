@@ -9,6 +9,7 @@ import threading
 from pathlib import Path
 from typing import Any
 
+from exploration import Exploration
 from files import MAX_FILE, Files, Refused, digest_of, read_file, shown
 from program import Ended, Program, TooMuch, run_once
 from trace_search import MOST_STEPS, find_steps, pattern_of
@@ -25,8 +26,8 @@ OPTION_VALUES = {
     "profile": re.compile(r"[a-z0-9]{1,20}"),
     "every": re.compile(r"[0-9]{1,9}"),
 }
-WORDS = ("dis", "explain", "check", "trace", "test")
-NAMES = ("about", "open", "ask", "search", "word", "keys", "files", "read", "save", "example")
+WORDS = ("dis", "explain", "check", "trace", "test", "explore")
+NAMES = ("about", "open", "ask", "search", "word", "keys", "files", "read", "save", "example", "explore")
 # the examples that the page begins with, and the step of the picture of each
 EXAMPLES = {"bounce": 300, "breaker": 3000, "maze": 3000}
 TOP = Path(__file__).resolve().parents[1]
@@ -88,10 +89,14 @@ class Bridge:
         self._lock = threading.Lock()
         self._saving = threading.Lock()
         self._searching = threading.Lock()
+        self._exploring = threading.Lock()
+        self._exploration: Exploration | None = None
+        self._explorations = 0
         self._options = [name for name in OPTION_VALUES if name in self._options_of("debug")]
         self._takes_keys = "keys" in self._options_of("run")
         self._words = self._known_words()
         self._trace_options = self._options_of("trace") if "trace" in self._words else set()
+        self._explore_options = self._options_of("explore") if "explore" in self._words else set()
         self._folder = tempfile.TemporaryDirectory(prefix="chipbench-page-")
         self.place = Path(self._folder.name)
 
@@ -254,6 +259,8 @@ class Bridge:
     def close(self) -> None:
         with self._lock:
             self._close()
+        with self._exploring:
+            self._end_exploration()
         self._folder.cleanup()
 
     # Searches in a run ---------------------------------------------------------------------------------------------------
@@ -278,6 +285,37 @@ class Bridge:
             finally:
                 place.unlink()
                 events.unlink()
+
+    def explore(self, request: dict[str, Any]) -> dict[str, Any]:
+        """Starts a search over all key scripts in place of the one before, tells how far the one of a number is, or stops it."""
+        action = request.get("action")
+        if not self._explore_options or action not in ("start", "tell", "stop"):
+            raise Refused(409, "this program has no command `explore`, or there is no such action")
+        with self._exploring:
+            if action == "start":
+                self._start_exploration(request)
+            elif request.get("number") != self._explorations or self._exploration is None:
+                return {"number": None}
+            elif action == "stop":
+                self._end_exploration()
+                return {"number": None}
+            assert self._exploration is not None
+            return {"number": self._explorations, **self._exploration.told}
+
+    def _start_exploration(self, request: dict[str, Any]) -> None:
+        source, options = bytes_of(request.get("source"), MAX_FILE), request.get("options")
+        arguments = option_arguments({name: value for name, value in options.items() if name in self._explore_options} if isinstance(options, dict) else None)
+        self._end_exploration()
+        self._explorations += 1
+        try:
+            self._exploration = Exploration([self._program, "explore", *arguments], source, self.place / f"explored-{self._explorations}")
+        except OSError as error:
+            raise Refused(500, f"the search can't be started: {error.strerror}") from None
+
+    def _end_exploration(self) -> None:
+        if self._exploration is not None:
+            self._exploration.stop()
+            self._exploration = None
 
     # Words of the program that are run once ------------------------------------------------------------------------------
 

@@ -9,6 +9,8 @@ import { CallStackView } from './call_stack_view.mjs';
 import { codeText } from './codes.mjs';
 import { Completion } from './completion.mjs';
 import { Coverage } from './coverage.mjs';
+import { Crashes } from './crashes.mjs';
+import { CrashesView } from './crashes_view.mjs';
 import { DisassemblyView } from './disassembly_view.mjs';
 import { Documents } from './documents.mjs';
 import { byId, grouped, setAttribute, setText, setTitle } from './dom.mjs';
@@ -44,6 +46,7 @@ class Page {
   #about;
   #act;
   #begun = false;
+  #begunCrashes = false;
   /** The last machine that was shown, and the last step whose line was brought into sight. */
   #shown = null;
   #revealed = null;
@@ -111,6 +114,13 @@ class Page {
     this.runControl = new RunControl(this.editor, { search: this.search, machine });
     const scan = (question) => this.workbench.steps(this.model.wanted, question);
     this.player.guard = new BreakGuard(this.model, { addresses: () => this.#breakAddresses, scan });
+    const hasRun = async () => {
+      await this.viewer.settle();
+      return this.viewer.machine?.code === null;
+    };
+    this.crashes = new Crashes(this.model, hasRun);
+    this.crashesView = new CrashesView(this.crashes, this.model);
+    byId('tab-crashes').hidden = !this.#about.words.includes('explore');
     this.coverage = new Coverage(this.model, {
       ask: (questions) => this.workbench.answers(this.model.wanted, questions),
       map: () => this.viewer.assembled.map,
@@ -206,7 +216,7 @@ class Page {
     if (what === 'keys') this.keypad.show(this.model.keys, this.model.step);
     if (what === 'step') this.runControl.forget();
     if (what === 'lastStep') byId('step').max = this.model.lastStep;
-    else if (this.#begun && !['breakpoints', 'played', 'look'].includes(what)) this.viewer.refresh();
+    else if (this.#begun && !['breakpoints', 'played', 'look', 'flag'].includes(what)) this.viewer.refresh();
     if (what === 'played' || what === 'keys') this.#tellPlayed();
   }
 
@@ -242,6 +252,8 @@ class Page {
     if (machine === null) return;
     const panels = {
       words: () => this.disassembly.show(machine, assembled, this.editor.lines),
+      // once it was opened it goes on by itself, until it is stopped
+      crashes: () => this.#beginCrashes(),
       stack: () => this.callStack.show(machine, assembled),
       memory: () => this.memory.show(machine, assembled),
       sprite: () => this.sprite.show(machine),
@@ -251,6 +263,11 @@ class Page {
       },
     };
     panels[this.appearance.tab]?.();
+  }
+
+  #beginCrashes() {
+    if (!this.#begunCrashes) this.crashes.start();
+    this.#begunCrashes = true;
   }
 
   #showText({ listing, faults }) {

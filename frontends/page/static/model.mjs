@@ -18,6 +18,8 @@ export class Model extends EventTarget {
   lastStep = 100_000;
   /** The furthest step that was played; the last event may lie further on. */
   played = 0;
+  /** A step to be marked on the time, with a short text; or null. */
+  flag = null;
   withheld = new Map();
   /** The lines with breakpoints. */
   breakLines = [];
@@ -101,6 +103,11 @@ export class Model extends EventTarget {
     this.options = options;
     this.#wanted = null;
     this.#changed('options');
+  }
+
+  setFlag(flag) {
+    this.flag = flag;
+    this.#changed('flag');
   }
 
   /** How the game wants to be seen and played (look.mjs). */

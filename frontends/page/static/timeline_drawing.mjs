@@ -45,7 +45,16 @@ export function drawCloseUp({ model, range: [from, to], played, size: { width, h
   drawRuler(pen, x, from, to, height);
   if (played < to) hatch(pen, Math.max(LABEL_PIXELS, x(played)), RULER_PIXELS, width, height);
   drawLanes({ pen, x, from, to, width, height, model });
+  if (model.flag !== null && model.flag.step >= from && model.flag.step <= to) drawFlag(pen, x(model.flag.step), model.flag.text, height);
   drawStep(pen, x(model.step), model.step, width, height);
+}
+
+/** A step that was found, with what was found there. */
+function drawFlag(pen, place, text, height) {
+  pen.fillStyle = colour('--fault');
+  for (let at = RULER_PIXELS; at < height; at += 6) pen.fillRect(place - 1, at, 2, 3);
+  setFont(pen, `600 ${RULER_FONT}`);
+  pen.fillText(text, Math.max(LABEL_PIXELS, place - pen.measureText(text).width - 4), height - 4);
 }
 
 export function drawOverview({ model, range: [from, to], span, played, size: { width, height, pen } }) {

@@ -6,6 +6,7 @@ import json
 import time
 
 from browser_page import SETTLED, PageTests
+from driver import CONTROL
 
 LOOP = "LD V0, 5\nLOOP: ADD V1, 1\nSE V1, 200\nJP LOOP\nHERE: LD V1, 0\nJP LOOP\n"
 DIRECTION = "chipbenchPage.player.direction"
@@ -142,3 +143,47 @@ class PlayTests(PageTests):
             browser.wait(SETTLED)
             assert browser.value("chipbenchPage.model.options.seed") == seed
             self.check_step("RND V0, 255", 1, [], ("--seed", seed))
+
+    def test_crashes(self) -> None:
+        """Keys under which the machine stops are found beside the author's work; they are shown, and what was there comes back."""
+        text = "LOOP: LD V0, K\nSE V0, 3\nJP LOOP\nRET\n"
+        with self.page(text) as browser:
+            if browser.value("document.getElementById('tab-crashes').hidden"):
+                return
+            keys = "JSON.stringify(chipbenchPage.model.keys.events)"
+            browser.value("chipbenchPage.model.setKeys(chipbenchPage.model.keys.with(10, 2, true).with(14, 2, false))")
+            mine = browser.value(keys)
+            self.tab("crashes")
+            browser.wait("/^S5 at step 3: a return with an empty call stack. 2 key events lead there/.test(document.getElementById('crashes-text').textContent)", 60.0)
+            assert not browser.value("document.getElementById('crashes-badge').hidden")
+            browser.click("#crashes-show")
+            self.check_step(text, 3, ["kins 0 3 down", "kins 1 3 up"])
+            assert self.registers()["state"] == "S5"
+            assert browser.value("chipbenchPage.model.flag.step") == 3
+            self.picture("crash")
+            browser.click("#crashes-mine")
+            assert browser.value(keys) == mine and browser.value("chipbenchPage.model.flag") is None
+            browser.click("#crashes-show")
+            browser.value("document.activeElement.blur()")
+            browser.press("z", "KeyZ", CONTROL)
+            assert browser.value(keys) == mine
+            # the search goes along with the source
+            self.put_line(4, "JP LOOP")
+            browser.wait("document.getElementById('crashes-text').textContent === 'No keys make it stop, at any step.'", 60.0)
+            assert browser.value("document.getElementById('crashes-badge').hidden")
+            self.put_line(4, "JP NOWHERE")
+            browser.wait("/a line has a fault/.test(document.getElementById('crashes-text').textContent)", 60.0)
+            browser.click("#crashes-switch")
+            assert self.text_of("#crashes-switch") == "Search"
+
+    def test_a_search_for_crashes_is_stopped(self) -> None:
+        """A long one tells how far it is, and ends at the press of a button."""
+        with self.page(self.example("breaker")) as browser:
+            if browser.value("document.getElementById('tab-crashes').hidden"):
+                return
+            self.tab("crashes")
+            browser.wait("/^Searching: up to step [1-9]/.test(document.getElementById('crashes-text').textContent)", 60.0)
+            browser.click("#crashes-switch")
+            browser.wait("/^Searches all/.test(document.getElementById('crashes-text').textContent)")
+            told = browser.value("fetch('explore', { method: 'POST', body: JSON.stringify({ action: 'tell', number: 1 }) }).then((reply) => reply.json())")
+            assert told["number"] is None, told

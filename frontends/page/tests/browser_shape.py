@@ -73,7 +73,7 @@ class ShapeTests(PageTests):
         with self.page(self.example("guess")) as browser:
             browser.value("chipbenchPage.model.setKeys(chipbenchPage.model.keys.with(20, 3, true))")
             self.rest()
-            for tab in ("source", "words", "stack", "memory", "sprite", "keys", "search"):
+            for tab in ("source", "words", "stack", "memory", "sprite", "keys", "crashes", "search"):
                 self.tab(tab)
                 assert browser.nameless() == [], (tab, browser.nameless())
 
@@ -135,7 +135,7 @@ class ShapeTests(PageTests):
         """The chosen tab is that of the panel that is shown, and the keyboard reaches it; the source is a tab where there is little room."""
         chosen = "[...document.querySelectorAll('#tabs [role=tab]')].filter((tab) => tab.checkVisibility() && tab.getAttribute('aria-selected') === 'true' && tab.tabIndex === 0).map((tab) => tab.dataset.tab).join()"
         shown = "[...document.querySelectorAll('.panel')].filter((panel) => panel.checkVisibility()).map((panel) => panel.id).join()"
-        panels = ("words", "stack", "memory", "sprite", "keys", "search")
+        panels = ("words", "stack", "memory", "sprite", "keys", "crashes", "search")
         with self.page(self.example("bounce")) as browser:
             for width, height in ((1440, 900), (720, 450), (390, 844)):
                 browser.size(width, height)

@@ -14,6 +14,7 @@ import { readGame, writeGame } from '../static/game_file.mjs';
 import { encodeGif } from '../static/gif.mjs';
 import { KeyScript } from '../static/key_script.mjs';
 import { nearestPlace, wordAround } from '../static/editor_pointer.mjs';
+import { Crashes, readExplored } from '../static/crashes.mjs';
 import { DIRECTIVES, INSTRUCTIONS, MNEMONICS, REGISTERS, rowOfWord, tokensOf } from '../static/language.mjs';
 import { lookOf, mappedKey } from '../static/look.mjs';
 import { Model } from '../static/model.mjs';
@@ -346,4 +347,53 @@ test('sprites: the DB lines that one is from, and is written to', () => {
   assert.deepEqual(writeSprite(found.lines, [1]), ['SHIP: DB $.......1  ; top']);
   assert.deepEqual([readSprite(lines, 3).bytes, readSprite(lines, 4), readSprite(lines, 5)], [[1], null, null]);
   assert.equal(readSpriteLine('DB 256'), null);
+});
+
+// Crashes ---------------------------------------------------------------------------------------------------------------------
+
+test('crashes: what `explore` prints', () => {
+  // as docs/FORMATS.md has it
+  assert.deepEqual(readExplored('S5 3\nkeys 2\nstates 1\n'), { crash: { cause: 'S5', step: 3 }, within: null, others: [] });
+  assert.deepEqual(readExplored('S6 40\nkeys 2\nS2 77\nstates 91\n').others, [{ cause: 'S2', step: 77 }]);
+  assert.deepEqual(readExplored('within 2349\nstates 200001\n'), { crash: null, within: 2349, others: [] });
+  assert.deepEqual(readExplored('never\nstates 7\n'), { crash: null, within: null, others: [] });
+  assert.equal(readExplored('a.asm:1:1: F9: undefined name\n'), null);
+});
+
+test('crashes: a change of the source begins the search anew, and a stop ends it', async (context) => {
+  context.mock.timers.enable({ apis: ['setTimeout'] });
+  const pass = async (milliseconds) => {
+    context.mock.timers.tick(milliseconds);
+    for (let count = 0; count < 9; count += 1) await Promise.resolve();
+  };
+  const asked = [];
+  let number = 0;
+  let result = null;
+  const ask = async (name, body) => {
+    asked.push(body.action === 'start' ? `start ${body.source.trim()}` : `${body.action} ${body.number}`);
+    if (body.action === 'start') number += 1;
+    return { number, step: 5, states: 6, result };
+  };
+  const model = new Model();
+  model.setText('CLS');
+  const crashes = new Crashes(model, async () => model.text !== 'BAD', ask);
+  crashes.start();
+  await pass(0);
+  assert.deepEqual([crashes.state.name, crashes.state.step], ['searches', 5]);
+  model.setText('RET');
+  assert.equal(crashes.state.name, 'waits');
+  await pass(1000);
+  result = { status: 1, output: 'S5 0\nkeys 0\nstates 1\n', keys: '' };
+  await pass(400);
+  assert.deepEqual([crashes.state.name, crashes.state.found.crash], ['found', { cause: 'S5', step: 0 }]);
+  model.setText('BAD');
+  await pass(1000);
+  assert.equal(crashes.state.name, 'faulty');
+  result = null;
+  model.setText('RET ');
+  await pass(1000);
+  crashes.stop();
+  await pass(1000);
+  assert.equal(crashes.state.name, 'off');
+  assert.deepEqual(asked, ['start CLS', 'stop 1', 'start RET', 'tell 2', 'start RET', 'stop 3']);
 });

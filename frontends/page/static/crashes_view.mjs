@@ -1,0 +1,77 @@
+// The panel of crashes: how far the search is, what it found, and a button that shows it.
+
+import { codeText } from './codes.mjs';
+import { byId, element, grouped, setProperty, setText } from './dom.mjs';
+import { readKeys } from './key_script.mjs';
+
+export class CrashesView {
+  #crashes;
+  #model;
+  #text = byId('crashes-text');
+  #others = byId('crashes-others');
+  #show = byId('crashes-show');
+  #mine = byId('crashes-mine');
+  #switch = byId('crashes-switch');
+  #badge = byId('crashes-badge');
+  /** The keys that were loaded, while they are those of the model. */
+  #loaded = null;
+
+  constructor(crashes, model) {
+    this.#crashes = crashes;
+    this.#model = model;
+    crashes.addEventListener('change', () => this.#draw());
+    model.addEventListener('change', ({ detail }) => {
+      if (detail === 'keys') this.#draw();
+    });
+    this.#switch.addEventListener('click', () => (crashes.isOn ? crashes.stop() : crashes.start()));
+    this.#show.addEventListener('click', () => this.showCrash());
+    this.#mine.addEventListener('click', () => model.undoKeys());
+    this.#draw();
+  }
+
+  /** Loads the script under which the machine stops, as one change of the keys, and goes to its step. */
+  showCrash() {
+    const { found, keys } = this.#crashes.state;
+    if (!found?.crash) return;
+    const script = readKeys(keys);
+    this.#model.setFlag({ step: found.crash.step, text: found.crash.cause });
+    this.#model.setKeys(script);
+    this.#loaded = this.#model.keys;
+    this.#model.setStep(found.crash.step);
+    this.#draw();
+  }
+
+  #draw() {
+    const { isOn, state } = this.#crashes;
+    const crash = state.found?.crash ?? null;
+    const isLoaded = this.#loaded !== null && this.#model.keys === this.#loaded;
+    if (!isLoaded && this.#loaded !== null) {
+      this.#loaded = null;
+      this.#model.setFlag(null);
+    }
+    setText(this.#text, textOf(state));
+    this.#text.classList.toggle('bad', crash !== null);
+    setText(this.#switch, isOn ? 'Stop' : 'Search');
+    setProperty(this.#show, 'disabled', crash === null || isLoaded);
+    setProperty(this.#mine, 'disabled', !isLoaded);
+    setProperty(this.#badge, 'hidden', crash === null);
+    const others = state.found?.others ?? [];
+    this.#others.replaceChildren(...others.map(({ cause, step }) => element('li', { textContent: `${cause} at step ${grouped(step)}: ${codeText(cause)}` })));
+  }
+}
+
+function textOf({ name, step, states, found, keys }) {
+  const texts = {
+    off: 'Searches all that a player can press for keys under which the machine stops, beside your work.',
+    waits: 'The source has changed: the search begins anew.',
+    searches: `Searching: up to step ${grouped(step)}, ${grouped(states)} states, no crash so far.`,
+    faulty: 'There is no run, since a line has a fault.',
+    failed: `The search ended without an answer. ${keys}`.trim(),
+  };
+  if (name !== 'found') return texts[name];
+  if (found.crash !== null) {
+    const count = keys.split('\n').length - 1;
+    return `${found.crash.cause} at step ${grouped(found.crash.step)}: ${codeText(found.crash.cause)}. ${count === 1 ? 'One key event leads' : `${grouped(count)} key events lead`} there.`;
+  }
+  return found.within === null ? 'No keys make it stop, at any step.' : `No keys make it stop up to step ${grouped(found.within)}.`;
+}
