@@ -52,7 +52,9 @@ class Server {
   }
 
   #options(settings) {
-    return { profile: settings.get('profile'), rate: settings.get('rate'), tape: settings.get('tape') };
+    const [profile, rate, every, seed] = ['profile', 'rate', 'every', 'seed'].map((name) => settings.get(name));
+    // the program takes a tape or a seed, and not both
+    return { profile, rate, every, ...(seed ? { seed } : { tape: settings.get('tape') }) };
   }
 
   #ended(connection, reason) {

@@ -159,3 +159,13 @@ test('the words of the package lead somewhere', () => {
   for (const place of [made.main, languages[0].configuration, grammars[0].path]) assert.ok(fs.existsSync(path.join(FOLDER, place)));
   JSON.parse(fs.readFileSync(path.join(FOLDER, languages[0].configuration), 'utf8'));
 });
+
+test('the manifest has a setting for each option of the server, and claims no file of other assemblers', () => {
+  const { contributes } = JSON.parse(fs.readFileSync(path.join(FOLDER, 'package.json'), 'utf8'));
+  const server = fs.readFileSync(path.join(TOP, 'frontends/python/chipbench_lsp/server.py'), 'utf8');
+  const names = [.../^OPTIONS = \((.*)\)$/m.exec(server)[1].matchAll(/"(\w+)"/g)].map(([, name]) => name);
+  assert.ok(names.includes('seed') && names.includes('every'), names.join());
+  for (const name of names) assert.ok(`chipbench.${name}` in contributes.configuration.properties, name);
+  assert.deepStrictEqual(contributes.languages[0].extensions, ['.ch8asm']);
+  assert.strictEqual(contributes.commands[0].title, 'Run to Cursor');
+});
