@@ -1,0 +1,27 @@
+-- What `session_answer` and `session_read` do (own).
+use Rattle.std.specs.Prelude.{◌≡◌, ◌⊎◌, ℕ, List, Option, None, MatchOption, take, drop}
+use Rattle.chip_session.specs.Session.{Text}
+use Rattle.chip_session.specs.Transcript.{reply, after}
+use Rattle.chip_web.specs.declared.opened.Opened.{Opened}
+use Rattle.chip_web.specs.declared.status.TheConstants.{DONE, NO_MEMORY, NO_SESSION}
+
+-- a line was carried out: the answer is that of a script, and so is the session after it
+abbrev pub IsCarriedOut : Opened → Text → Opened → Type 0
+IsCarriedOut before line next =
+    (next.answer.items ≡ reply before.bench.session line)
+    × (next.bench.session ≡ after before.bench.session line)
+
+-- by its number: a line was carried out, or memory ran out
+abbrev pub AnswersOpened : ℕ → Opened → Text → Opened → Type 0
+AnswersOpened status before line next =
+    ((status ≡ DONE) × IsCarriedOut before line next) ⊎ (status ≡ NO_MEMORY)
+
+-- without a session nothing is done, and there is none afterwards
+abbrev pub Answers : ℕ → Option Opened → Text → Option Opened → Type 0
+Answers status before line next =
+    MatchOption before ((status ≡ NO_SESSION) × (next ≡ None))
+    (λ opened. MatchOption next ⊥ (AnswersOpened status opened line))
+
+-- the bytes of an answer from a place on, as many as there is room for
+abbrev pub bytes_read : List ℕ → ℕ → ℕ → List ℕ
+bytes_read answer from room = take room (drop from answer)

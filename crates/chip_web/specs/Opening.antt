@@ -1,0 +1,71 @@
+-- The settings that a host asks for, and the numbers by which `session_open` answers (own).
+use Rattle.std.specs.Prelude.{ℕ, ◌+◌, ◌==◌, List, Option, Some, None, unwrap_or, if◌then◌else◌}
+use Rattle.chip_asm.specs.Lines.{open_fault}
+use Rattle.chip_asm.specs.declared.refusal.OpenError.{OpenError}
+use Rattle.chip_asm.specs.declared.refusal.OpenError.TheVariants as unopened
+use Rattle.chip_machine.specs.declared.profile.Profile.{Profile}
+use Rattle.chip_machine.specs.declared.profile.Profile.TheVariants.{Schip, Vip}
+use Rattle.chip_session.specs.Settings.{SessionSettings, settings_fault, spacing_fault}
+use Rattle.chip_session.specs.declared.settings.SetError.{SetError}
+use Rattle.chip_session.specs.declared.settings.SetError.TheVariants as unset
+use Rattle.chip_web.specs.declared.asked.AskedSettings.{AskedSettings}
+use Rattle.chip_web.specs.declared.status.TheConstants.{DONE, NO_MEMORY, RATE_OUT_OF_RANGE, TAPE_LENGTH, SPACING_OUT_OF_RANGE, UNKNOWN_PROFILE, TOO_MANY_LINES, LINE_TOO_LONG}
+
+-- the machine of a number
+abbrev pub profile_numbered : ℕ → Option Profile
+profile_numbered number =
+    if number == 0 then Some Schip else if number == 1 then Some Vip else None
+
+-- the number of why there are no such settings
+abbrev pub settings_status : SetError → ℕ
+settings_status unset.RateOutOfRange = RATE_OUT_OF_RANGE
+settings_status unset.TapeLength = TAPE_LENGTH
+settings_status unset.OutOfMemory = NO_MEMORY
+settings_status unset.SpacingOutOfRange = SPACING_OUT_OF_RANGE
+
+-- the number of why a source doesn't open
+abbrev pub source_status : OpenError → ℕ
+source_status (unopened.LineTooLong line) = LINE_TOO_LONG + line
+source_status unopened.TooManyLines = TOO_MANY_LINES
+source_status unopened.OutOfMemory = NO_MEMORY
+
+abbrev pub spacing_status : Option SetError → ℕ
+spacing_status None = DONE
+spacing_status (Some fault) = settings_status fault
+
+abbrev pub status_of_settings : Option SetError → Option SetError → ℕ
+status_of_settings (Some fault) spacing = settings_status fault
+status_of_settings None spacing = spacing_status spacing
+
+abbrev pub status_of_profile : Option Profile → ℕ → ℕ
+status_of_profile None status = UNKNOWN_PROFILE
+status_of_profile (Some profile) status = status
+
+-- the number of the first fault of what is asked for: of the profile, of rate and tape, of the
+-- spacing
+abbrev pub asked_status : AskedSettings → List ℕ → ℕ
+asked_status asked tape =
+    status_of_profile (profile_numbered asked.profile)
+    (status_of_settings (settings_fault asked.rate tape) (spacing_fault asked.spacing))
+
+-- the settings that are asked for
+abbrev pub asked_settings : AskedSettings → List ℕ → SessionSettings
+asked_settings asked tape =
+    record {
+      rate = asked.rate;
+      tape = tape;
+      profile = unwrap_or (profile_numbered asked.profile) Schip;
+      spacing = asked.spacing;
+    }
+
+abbrev pub status_of_source : Option OpenError → ℕ
+status_of_source None = DONE
+status_of_source (Some fault) = source_status fault
+
+abbrev pub status_after : ℕ → ℕ → ℕ
+status_after status next = if status == DONE then next else status
+
+-- the number of the first fault of settings and source, and that of an open session without one
+abbrev pub open_status : AskedSettings → List ℕ → List ℕ → ℕ
+open_status asked tape source =
+    status_after (asked_status asked tape) (status_of_source (open_fault source))

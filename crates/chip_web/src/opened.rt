@@ -1,0 +1,49 @@
+//! A session that is open.
+ghost use Rattle.std.specs.Prelude.{◌≡◌, ◌⊎◌, None, Some, Ok, IfOk, IfErr, OnOk};
+ghost use Rattle.chip_asm.specs.Lines.{open_fault};
+ghost use Rattle.chip_session.specs.Session.{session_of};
+ghost use Rattle.chip_session.specs.Transcript.{reply, after};
+
+use chip_session::{Bench, OpenError, Settings, respond};
+use std::alloc::{AllocError, Global};
+
+/// A session, and the answer to its last line.
+#[derive(Drop)]
+pub struct Opened {
+    pub bench: Bench,
+    pub answer: Vec<u8>,
+}
+
+impl Opened {
+    /// The session on a source, with no answer yet.
+    ///
+    /// # Errors
+    ///
+    /// The first line that is one too many or too long, or that memory ran out.
+    pub fn open(alloc: Global, source: &[u8], settings: Settings) -> Result<Opened, OpenError>
+        ensures ok { IfOk result (λ opened. (open_fault source.now ≡ None)
+            × (opened.bench.session ≡ session_of settings source.now)) }
+        ensures err { IfErr result (λ e. (e ≡ OpenError.OutOfMemory)
+            ⊎ (open_fault source.now ≡ Some e)) }
+    {
+        Ok(Opened {
+            bench: Bench::open(alloc, source, settings)?,
+            answer: Vec::new(alloc),
+        })
+    }
+
+    /// Carries out one line of a script, and keeps the answer to it.
+    ///
+    /// # Errors
+    ///
+    /// Out of memory; the session is then as after the line, or as before it.
+    pub fn carry_out(&mut self, alloc: Global, line: &[u8]) -> Result<(), AllocError>
+        ensures answer { OnOk result (self.new.answer.items
+            ≡ reply self.old.bench.session line.now) }
+        ensures session { OnOk result (self.new.bench.session
+            ≡ after self.old.bench.session line.now) }
+    {
+        respond(alloc, &mut self.bench, line, &mut self.answer)?;
+        Ok(())
+    }
+}

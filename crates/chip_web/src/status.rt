@@ -1,0 +1,59 @@
+//! The numbers by which the exports answer.
+ghost use Rattle.std.specs.Prelude.{◌≡◌, ◌≢◌};
+ghost use Rattle.chip_web.specs.Opening.{settings_status, source_status};
+ghost use Rattle.chip_web.specs.inner.Bounds.{IsNumbered};
+
+use chip_session::{OpenError, SetError};
+
+/// The session is open, or the line is answered.
+pub const DONE: u32 = 0;
+
+/// Memory ran out.
+pub const NO_MEMORY: u32 = 1;
+
+/// There is no session.
+pub const NO_SESSION: u32 = 2;
+
+/// The rate is out of range.
+pub const RATE_OUT_OF_RANGE: u32 = 3;
+
+/// The tape is too short or too long.
+pub const TAPE_LENGTH: u32 = 4;
+
+/// The spacing of checkpoints is out of range.
+pub const SPACING_OUT_OF_RANGE: u32 = 5;
+
+/// No profile has the number.
+pub const UNKNOWN_PROFILE: u32 = 6;
+
+/// The source has too many lines.
+pub const TOO_MANY_LINES: u32 = 7;
+
+/// A line of the source is too long: its number, from 1 on, is added.
+pub const LINE_TOO_LONG: u32 = 1000;
+
+/// The number of why there are no such settings.
+pub fn of_settings(error: SetError) -> u32
+    ensures status { result ≡ settings_status error }
+    ensures fault { result ≢ DONE }
+{
+    match error {
+        SetError::RateOutOfRange => RATE_OUT_OF_RANGE,
+        SetError::TapeLength => TAPE_LENGTH,
+        SetError::OutOfMemory => NO_MEMORY,
+        SetError::SpacingOutOfRange => SPACING_OUT_OF_RANGE,
+    }
+}
+
+/// The number of why a source doesn't open.
+pub fn of_source(error: OpenError) -> u32
+    requires { IsNumbered error }
+    ensures status { result ≡ source_status error }
+    ensures fault { result ≢ DONE }
+{
+    match error {
+        OpenError::LineTooLong(line) => LINE_TOO_LONG + line as u32,
+        OpenError::TooManyLines => TOO_MANY_LINES,
+        OpenError::OutOfMemory => NO_MEMORY,
+    }
+}
