@@ -1,4 +1,5 @@
-// Requests to the bridge. The address of the page holds its token, and so does each of these.
+// Requests of the page, and what carries them: the bridge, or a carrier of the page's own where it was opened without one.
+// The address of a page that the bridge serves holds its token, and so does each of its requests.
 
 export class BridgeFault extends Error {
   constructor(status, reason) {
@@ -7,8 +8,19 @@ export class BridgeFault extends Error {
   }
 }
 
-/** A request by its name; `status` 0 says that no bridge answered. */
-export async function request(name, body = {}) {
+let carrier = overBridge;
+
+/** Takes another carrier: a function of a request's name and body, which answers as the bridge does. */
+export function carryBy(other) {
+  carrier = other;
+}
+
+/** A request by its name; `status` 0 says that nothing answered. */
+export function request(name, body = {}) {
+  return carrier(name, body);
+}
+
+async function overBridge(name, body) {
   let response;
   try {
     response = await fetch(name, {

@@ -1,0 +1,17 @@
+// A worker of the page: it answers requests on the session or on the program, one after another.
+import { ProgramRequests, SessionRequests } from './requests.mjs';
+
+const KINDS = { session: SessionRequests, program: ProgramRequests };
+let requests = null;
+
+globalThis.onmessage = ({ data }) => {
+  if (data.bytes) {
+    requests = new KINDS[data.kind](new WebAssembly.Module(data.bytes));
+    return;
+  }
+  try {
+    globalThis.postMessage({ number: data.number, reply: requests[data.name](data.body) });
+  } catch (error) {
+    globalThis.postMessage({ number: data.number, refused: { status: error.status ?? 500, text: error.message } });
+  }
+};
