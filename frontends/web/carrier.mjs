@@ -89,9 +89,14 @@ export function carryByWorkers(script, modules) {
     read: ({ name }) => downloads.told(name),
     save: ({ name, text }) => downloads.save(name, text),
   };
+  // The session's module takes a tape, and the program makes one of a seed.
+  const withTape = async ({ seed, ...options }) =>
+    seed === undefined ? options : { ...options, ...(await workers.ask('program', 'tape', { seed })) };
   carryBy(async (name, body) => {
     if (own[name]) return own[name](body);
-    const reply = await workers.ask(OF_SESSION.includes(name) ? 'session' : 'program', name, body);
+    const kind = OF_SESSION.includes(name) ? 'session' : 'program';
+    const sent = name === 'open' ? { ...body, options: await withTape(body.options) } : body;
+    const reply = await workers.ask(kind, name, sent);
     if (reply.unopened === undefined) return reply;
     return { session: reply.session, answers: [], ended: await workers.ask('program', 'unopened', body) };
   });

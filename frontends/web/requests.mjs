@@ -7,7 +7,9 @@ import { findSteps } from './trace_search.mjs';
 
 const MOST_COMMANDS = 25_000;
 const MOST_ANSWERS = 64_000_000;
-const OPTIONS = ['rate', 'tape', 'profile', 'every'];
+const OPTIONS = ['rate', 'tape', 'seed', 'profile', 'every'];
+const TAPE_BYTES = 256;
+const FIRST_REGISTER = 3;
 const WORDS = ['dis', 'explain', 'check', 'trace', 'test'];
 
 // A request that is refused, with the status that the bridge answers it with.
@@ -112,14 +114,25 @@ export class ProgramRequests {
 
   // Why a source doesn't open, as the program says it.
   unopened({ source, options }) {
-    const { status, errors } = this.runOnce(['debug', ...argumentsOf(options), 'source'], new Map([['source', bytesOf(source)]]));
-    return { status, text: errors };
+    const files = new Map([['source', bytesOf(source)]]);
+    const { status, output, errors } = this.runOnce(['debug', ...argumentsOf(options), 'source'], files);
+    return { status, text: (output + errors).trim() };
   }
 
   word({ word, content, code }) {
     if (word === 'explain') return this.runOnce(['explain', code], new Map());
     if (word !== 'dis' && word !== 'check') throw new Refused(400, 'no such word');
     return this.runOnce([word, 'file'], new Map([['file', bytesOf(content)]]));
+  }
+
+  // The tape of a seed, in hexadecimal: what as many random numbers give, one after another.
+  tape({ seed }) {
+    const files = new Map([['source', bytesOf('RND V0, 255\n'.repeat(TAPE_BYTES))]]);
+    const { status, output, errors } = this.runOnce(['trace', 'source', '--seed', seed, '--steps', `${TAPE_BYTES}`], files);
+    if (status !== 0) throw new Refused(400, errors.trim());
+    // the header and the state before the first step have none of them
+    const [, , ...steps] = output.trimEnd().split('\n');
+    return { tape: steps.map((line) => line.split(' ')[FIRST_REGISTER]).join('') };
   }
 
   // Whether the program takes a file of key events: the first line that it refuses, and its code.

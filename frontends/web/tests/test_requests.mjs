@@ -1,0 +1,58 @@
+// The page's requests, answered by the modules without a browser.
+import assert from 'node:assert/strict';
+import { spawnSync } from 'node:child_process';
+import fs from 'node:fs';
+import test from 'node:test';
+import { ProgramRequests, SessionRequests } from '../requests.mjs';
+import { modules } from './modules.mjs';
+
+const { session, program } = modules();
+const skip = session && program ? false : 'the modules are not built';
+const moduleOf = (file) => new WebAssembly.Module(fs.readFileSync(file));
+const native = process.env.CHIPBENCH;
+
+test('a session is opened, asked and opened anew', { skip }, () => {
+  const requests = new SessionRequests(moduleOf(session));
+  const opened = requests.open({ source: 'LD V0, 5\n', options: { rate: '10' }, commands: ['kins 3 1 down'] });
+  assert.deepEqual(opened.answers, ['ok\n']);
+  const asked = requests.ask({ session: opened.session, commands: ['image', 'rep 1 LD V0, 6', 'image', 'foo'] });
+  assert.deepEqual(asked.answers, ['6005\n', 'ok\n', '6006\n', 'no C1\n']);
+  const again = requests.open({ source: 'CLS\n', options: {}, commands: ['image'] });
+  assert.deepEqual(again.answers, ['00e0\n']);
+  assert.throws(() => requests.ask({ session: opened.session, commands: ['image'] }), { status: 409 });
+});
+
+test('a source that does not open is told of as the program does', { skip }, () => {
+  const source = `CLS\n${'x'.repeat(201)}\n`;
+  const { unopened } = new SessionRequests(moduleOf(session)).open({ source, options: {}, commands: [] });
+  assert.equal(unopened, 1002);
+  const { status, text } = new ProgramRequests(moduleOf(program)).unopened({ source, options: {} });
+  assert.equal(status, 1);
+  assert.equal(text, 'no O1');
+});
+
+test('the program answers words, files of key events and searches', { skip }, () => {
+  const requests = new ProgramRequests(moduleOf(program));
+  assert.equal(requests.word({ word: 'dis', content: '\x00\xe0' }).output, 'CLS\n');
+  assert.match(requests.word({ word: 'explain', code: 'F9' }).output, /^F9/);
+  assert.deepEqual(requests.keys({ text: '3 1 down\n' }), { refused: null });
+  assert.deepEqual(requests.keys({ text: '3 1 down\n3 20 down\n' }), { refused: { line: 2, code: 'N6' } });
+  const about = { source: 'L: ADD V0, 1\nJP L\n', keys: '', options: {}, first: 1, last: 101 };
+  assert.deepEqual(requests.search({ ...about, most: 2, isLast: false, where: [['v0', ['05'], false]] }).steps, [9, 10]);
+  const last = requests.search({ ...about, most: 2, isLast: true, where: [['v0', ['05'], true]] });
+  assert.deepEqual(last.steps, [100, 101]);
+  assert.equal(last.end.step, 101);
+  assert.equal(requests.search({ ...about, source: 'LD V0\n', most: 2, isLast: false, where: [['v0', ['05'], false]] }).refused.status, 1);
+});
+
+test('the tape of a seed is that of the program', { skip: skip || (native ? false : 'CHIPBENCH names no program') }, () => {
+  const { tape } = new ProgramRequests(moduleOf(program)).tape({ seed: '7' });
+  assert.equal(tape.length, 512);
+  const requests = new SessionRequests(moduleOf(session));
+  const source = 'L: RND V1, #3f\nRND V2, 255\nJP L\n';
+  fs.writeFileSync(`${process.env.TMPDIR ?? '/tmp'}/chipbench-seed.asm`, source);
+  const words = ['debug', `${process.env.TMPDIR ?? '/tmp'}/chipbench-seed.asm`, '--seed', '7'];
+  const commands = ['regs 1', 'regs 2', 'regs 500', 'regs 5000'];
+  const { stdout } = spawnSync(native, words, { input: `${commands.join('\n')}\n` });
+  assert.equal(requests.open({ source, options: { tape }, commands }).answers.join(''), `${stdout}`);
+});
