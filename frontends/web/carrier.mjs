@@ -49,10 +49,10 @@ class Workers {
   }
 }
 
-// The files that were saved from this page: their texts as they were then.
+// The examples, and the files that were saved from this page: their texts as they were then.
 class Downloads {
-  constructor() {
-    this.files = new Map();
+  constructor(examples) {
+    this.files = new Map(Object.entries(examples));
   }
 
   told(name) {
@@ -76,9 +76,9 @@ class Downloads {
   }
 }
 
-export function carryByWorkers(script, modules) {
+export function carryByWorkers(script, modules, examples) {
   const workers = new Workers(script, modules);
-  const downloads = new Downloads();
+  const downloads = new Downloads(examples);
   const start = [...globalThis.crypto.getRandomValues(new Uint8Array(8))].map((byte) => byte.toString(16).padStart(2, '0')).join('');
   const own = {
     about: async () => ({
