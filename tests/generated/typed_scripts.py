@@ -66,8 +66,8 @@ class Terminal:
         self.shown = b""
 
     def read(self, until):
-        """What is shown up to the end of a text, or within two seconds."""
-        while not self.shown.endswith(until) and select.select([self.ours], [], [], 2)[0]:
+        """What is shown up to the end of a text, or within a minute."""
+        while not self.shown.endswith(until) and select.select([self.ours], [], [], 60)[0]:
             self.shown += os.read(self.ours, 4096)
         found, self.shown = self.shown, b""
         return found
@@ -87,7 +87,7 @@ def typed(program, words, lines):
             os.write(terminal.ours, line.encode() + b"\n")
             said.append(terminal.read(b"> "))
         os.write(terminal.ours, b"\x04")
-        answers, _ = process.communicate(timeout=20)
+        answers, _ = process.communicate(timeout=120)
         said.append(terminal.read(b"\n"))
     finally:
         terminal.close()
@@ -133,7 +133,7 @@ def wrong_silence(program, options, input_typed, errors_shown):
         )
         if input_typed:
             os.write(terminal.ours, b"hlep\n\x04")
-        answers, errors = process.communicate(None if input_typed else b"hlep\n", timeout=20)
+        answers, errors = process.communicate(None if input_typed else b"hlep\n", timeout=120)
         os.write(terminal.its, b".")
         shown = terminal.read(b".")
     finally:

@@ -31,6 +31,8 @@ import page_requests  # noqa: E402
 import trace_search  # noqa: E402
 
 PROVED = TOP / "crates/chipbench/out/chipbench"
+# how long an answer may take on a busy machine
+SECONDS = 120
 
 
 def fake_program(folder: Path) -> str:
@@ -66,7 +68,7 @@ class Running(unittest.TestCase):
         return fake_program(self.folder)
 
     def send(self, method: str, name: str, body: bytes | None = None, **headers: str) -> tuple[int, dict[str, str], bytes]:
-        connection = http.client.HTTPConnection("127.0.0.1", self.server.server_port, timeout=10)
+        connection = http.client.HTTPConnection("127.0.0.1", self.server.server_port, timeout=SECONDS)
         try:
             path = name if name.startswith("/") else f"/{self.server.token}/{name}"
             connection.request(method, path, body, {key.replace("_", "-"): value for key, value in headers.items()})
@@ -184,7 +186,7 @@ class ManyConnections(Running):
     """Connections that are idle or slow shut nobody out, and neither do threads that can't start."""
 
     def connect(self, sent: bytes = b"") -> socket.socket:
-        peer = socket.create_connection(("127.0.0.1", self.server.server_port), timeout=10)
+        peer = socket.create_connection(("127.0.0.1", self.server.server_port), timeout=SECONDS)
         self.addCleanup(peer.close)
         peer.sendall(sent)
         return peer
@@ -199,7 +201,7 @@ class ManyConnections(Running):
 
     def test_strangers_make_room_first(self) -> None:
         """A connection of the page that waits stays, as long as there is one that never showed the token."""
-        page = http.client.HTTPConnection("127.0.0.1", self.server.server_port, timeout=10)
+        page = http.client.HTTPConnection("127.0.0.1", self.server.server_port, timeout=SECONDS)
         self.addCleanup(page.close)
         page.request("GET", f"/{self.server.token}/icon.svg")
         page.getresponse().read()
@@ -646,7 +648,7 @@ def what_is_open(running: "subprocess.Popen[str]") -> dict[str, Any]:
     assert running.stdout is not None
     address = running.stdout.readline().split()[1]
     port, token = re.fullmatch(r"http://127\.0\.0\.1:(\d+)/([\w-]{32})/", address).groups()  # type: ignore[union-attr]
-    connection = http.client.HTTPConnection("127.0.0.1", int(port), timeout=10)
+    connection = http.client.HTTPConnection("127.0.0.1", int(port), timeout=SECONDS)
     connection.request("POST", f"/{token}/about", b"{}", {"Origin": f"http://127.0.0.1:{port}"})
     about = json.loads(connection.getresponse().read())
     connection.close()
@@ -662,7 +664,7 @@ class TheScript(unittest.TestCase):
         self.folder = Path(folder.name)
 
     def run_script(self, *words: str) -> subprocess.CompletedProcess[str]:
-        return subprocess.run([str(TOP / "packaging/chipbench-page"), *words], capture_output=True, text=True, timeout=20)
+        return subprocess.run([str(TOP / "packaging/chipbench-page"), *words], capture_output=True, text=True, timeout=SECONDS)
 
     def test_start_and_end(self) -> None:
         path = self.folder / "game.asm"
@@ -726,11 +728,11 @@ class TheScript(unittest.TestCase):
         build.chmod(0o755)
         words = [sys.executable, "-B", str(FOLDER.parent / "bridge.py"), "--program", fake_program(self.folder), "--build", str(build), "--no-open"]
         for faulty in (("--port", "99999"), ("--seed", "1x"), ("--what",), ("a", "b"), ("--rate",), (str(self.folder),), ("--image", "none.ch8"), ("--image", __file__, "a")):
-            run = subprocess.run([*words, *faulty], capture_output=True, text=True, timeout=20)
+            run = subprocess.run([*words, *faulty], capture_output=True, text=True, timeout=SECONDS)
             self.assertEqual((run.returncode, run.stdout, built.exists()), (2, "", False), faulty)
             self.assertNotIn("Traceback", run.stderr)
             self.assertNotIn("--build", run.stderr)
-        run = subprocess.run(words, capture_output=True, text=True, timeout=20)
+        run = subprocess.run(words, capture_output=True, text=True, timeout=SECONDS)
         self.assertEqual((run.returncode, run.stdout, built.exists()), (7, "", True))
 
     def test_the_token_is_in_no_command_line(self) -> None:
@@ -745,7 +747,7 @@ class TheScript(unittest.TestCase):
         ) as running:  # fmt: skip
             assert running.stdout is not None
             address = running.stdout.readline().split()[1]
-            deadline = time.monotonic() + 10
+            deadline = time.monotonic() + SECONDS
             while not told.exists() and time.monotonic() < deadline:
                 time.sleep(0.02)
             arguments = told.read_text().strip()

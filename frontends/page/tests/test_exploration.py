@@ -29,7 +29,7 @@ class ExplorationTests(unittest.TestCase):
         return exploration
 
     def wait(self, condition: Callable[[], bool]) -> None:
-        deadline = time.monotonic() + 20
+        deadline = time.monotonic() + 120
         while not condition():
             self.assertLess(time.monotonic(), deadline)
             time.sleep(0.01)
