@@ -22,7 +22,7 @@ _chipbench() {
         picture) options="--steps --rate --tape --seed --profile --keys --image --ascii --pbm --png --help" ;;
         check) options="--json --allow --cover --color --profile --help" ;;
         test) options="--update --tap --help" ;;
-        explore) options="--steps --states --deep --want --reach --keys-allowed --keys-to --cover --progress --rate --tape --seed --profile --image --help" ;;
+        explore) options="--steps --states --deep --any-speed --want --reach --keys-allowed --keys-to --cover --progress --rate --tape --seed --profile --image --help" ;;
         explain) options=" --help" ;;
     esac
     case $word in

@@ -36,6 +36,7 @@ complete -c chipbench -n '__fish_seen_subcommand_from test' -l tap -d 'Prints th
 complete -c chipbench -n '__fish_seen_subcommand_from explore' -l steps -x -d 'Searches no further than to this step'
 complete -c chipbench -n '__fish_seen_subcommand_from explore' -l states -x -d 'How many states the search keeps at most'
 complete -c chipbench -n '__fish_seen_subcommand_from explore' -l deep -d 'Where it keeps that many'
+complete -c chipbench -n '__fish_seen_subcommand_from explore' -l any-speed -d 'Looks first for `never at any speed`'
 complete -c chipbench -n '__fish_seen_subcommand_from explore' -l want -x -d 'The stop causes that are looked for'
 complete -c chipbench -n '__fish_seen_subcommand_from explore' -l reach -x -d 'Also looks for a step at this label of the source'
 complete -c chipbench -n '__fish_seen_subcommand_from explore' -l keys-allowed -x -d 'The keys that a player has'

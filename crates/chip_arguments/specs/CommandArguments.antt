@@ -195,6 +195,7 @@ pub record AsksExplore (rows : List Row) (arguments : ExploreArguments) : Type 0
   pub allowed_keys : option_copied arguments.allowed_keys ≡ first_of (codes "keys-allowed") rows
   pub keys_to : option_copied arguments.keys_to ≡ first_of (codes "keys-to") rows
   pub is_deep : AsksFlag (one_of (codes "deep") rows) arguments.is_deep
+  pub is_any_speed : AsksFlag (one_of (codes "any-speed") rows) arguments.is_any_speed
   pub is_covering : AsksFlag (one_of (codes "cover") rows) arguments.is_covering
   pub is_progress_shown : AsksFlag (one_of (codes "progress") rows) arguments.is_progress_shown
   pub settings : AsksSettings rows arguments.settings

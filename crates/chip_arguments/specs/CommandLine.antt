@@ -222,6 +222,13 @@ reach = record (new_rule (codes "reach")) { long = Some (codes "reach"); value_n
 unfoldable pub deep : Rule
 deep = record (new_rule (codes "deep")) { long = Some (codes "deep"); action = Some SetTrue }
 
+-- a search that looks for an answer at any speed
+unfoldable pub any_speed : Rule
+any_speed = record (new_rule (codes "any-speed")) {
+  long = Some (codes "any-speed");
+  action = Some SetTrue;
+}
+
 unfoldable pub progress : Rule
 progress = record (new_rule (codes "progress")) {
   long = Some (codes "progress");
@@ -232,8 +239,8 @@ progress = record (new_rule (codes "progress")) {
 unfoldable pub with_search : App → App
 with_search app =
     with_rule (with_rule (with_rule (with_rule (with_rule (with_rule (with_rule (with_rule (with_rule
-    (with_rule app needed_source) search_steps) states) deep) want) reach) allowed_keys) keys_to) cover)
-    progress
+    (with_rule (with_rule app needed_source) search_steps) states) deep) any_speed) want) reach)
+    allowed_keys) keys_to) cover) progress
 
 unfoldable pub explore : App
 explore = with_rule (with_settings (with_search (new_app (codes "explore")))) as_image

@@ -49,6 +49,7 @@ pub(crate) enum Argument {
     SearchSteps,
     States,
     Deep,
+    AnySpeed,
     Want,
     AllowedKeys,
     KeysTo,
@@ -96,6 +97,7 @@ impl Argument {
             Argument::SearchSteps => search_steps_argument(alloc),
             Argument::States => states_argument(alloc),
             Argument::Deep => deep_argument(alloc),
+            Argument::AnySpeed => any_speed_argument(alloc),
             Argument::Want => want_argument(alloc),
             Argument::AllowedKeys => allowed_keys_argument(alloc),
             Argument::KeysTo => keys_to_argument(alloc),
@@ -405,6 +407,18 @@ fn deep_argument<'a>(alloc: Global) -> Arg<'a>
         alloc,
         "deep",
         "Where it keeps that many, searches once more, the deepest states first: the script needn't be a shortest one",
+    )
+}
+
+#[tactic(auto, unfolding(crate::specs::CommandLine::any_speed))]
+fn any_speed_argument<'a>(alloc: Global) -> Arg<'a>
+    ensures rule { rule_of result ≡ line.any_speed }
+    ensures local { result.global ≡ false }
+{
+    flag(
+        alloc,
+        "any-speed",
+        "Looks first for `never at any speed`, whenever the timers tick, and only then at the rate",
     )
 }
 

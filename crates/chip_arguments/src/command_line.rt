@@ -178,6 +178,8 @@ pub struct ExploreArguments<'a> {
     pub states: u32,
     /// Whether a search of the deepest states first follows where it keeps that many.
     pub is_deep: bool,
+    /// Whether it is told where the answer is `never` at any speed, for which all states serve.
+    pub is_any_speed: bool,
     /// The stop causes that are looked for, with commas between them.
     pub causes: Option<&'a str>,
     /// The place that is looked for: a name of the source, or an address after `#`.
@@ -592,6 +594,7 @@ fn explore_arguments<'a>(found: &ArgMatches<'a>, profile: Profile) -> ExploreArg
         steps: number(found.get_str("steps")),
         states: number(found.get_str("states")).unwrap_or(USUAL_STATES),
         is_deep: found.get_flag("deep"),
+        is_any_speed: found.get_flag("any-speed"),
         causes: found.get_str("want"),
         place: found.get_str("reach"),
         allowed_keys: found.get_str("keys-allowed"),

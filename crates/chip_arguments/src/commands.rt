@@ -71,10 +71,12 @@ Answers `found`, `within` or `never`, each with what it rests on:
                        up to step M
   within N             no key script makes it stop for a wanted cause, or reach the place, at a step up to N
   never                no key script does at any step below 2^64 - 1
+  never at any speed   with --any-speed alone: nor at any rate, nor whenever else the timers tick
 Then a line `Sj T` for each other cause that was met, with the least step that was, and `states N`.
 With --cover the listing follows, with `+ ` before each line at whose address some script makes a step:
 a line of code without it is executed under no key script, up to the step that is printed, or ever.
-A key script is any choice of the allowed keys at each step. Tape, rate and profile are fixed.
+A key script is any choice of the allowed keys at each step. Tape and profile are fixed, and so is the
+rate, but for the answer `never at any speed`.
 Status: 0 for `within` and `never`, 1 for a script that was found or a source with faults, 4 where memory
 ran out: what was covered until then is printed.
 
@@ -211,6 +213,7 @@ const COMMANDS: [CommandRow; 12] = [
             Argument::SearchSteps,
             Argument::States,
             Argument::Deep,
+            Argument::AnySpeed,
             Argument::Want,
             Argument::Reach,
             Argument::AllowedKeys,

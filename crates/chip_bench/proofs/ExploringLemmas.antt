@@ -6,6 +6,7 @@ use Rattle.chip_arguments.specs.declared.command_line.ExploreArguments.{ExploreA
 use Rattle.chip_asm.specs.Lines.{lines_of, open_fault}
 use Rattle.chip_asm.specs.Program.{image_of, symbols_of}
 use Rattle.chip_explore.specs.Answers.{Answers, AreExecuted}
+use Rattle.chip_explore.specs.Speeds.{NeverAtAnySpeed}
 use Rattle.chip_explore.specs.declared.question.Explored.{Explored}
 use Rattle.chip_explore.specs.declared.question.Outcome.{Outcome as SearchOutcome}
 use Rattle.chip_explore.specs.declared.question.Outcome.TheVariants.{Found, Later, Within, Never}
@@ -15,7 +16,7 @@ use Rattle.chip_machine.specs.State.{State}
 use Rattle.chip_session.specs.Settings.{SessionSettings}
 use Rattle.chip_session.specs.Tally.{Tally}
 use Rattle.chip_bench.specs.Doing.{Declined, Explores, Fails, FromGiven, IfSets, IfSettled, IsBadPlace, IsBadSet, IsShort, Outcome, Searches, SearchesFor, SearchesFrom, WithSets, image_in}
-use Rattle.chip_bench.specs.Exploring.{AsksCauses, AsksKeys, covering_text, first_lines, search_ending, target_asked}
+use Rattle.chip_bench.specs.Exploring.{AsksCauses, AsksKeys, answer_lines, covering_text, search_ending, target_asked}
 use Rattle.chip_bench.specs.Printing.{Prints, printed, printed_faults}
 use Rattle.chip_bench.specs.SettingArguments.{settings_asked}
 use Rattle.chip_bench.specs.declared.ending.Ending.{Ending}
@@ -44,11 +45,12 @@ module _ {W : Type 0} (contents : W → Option (List ℕ)) (out_old out_new : Ta
   pub search_printed : (arguments : ExploreArguments) (lines : List (List ℕ)) (rate keys : ℕ) (target : Target) (start : State) (explored : Explored)
       (text others : List ℕ) (ending : Ending) (ended : Outcome) → Answers rate keys target start explored.outcome →
       AreExecuted rate keys explored.executed start explored.outcome →
-      text ≡ first_lines explored.outcome ++ others ++ covering_text arguments.is_covering explored.executed lines →
+      (explored.is_at_any_speed ≡ true → NeverAtAnySpeed keys target start) →
+      text ≡ answer_lines arguments.is_any_speed explored ++ others ++ covering_text arguments.is_covering explored.executed lines →
       ending ≡ search_ending explored.outcome explored.is_short → Prints contents out_old out_new (printed text ending) ended →
       SearchesFrom contents out_old out_new arguments lines rate keys target start ended
-  search_printed arguments lines rate keys target start explored text others ending ended answers executed is end prints =
-      inl (explored, answers, executed, inl (printed text ending, record { others = others; text = is; ending = end }, prints))
+  search_printed arguments lines rate keys target start explored text others ending ended answers executed speed is end prints =
+      inl (explored, answers, executed, speed, inl (printed text ending, record { others = others; text = is; ending = end }, prints))
 
   module _ (arguments : ExploreArguments) (settings : SessionSettings) (causes keys : ℕ) (source : List ℕ) (ended : Outcome) where
     abbrev Searched : Option (List ℕ) → Type 0

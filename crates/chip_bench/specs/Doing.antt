@@ -50,6 +50,7 @@ use Rattle.chip_session.specs.Tally.{Tally, failures_after_flush}
 use Rattle.chip_bench.specs.Testing.{Tests}
 use Rattle.chip_bench.specs.Exploring.{AsksCauses, AsksKeys, AsksSet, IsSearchPrinted, target_asked, warning_named}
 use Rattle.chip_explore.specs.Answers.{Answers, AreExecuted}
+use Rattle.chip_explore.specs.Speeds.{NeverAtAnySpeed}
 use Rattle.chip_explore.specs.declared.question.Explored.{Explored}
 use Rattle.chip_explore.specs.declared.target.Target.{Target}
 use Rattle.chip_machine.specs.Start.{start_of}
@@ -350,14 +351,15 @@ module _ {W : Type 0} (contents : W → Option (List ℕ)) (out_old out_new : Ta
       × TracesBeside arguments settings keys source name (lines bytes) ended)
       ⊎ Fails (IsUnreadWithin TRACE_FILE_BYTES name) ended
 
-  -- what a search over all key scripts of a machine answers is printed, and where it is asked for
-  -- the listing of these lines with what is executed
+  -- what a search over all key scripts of a machine answers is printed, also of all speeds of the
+  -- timers, and where it is asked for the listing of these lines with what is executed
   abbrev pub SearchesFrom : ExploreArguments → (lines : List (List ℕ)) → (rate keys : ℕ) → Target
       → State → Outcome → Type 0
   SearchesFrom arguments lines rate keys target start ended =
       ((explored : Explored) × Answers rate keys target start explored.outcome
       × AreExecuted rate keys explored.executed start explored.outcome
-      × PrintsSuch contents out_old out_new (IsSearchPrinted arguments.is_covering lines explored) ended)
+      × (explored.is_at_any_speed ≡ true → NeverAtAnySpeed keys target start)
+      × PrintsSuch contents out_old out_new (IsSearchPrinted arguments lines explored) ended)
       ⊎ Fails (IsScriptUnwritten arguments.keys_to) ended
 
   -- if the source has the place that is looked for

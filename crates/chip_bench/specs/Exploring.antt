@@ -5,6 +5,7 @@
 --     AsksSet, AsksCauses, AsksKeys          the set that an argument asks for
 --     address_of, target_asked               the address of a place, and what a search looks for
 --     first_lines             what is printed first of what a search found
+--     answer_lines            the same where an answer at any speed may be asked for
 --     IsSearchPrinted         the same, with more below it, and how the program ends
 use Rattle.std.specs.Prelude.{◌≡◌, ℕ, ℤ, pos, ◌+◌, ◌-◌, ◌^◌, ◌&&◌, Bool, List, [], ◌∷◌, ◌++◌, codes, fold, length, map, nat_le, nat_lt, bit_or, Option, Some, None, option_copied, option_map, if◌then◌else◌}
 use Rattle.std.specs.Fmt.{decimal}
@@ -159,6 +160,12 @@ first_lines (Later events step met covered) =
 first_lines (Within step) = number_line (codes "within ") step
 first_lines Never = codes "never\n"
 
+-- with `--any-speed`, whether it is so whenever the timers tick
+abbrev pub answer_lines : (is_any_speed : Bool) → Explored → List ℕ
+answer_lines is_any_speed explored =
+    if is_any_speed && explored.is_at_any_speed then codes "never at any speed\n"
+    else first_lines explored.outcome
+
 -- a script that was found ends the program as a fault of the source does
 abbrev pub search_ending : Outcome → (is_short : Bool) → Ending
 search_ending (Found events step met) is_short = Faulty
@@ -172,10 +179,10 @@ covering_text is_covering executed lines =
 
 -- What is printed of what a search found: those lines, others of which no contract speaks (the
 -- other causes that it met, and how many states it kept), and the listing.
-pub record IsSearchPrinted (is_covering : Bool) (lines : List (List ℕ)) (explored : Explored)
-    (wanted : Printed) : Type 0 where
+pub record IsSearchPrinted (arguments : ExploreArguments) (lines : List (List ℕ))
+    (explored : Explored) (wanted : Printed) : Type 0 where
   pub others : List ℕ
   pub text : wanted.text
-      ≡ first_lines explored.outcome ++ others
-      ++ covering_text is_covering explored.executed lines
+      ≡ answer_lines arguments.is_any_speed explored ++ others
+      ++ covering_text arguments.is_covering explored.executed lines
   pub ending : wanted.ending ≡ search_ending explored.outcome explored.is_short

@@ -9,7 +9,7 @@ use crate::exploring::machine_of;
 use crate::sets::ALL_KEYS;
 use chip_arguments::{SettingArguments, USUAL_STATES};
 use chip_explore::{
-    Bounds, Causes, END, Executed, Explored, Outcome, Question, Target, Watcher, explore,
+    Bounds, Causes, END, Executed, Explored, Outcome, Question, Target, Ticks, Watcher, explore,
 };
 use chip_machine::Profile;
 use chip_warnings::Coverage;
@@ -51,6 +51,7 @@ impl Covered {
             steps: END,
             states: USUAL_STATES as usize,
             is_deep: false,
+            ticks: Ticks::AtRate,
         };
         Covered::seen_by(explore(alloc, &start, &question, &bounds, watcher))
     }

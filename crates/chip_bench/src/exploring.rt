@@ -5,7 +5,7 @@ ghost use Rattle.chip_machine.specs.Start.{start_of};
 ghost use Rattle.chip_bench.specs.Doing.{Explores, Fails, IsBadPlace, IsScriptUnwritten, IsShort, Searches, SearchesFrom, image_in};
 ghost use Rattle.chip_bench.specs.inner.Written.{IsNamedWritten, IsScriptWritten};
 ghost use Rattle.chip_bench.specs.Printing.{Prints, printed_faults};
-ghost use Rattle.chip_bench.specs.Exploring.{address_of, cause_word, covering_text, first_lines, in_memory, met_word, number_line, search_ending, target_asked};
+ghost use Rattle.chip_bench.specs.Exploring.{address_of, answer_lines, cause_word, covering_text, first_lines, in_memory, met_word, number_line, search_ending, target_asked};
 
 use crate::ending::{Ending, Failure};
 use crate::entry::write_image;
@@ -18,7 +18,7 @@ use chip_arguments::ExploreArguments;
 use chip_asm::Source;
 use chip_cover::marked_listing;
 use chip_explore::{
-    Bounds, Causes, END, Explored, KeyEvent, Met, Outcome, Question, STOPS, Target, Watcher,
+    Bounds, Causes, END, Explored, KeyEvent, Met, Outcome, Question, STOPS, Target, Ticks, Watcher,
 };
 use chip_machine::limits::MEMORY_BYTES;
 use chip_machine::{Machine, Profile, Stop};
@@ -204,11 +204,30 @@ fn search<'a, F: FileAccess, O: Write, W: Watcher>(
         },
         states: arguments.states as usize,
         is_deep: arguments.is_deep,
+        ticks: ticks_of(arguments),
     };
     let explored = chip_explore::explore(alloc, start, question, &bounds, watcher);
-    let text = search_text(alloc, arguments.is_covering, source, &explored)?;
+    let text = search_text(
+        alloc,
+        arguments.is_covering,
+        arguments.is_any_speed,
+        source,
+        &explored,
+    )?;
     write_script(alloc, files, arguments, &explored.outcome)?;
     print(&text, search_ending(&explored), output)
+}
+
+// How a search takes the ticks. Where the listing is asked for they are at the rate alone, so that
+// what is marked is executed at the rate.
+fn ticks_of(arguments: &ExploreArguments<'_>) -> Ticks {
+    if arguments.is_covering {
+        Ticks::AtRate
+    } else if arguments.is_any_speed {
+        Ticks::FreeWithAll
+    } else {
+        Ticks::Free
+    }
 }
 
 // Writes the key events of the script that was found, where there is a file for them.
@@ -248,15 +267,16 @@ fn script_text(alloc: Global, events: &[KeyEvent]) -> Result<Vec<u8>, AllocError
 fn search_text(
     alloc: Global,
     is_covering: bool,
+    is_any_speed: bool,
     source: &Source,
     explored: &Explored,
 ) -> Result<Vec<u8>, AllocError>
     ensures { IfOk result (λ text. (others : List ℕ) × (text.items
-        ≡ first_lines explored.now.outcome ++ others
+        ≡ answer_lines is_any_speed explored.now ++ others
         ++ covering_text is_covering explored.now.executed source.now.lines)) }
 {
     let mut text = Vec::new(alloc);
-    push_first_lines(&mut text, &explored.outcome)?;
+    push_answer(&mut text, is_any_speed, explored)?;
     text.extend_from_slice(&lines_below(alloc, explored)?)?;
     if is_covering {
         let listing = source.listing(alloc)?;
@@ -273,6 +293,22 @@ fn search_ending(explored: &Explored) -> Ending
         Outcome::Found { .. } | Outcome::Later { .. } => Ending::Faulty,
         Outcome::Within(_) | Outcome::Never if explored.is_short => Ending::Short,
         Outcome::Within(_) | Outcome::Never => Ending::Done,
+    }
+}
+
+// What is printed first of what a search found, where an answer at any speed may be asked for.
+fn push_answer(
+    text: &mut Vec<u8>,
+    is_any_speed: bool,
+    explored: &Explored,
+) -> Result<(), AllocError>
+    ensures { OnOk result (text.new.items
+        ≡ text.old.items ++ answer_lines is_any_speed explored.now) }
+{
+    if is_any_speed && explored.is_at_any_speed {
+        text.extend_from_slice(b"never at any speed\n")
+    } else {
+        push_first_lines(text, &explored.outcome)
     }
 }
 

@@ -1,10 +1,13 @@
 -- States that are alike in all but what is forgotten.
-use Rattle.std.proofs.Common.{◌≡◌, ◌==◌, ℕ, Bool, true, false, is_some, List, length, ap, sym, ◌∙◌, refl}
+use Rattle.std.proofs.Common.{◌≡◌, ◌==◌, ℕ, ◌≤◌, Bool, true, false, is_some, List, length, ap, sym, ◌∙◌, refl, arith}
 use Rattle.std.proofs.lemmas.Nat.Bits.{bit_at-zero}
 use Rattle.chip_machine.specs.Forgotten.{has_part, register_part, index_part, screen_part}
 use Rattle.chip_machine.specs.Relevant.{Alike}
 use Rattle.chip_machine.specs.State.{Core, State, IsProper}
+use Rattle.chip_explore.specs.declared.setting.Setting.{Setting}
 use Rattle.chip_explore.specs.inner.Cover.{AreWithin}
+use Rattle.chip_explore.specs.inner.Delays.{AlikeTicks, with_delay}
+use Rattle.chip_explore.proofs.Delays.{alike_delayed}
 
 unless : (b c : Bool) → (b ≡ true → c ≡ true) → c ≡ false → b ≡ false
 unless true c h none = let up : c ≡ true = h refl in absurd (cc)
@@ -70,3 +73,20 @@ module _ (f : ℕ) (a b : State) (h : Alike f a b) where
         index = λ going known. h.index going known ∙ k.index (sym same_stop ∙ going) known;
         screen = λ going known. h.screen going known ∙ k.screen (sym same_stop ∙ going) known;
       }
+
+-- the same where the delay timer of the first may be a bound
+pub ticks_same : (p : Setting) (s : State) → IsProper s → AlikeTicks p 0 s s
+ticks_same p s proper = record { delay = s.core.delay; most = omega arith; exact = λ _. refl; alike = alike_same s proper }
+
+pub through_member : (p : Setting) (f g : ℕ) (m a b : State) → AreWithin f g → Alike g m a → AlikeTicks p f a b → AlikeTicks p g m b
+through_member p f g m a b within joined near =
+    let same : m.core.delay ≡ a.core.delay = ap (λ (c : Core). c.delay) joined.others in
+    let most = near.most in
+    record {
+      delay = near.delay;
+      most = omega arith;
+      exact = λ at_rate. near.exact at_rate ∙ sym same;
+      alike =
+          alike_through g (with_delay near.delay m) (with_delay near.delay a) (alike_delayed g near.delay m a joined) b
+          (alike_within f (with_delay near.delay a) b near.alike g within);
+    }

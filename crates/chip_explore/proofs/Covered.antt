@@ -1,21 +1,25 @@
 -- What is safe from the start on, and from each state that was taken up: no key script meets the
 -- target in it, or makes a step at an address that isn't noted.
-use Rattle.std.proofs.Common.{◌≡◌, ℕ, zero, suc, ◌+◌, ◌-◌, ◌*◌, ◌/◌, ◌%◌, ◌^◌, ◌<◌, ◌≤◌, ◌==◌, ◌⊎◌, ◌||◌, Bool, true, false, None, length, slice_index, is_some, refl, sym, ap, subst, ◌∙◌, inl, inr, ⊎_elim, if◌then◌else◌, arith, add-one}
+use Rattle.std.proofs.Common.{◌≡◌, ℕ, zero, suc, ◌+◌, ◌-◌, ◌*◌, ◌/◌, ◌%◌, ◌^◌, ◌<◌, ◌≤◌, ◌==◌, ◌⊎◌, ◌||◌, ◌&&◌, not, Bool, true, false, Option, Some, None, length, slice_index, is_some, refl, sym, ap, subst, ◌∙◌, inl, inr, ⊎_elim, if◌then◌else◌, arith, add-one}
 use Rattle.std.proofs.Math.Nat.{mod-add-div', add-mul-mod_self_right}
+use Rattle.std.proofs.lemmas.Bool.{eqb-true}
 use Rattle.std.proofs.lemmas.Nat.Bits.{bit_at-zero}
 use Rattle.chip_machine.specs.Block.{ticks}
 use Rattle.chip_machine.specs.Choices.{IsChoice, IsWithin, Represents}
 use Rattle.chip_machine.specs.Forgotten.{IsUnread, IsForgottenAfter}
-use Rattle.chip_machine.specs.Relevant.{Alike, AlikeSteps, DrawsGrow, QuietTick}
+use Rattle.chip_machine.specs.Relevant.{Alike, AlikeSteps, DrawsGrow}
 use Rattle.chip_machine.specs.State.{Core, State, IsProper}
-use Rattle.chip_machine.specs.Step.{effect_at, is_key_down, perform, settle, step_of}
+use Rattle.chip_machine.specs.Step.{effect_at, is_key_down, next, perform, settle, step_of, with_reg}
 use Rattle.chip_replay.specs.Run.{run}
 use Rattle.chip_explore.specs.Executed.{StaysAmong, is_among, is_at_one}
 use Rattle.chip_explore.specs.Scripts.{Avoids, IsScript}
+use Rattle.chip_explore.specs.Speeds.{AvoidsAtAnySpeed, run_ticking}
 use Rattle.chip_explore.specs.Target.{met_by, met_in}
-use Rattle.chip_explore.proofs.Alike.{all_within, alike_same, alike_turned, alike_through, alike_within, same_stop}
+use Rattle.chip_explore.proofs.Alike.{alike_same, alike_through, alike_within, same_stop, through_member, ticks_same}
+use Rattle.chip_explore.proofs.Delays.{Delayed, alike_silent, delayed_step, read_step, ticked_step, timed_reads, within_bound, with_timers}
 use Rattle.chip_explore.specs.declared.setting.Setting.{Setting}
-use Rattle.chip_explore.specs.inner.Cover.{phase, tick_at, View, IsFine, forgotten_at, Joins, SafeFor, Safe, GoesTo, IsTaken}
+use Rattle.chip_explore.specs.inner.Cover.{phase, tick_at, View, IsFine, forgotten_at, Joins, SafeFor, Safe, GoesBy, GoesTo, IsTaken}
+use Rattle.chip_explore.specs.inner.Delays.{AlikeTicks, bound_after, delay_register, read_as, timed_register, with_delay}
 
 -- no choice of no keys has a key
 no_choice : (one : ℕ) → IsChoice 0 one → one ≡ 0
@@ -53,27 +57,76 @@ phase_by : (free : Bool) (rate u t : ℕ) → (if free then 0 else u % rate) ≡
 phase_by true rate u t h = refl
 phase_by false rate u t h = rest_more rate u t h
 
-module _ (alike : AlikeSteps) (grow : DrawsGrow) (quiet : QuietTick) where
-  -- the same step of two states, with the ticks as the search takes them in the first
-  module _ (f after : ℕ) (a s : State) (keys : ℕ) (same : Alike f a s) (unread : IsUnread f a) (low_a : a.core.draws < 2 ^ 64 - 1) (low_s : s.core.draws < 2 ^ 64 - 1) where
-    untimed : (tick : Bool) → IsForgottenAfter f a (step_of a keys false).core.pc after → (step_of a keys false).core.delay ≡ 0 → Alike after (step_of a keys false) (step_of s keys tick)
-    untimed true is_after calm =
-        let still = quiet a keys same.proper calm in
-        let there : (step_of a keys false).core.pc ≡ (step_of a keys true).core.pc = sym (ap (λ (c : Core). c.pc) still.others) in
-        let made = alike f after a s keys true same unread (subst (λ (pc : ℕ). IsForgottenAfter f a pc after) there is_after) low_a low_s in
-        alike_through after (step_of a keys false) (step_of a keys true) (alike_within 0 _ _ (alike_turned 0 _ _ still) after (all_within after)) _ made
-    untimed false is_after calm = alike f after a s keys false same unread is_after low_a low_s
+-- the ticks of a run at the rate are those of the run in which they are so
+pub ticking_run : (rate : ℕ) (held : ℕ → ℕ) (start : State) (t : ℕ) → run step_of rate held start t ≡ run_ticking (ticks rate) held start t
+ticking_run rate held start zero = refl
+ticking_run rate held start (suc t) = ap (λ (s : State). step_of s (held t) (ticks rate t)) (ticking_run rate held start t)
 
-    timed : (ours tick : Bool) → ours ≡ tick → IsForgottenAfter f a (step_of a keys ours).core.pc after → Alike after (step_of a keys ours) (step_of s keys tick)
-    timed ours tick is is_after = subst (λ (t : Bool). Alike after (step_of a keys ours) (step_of s keys t)) is (alike f after a s keys ours same unread is_after low_a low_s)
+module _ (alike : AlikeSteps) (grow : DrawsGrow) where
+  -- the same step of two states, of which the first is one of a search
+  module _ (p : Setting) (f after : ℕ) (a s : State) (keys : ℕ) (tick : Bool) (unread : IsUnread f a) (low_a : a.core.draws < 2 ^ 64 - 1) (low_s : s.core.draws < 2 ^ 64 - 1) where
+    -- where the search has the timers tick as the run does
+    rated : p.free ≡ false → (ours : Bool) → ours ≡ tick → AlikeTicks p f a s → IsForgottenAfter f a (step_of a keys ours).core.pc after
+        → AlikeTicks p after (step_of a keys ours) (step_of s keys tick)
+    rated at_rate ours is near is_after =
+        let same : Alike f a s = subst (λ (d : ℕ). Alike f (with_delay d a) s) (near.exact at_rate) near.alike in
+        record {
+          delay = (step_of a keys ours).core.delay;
+          most = omega arith;
+          exact = λ _. refl;
+          alike = subst (λ (t : Bool). Alike after (step_of a keys ours) (step_of s keys t)) is (alike f after a s keys ours same unread is_after low_a low_s);
+        }
 
-    meets : (free : Bool) (rate t u : ℕ) → (if free then 0 else u % rate) ≡ (if free then 0 else t % rate)
-        → IsForgottenAfter f a (step_of a keys (if free then false else ticks rate u)).core.pc after
-        → (free ≡ true → (step_of a keys (if free then false else ticks rate u)).core.delay ≡ 0)
-        → Alike after (step_of a keys (if free then false else ticks rate u)) (step_of s keys (ticks rate t))
-    meets true rate t u phased is_after calm = untimed (ticks rate t) is_after (calm refl)
-    meets false rate t u phased is_after calm =
-        timed (ticks rate u) (ticks rate t) (ap (λ (rest : ℕ). rest == 0) (rest_more rate u t phased)) is_after
+    -- where it has free ticks: after a step without a tick, of the state with the delay timer of the run
+    slowed : p.free ≡ true → (d : ℕ) → Alike f (with_delay d a) s → (next : State) → Delayed next (step_of (with_delay d a) keys false)
+        → IsForgottenAfter f a next.core.pc after → AlikeTicks p after next (step_of s keys tick)
+    slowed free d same next delayed is_after =
+        let t = ticked_step (with_delay d a) keys tick in
+        let least = delayed.most in
+        let less : t.delay ≤ (step_of (with_delay d a) keys false).core.delay = t.most in
+        let now : (step_of (with_delay d a) keys false).core.delay ≡ delayed.delay = ap (λ (b : State). b.core.delay) delayed.is in
+        let whole : step_of (with_delay d a) keys tick ≡ with_timers t.delay t.sound next = t.is ∙ ap (with_timers t.delay t.sound) delayed.is in
+        let there : next.core.pc ≡ (step_of (with_delay d a) keys tick).core.pc = sym (ap (λ (b : State). b.core.pc) whole) in
+        let made : Alike after (step_of (with_delay d a) keys tick) (step_of s keys tick) =
+        alike f after (with_delay d a) s keys tick same unread (subst (λ (pc : ℕ). IsForgottenAfter f a pc after) there is_after) low_a low_s in
+        record {
+          delay = t.delay;
+          most = omega arith;
+          exact = λ at_rate. absurd (cc);
+          alike = alike_silent after t.delay t.sound next _ (subst (λ (b : State). Alike after b (step_of s keys tick)) whole made);
+        }
+
+    -- a step that tells no values of the delay timer apart
+    untimed : (free : Bool) → p.free ≡ free → (at_zero : Bool) → (a.core.delay == 0) ≡ at_zero → (if free && not at_zero then delay_register a else None) ≡ None
+        → (ours : Bool) → ours ≡ (if free then false else tick) → AlikeTicks p f a s → IsForgottenAfter f a (step_of a keys ours).core.pc after
+        → AlikeTicks p after (step_of a keys ours) (step_of s keys tick)
+    untimed false is at_zero zero_is u ours same near is_after = rated is ours same near is_after
+    untimed true is true zero_is u ours same near is_after =
+        let bound : a.core.delay ≡ 0 = eqb-true a.core.delay 0 zero_is in
+        let most = near.most in
+        let d : near.delay ≡ a.core.delay = omega arith in
+        subst (λ (t : Bool). AlikeTicks p after (step_of a keys t) (step_of s keys tick)) (sym same)
+        (slowed is a.core.delay (subst (λ (d : ℕ). Alike f (with_delay d a) s) d near.alike) (step_of a keys false)
+        (record { delay = (step_of a keys false).core.delay; most = omega arith; is = refl })
+        (subst (λ (t : Bool). IsForgottenAfter f a (step_of a keys t).core.pc after) same is_after))
+    untimed true is false zero_is u ours same near is_after =
+        subst (λ (t : Bool). AlikeTicks p after (step_of a keys t) (step_of s keys tick)) (sym same)
+        (slowed is near.delay near.alike (step_of a keys false) (delayed_step a near.delay near.most keys u)
+        (subst (λ (t : Bool). IsForgottenAfter f a (step_of a keys t).core.pc after) same is_after))
+
+    -- a step that does
+    timed : p.free ≡ true → (x : ℕ) → delay_register a ≡ Some x → (near : AlikeTicks p f a s) → IsForgottenAfter f a (read_as near.delay a).core.pc after
+        → AlikeTicks p after (read_as near.delay a) (step_of s keys tick)
+    timed free x reads near is_after =
+        let d = near.delay in
+        let bare : State = record a { core = next (with_reg x d (record a.core { delay = d })) } in
+        let ours : step_of (with_delay d a) 0 false ≡ bare = read_step (with_delay d a) x 0 reads in
+        let theirs : step_of (with_delay d a) keys false ≡ bare = read_step (with_delay d a) x keys reads in
+        let same : read_as d a ≡ with_delay (bound_after d a.core.delay) bare = ap (with_delay (bound_after d a.core.delay)) ours in
+        subst (λ (b : State). AlikeTicks p after b (step_of s keys tick)) (sym same)
+        (slowed free d near.alike (with_delay (bound_after d a.core.delay) bare)
+        (record { delay = d; most = within_bound d a.core.delay near.most; is = theirs })
+        (subst (λ (b : State). IsForgottenAfter f a b.core.pc after) same is_after))
 
   module _ (p : Setting) (v : View) where
     fine_of : (moves f : ℕ) (a : State) (u : ℕ) → SafeFor p v moves f a u → u < v.limit → IsFine p v.executed a
@@ -89,36 +142,60 @@ module _ (alike : AlikeSteps) (grow : DrawsGrow) (quiet : QuietTick) where
       forgotten : ℕ
       early : at ≤ t
       phased : phase p at ≡ phase p t
-      same : Alike forgotten state s
+      same : AlikeTicks p forgotten state s
       safe : SafeFor p v moves forgotten state at
 
-    module _ (n : ℕ) (within_limit : n < v.limit) (taken : (j : ℕ) → j < length v.steps → slice_index v.steps j < n → IsTaken p v j) where
+    -- the timers of the run tick so: where the ticks aren't free, at the rate
+    module _ (ticking : ℕ → Bool) (at_rate : p.free ≡ false → (t : ℕ) → ticking t ≡ ticks p.rate t)
+        (n : ℕ) (within_limit : n < v.limit) (taken : (j : ℕ) → j < length v.steps → slice_index v.steps j < n → IsTaken p v j) where
       module _ (s : State) (t keys : ℕ) (before : t < n) (within : IsWithin p.allowed keys) (low : s.core.draws < 2 ^ 64 - 1) where
+        abbrev Later : Type 0
+        Later = Near (step_of s keys (ticking t)) (t + 1)
+
+        -- the search has the timers tick as the run does
+        same_tick : (free : Bool) → p.free ≡ free → (u : ℕ) → (if free then 0 else u % p.rate) ≡ (if free then 0 else t % p.rate)
+            → (if free then false else ticks p.rate u) ≡ (if free then false else ticking t)
+        same_tick true is u phased = refl
+        same_tick false is u phased = ap (λ (rest : ℕ). rest == 0) (rest_more p.rate u t phased) ∙ sym (at_rate is t)
+
         -- after a step of a state that is like this one
-        after : (f : ℕ) (a : State) (u : ℕ) → u ≤ t → phase p u ≡ phase p t → Alike f a s → IsUnread f a → a.core.draws < 2 ^ 64 - 1
-            → GoesTo p v f a (step_of a keys (tick_at p u)) u → Near (step_of s keys (ticks p.rate t)) (t + 1)
-        after f a u early phased same unread drawn goes_on =
+        after_by : (a next : State) (f u : ℕ) → u ≤ t → phase p u ≡ phase p t → (to : GoesTo p v f a next u) → AlikeTicks p to.after next (step_of s keys (ticking t)) → Later
+        after_by a next f u early phased to same =
             record {
-              state = step_of a keys (tick_at p u);
+              state = next;
               at = u + 1;
-              moves = goes_on.safe.moves;
-              forgotten = goes_on.after;
+              moves = to.safe.moves;
+              forgotten = to.after;
               early = omega arith;
               phased = phase_by p.free p.rate u t phased;
-              same =
-                  meets f goes_on.after a s keys same unread drawn low p.free p.rate t u phased goes_on.is_after
-                  (fine_of goes_on.safe.moves goes_on.after _ (u + 1) goes_on.safe.path (omega arith)).calm;
-              safe = goes_on.safe.path;
+              same = same;
+              safe = to.safe.path;
             }
 
-        next_by : (moves f : ℕ) (a : State) (u : ℕ) → u ≤ t → phase p u ≡ phase p t → Alike f a s → SafeFor p v moves f a u → Near (step_of s keys (ticks p.rate t)) (t + 1)
+        after : (f : ℕ) (a : State) (u : ℕ) → u ≤ t → phase p u ≡ phase p t → AlikeTicks p f a s → IsUnread f a → a.core.draws < 2 ^ 64 - 1
+            → timed_register p a ≡ None → GoesTo p v f a (step_of a keys (tick_at p u)) u → Later
+        after f a u early phased same unread drawn none to =
+            after_by a (step_of a keys (tick_at p u)) f u early phased to
+            (untimed p f to.after a s keys (ticking t) unread drawn low p.free refl (a.core.delay == 0) refl none (tick_at p u) (same_tick p.free refl u phased) same to.is_after)
+
+        after_member : (f : ℕ) (a : State) (u : ℕ) → u ≤ t → phase p u ≡ phase p t → AlikeTicks p f a s → IsUnread f a → a.core.draws < 2 ^ 64 - 1
+            → (register : Option ℕ) → timed_register p a ≡ register → GoesBy register p v f a u → Later
+        after_member f a u early phased same unread drawn None none goes_on =
+            after f a u early phased same unread drawn none (goes_on keys within)
+        after_member f a u early phased same unread drawn (Some x) reads goes_on =
+            let to = goes_on same.delay same.most in
+            let told = timed_reads p a x reads in
+            after_by a (read_as same.delay a) f u early phased to
+            (timed p f to.after a s keys (ticking t) unread drawn low told.0 x told.1 same to.is_after)
+
+        next_by : (moves f : ℕ) (a : State) (u : ℕ) → u ≤ t → phase p u ≡ phase p t → AlikeTicks p f a s → SafeFor p v moves f a u → Later
         next_by zero f a u early phased same safe =
             ⊎_elim
             (λ (past : v.limit ≤ u). absurd (omega arith))
             (λ (kept : IsFine p v.executed a × ((is_some a.core.stopped ≡ true) ⊎ Joins p v f a u)).
             ⊎_elim
             (λ (halted : is_some a.core.stopped ≡ true).
-            let stopped = sym (same_stop f a s same) ∙ halted in
+            let stopped = sym (same_stop f (with_delay same.delay a) s same.alike) ∙ halted in
             record {
               state = a;
               at = t + 1;
@@ -126,60 +203,70 @@ module _ (alike : AlikeSteps) (grow : DrawsGrow) (quiet : QuietTick) where
               forgotten = f;
               early = omega arith;
               phased = refl;
-              same = subst (λ (r : State). Alike f a r) (sym (stays s keys (ticks p.rate t) stopped)) same;
+              same = subst (λ (r : State). AlikeTicks p f a r) (sym (stays s keys (ticking t) stopped)) same;
               safe = inr (kept.0, inl halted);
             })
             (λ (joins : Joins p v f a u).
             let early_place = joins.early in
             let place = joins.place in
             let member = taken place joins.kept (omega arith) in
-            after (forgotten_at v place) (v.member place) (slice_index v.steps place) (omega arith) (joins.phased ∙ phased)
-            (alike_through _ _ _ joins.alike s (alike_within f a s same (forgotten_at v place) joins.within))
-            member.unread member.drawn (member.goes_on keys within))
+            after_member (forgotten_at v place) (v.member place) (slice_index v.steps place) (omega arith) (joins.phased ∙ phased)
+            (through_member p f (forgotten_at v place) (v.member place) a s joins.within joins.alike same)
+            member.unread member.drawn (timed_register p (v.member place)) refl member.goes_on)
             kept.1)
             safe
         next_by (suc k) f a u early phased same safe =
             let is = same_as_none p.allowed a safe.0.same keys within (tick_at p u) in
-            after f a u early phased same safe.1 safe.0.drawn
+            after f a u early phased same safe.1 safe.0.drawn safe.0.untimed
             (subst (λ (b : State). GoesTo p v f a b u) (sym is) (record { after = safe.2.0; is_after = safe.2.1; safe = record { moves = k; path = safe.2.2 } }))
 
-        next : Near s t → Near (step_of s keys (ticks p.rate t)) (t + 1)
-        next near = next_by near.moves near.forgotten near.state near.at near.early near.phased near.same near.safe
+        onward : Near s t → Later
+        onward near = next_by near.moves near.forgotten near.state near.at near.early near.phased near.same near.safe
 
       module _ (start : State) (proper : IsProper start) (fresh : start.core.draws ≡ 0) (begun : Safe p v 0 start 0) (below_end : n < 2 ^ 64 - 1) (held : ℕ → ℕ) (script : IsScript p.allowed held) where
-        drawn : (t : ℕ) → (run step_of p.rate held start t).core.draws ≤ t
+        drawn : (t : ℕ) → (run_ticking ticking held start t).core.draws ≤ t
         drawn zero = omega arith
         drawn (suc t) =
-            let more = grow (run step_of p.rate held start t) (held t) (ticks p.rate t) in
+            let more = grow (run_ticking ticking held start t) (held t) (ticking t) in
             let few = drawn t in
             let count = add-one t in
             omega arith
 
-        near_run : (t : ℕ) → t ≤ n → Near (run step_of p.rate held start t) t
-        near_run zero within_n = record { state = start; at = 0; moves = begun.moves; forgotten = 0; early = omega arith; phased = refl; same = alike_same start proper; safe = begun.path }
+        near_run : (t : ℕ) → t ≤ n → Near (run_ticking ticking held start t) t
+        near_run zero within_n = record { state = start; at = 0; moves = begun.moves; forgotten = 0; early = omega arith; phased = refl; same = ticks_same p start proper; safe = begun.path }
         near_run (suc t) within_n =
             let count = add-one t in
             let few = drawn t in
-            subst (λ (m : ℕ). Near (run step_of p.rate held start (suc t)) m) (add-one t)
-            (next (run step_of p.rate held start t) t (held t) (omega arith) (script t) (omega arith) (near_run t (omega arith)))
+            subst (λ (m : ℕ). Near (run_ticking ticking held start (suc t)) m) (add-one t)
+            (onward (run_ticking ticking held start t) t (held t) (omega arith) (script t) (omega arith) (near_run t (omega arith)))
 
-        avoided : (t : ℕ) → t ≤ n → met_in p.target (run step_of p.rate held start t) ≡ None
+        avoided : (t : ℕ) → t ≤ n → met_in p.target (run_ticking ticking held start t) ≡ None
         avoided t within_n =
             let near = near_run t within_n in
             let early = near.early in
-            ap (λ (c : Core). met_by p.target c.stopped c.pc) (sym near.same.others)
+            ap (λ (c : Core). met_by p.target c.stopped c.pc) (sym near.same.alike.others)
             ∙ (fine_of near.moves near.forgotten near.state near.at near.safe (omega arith)).avoided
 
-        noted : (t : ℕ) → t ≤ n → is_at_one v.executed (run step_of p.rate held start t) ≡ true
+        noted : (t : ℕ) → t ≤ n → is_at_one v.executed (run_ticking ticking held start t) ≡ true
         noted t within_n =
             let near = near_run t within_n in
             let early = near.early in
-            ap (λ (c : Core). is_some c.stopped || is_among v.executed c.pc) (sym near.same.others)
+            ap (λ (c : Core). is_some c.stopped || is_among v.executed c.pc) (sym near.same.alike.others)
             ∙ (fine_of near.moves near.forgotten near.state near.at near.safe (omega arith)).noted
 
-      module _ (start : State) (proper : IsProper start) (fresh : start.core.draws ≡ 0) (begun : Safe p v 0 start 0) (below_end : n < 2 ^ 64 - 1) where
-        pub covered : Avoids p.rate p.allowed p.target start n
-        covered held script t within_n = avoided start proper fresh begun below_end held script t within_n
+    module _ (n : ℕ) (within_limit : n < v.limit) (taken : (j : ℕ) → j < length v.steps → slice_index v.steps j < n → IsTaken p v j)
+        (start : State) (proper : IsProper start) (fresh : start.core.draws ≡ 0) (begun : Safe p v 0 start 0) (below_end : n < 2 ^ 64 - 1) where
+      pub covered : Avoids p.rate p.allowed p.target start n
+      covered held script t within_n =
+          ap (met_in p.target) (ticking_run p.rate held start t)
+          ∙ avoided (ticks p.rate) (λ at_rate t. refl) n within_limit taken start proper fresh begun below_end held script t within_n
 
-        pub among : StaysAmong p.rate p.allowed v.executed start n
-        among held script t within_n = noted start proper fresh begun below_end held script t within_n
+      pub among : StaysAmong p.rate p.allowed v.executed start n
+      among held script t within_n =
+          ap (is_at_one v.executed) (ticking_run p.rate held start t)
+          ∙ noted (ticks p.rate) (λ at_rate t. refl) n within_limit taken start proper fresh begun below_end held script t within_n
+
+      -- where the ticks are free, whenever the timers tick
+      pub at_any_speed : p.free ≡ true → AvoidsAtAnySpeed p.allowed p.target start n
+      at_any_speed free ticking held script t within_n =
+          avoided ticking (λ at_rate. absurd (cc)) n within_limit taken start proper fresh begun below_end held script t within_n

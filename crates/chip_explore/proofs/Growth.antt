@@ -1,5 +1,5 @@
 -- What the changes of the kept states keep.
-use Rattle.std.proofs.Common.{◌≡◌, ℕ, zero, suc, ◌+◌, ◌-◌, ◌^◌, ◌<◌, ◌≤◌, ◌⊎◌, Bool, true, false, List, length, slice_index, is_some, ◌||◌, refl, sym, ap, subst, ◌∙◌, inl, inr, ⊎_elim, arith}
+use Rattle.std.proofs.Common.{◌≡◌, ℕ, zero, suc, ◌+◌, ◌-◌, ◌^◌, ◌<◌, ◌≤◌, ◌⊎◌, Bool, true, false, Option, Some, None, List, length, slice_index, is_some, ◌||◌, refl, sym, ap, subst, ◌∙◌, inl, inr, ⊎_elim, arith}
 use Rattle.std.proofs.Common.{◌≢◌, get_or, set, [], ◌∷◌, ◌++◌}
 use Rattle.std.proofs.lemmas.Bool.{cases_eq, cases_lt}
 use Rattle.std.proofs.lemmas.List.{get_or_past, get_or-set_same, get_or-set_other, get_or_append_left, length-append}
@@ -15,9 +15,11 @@ use Rattle.chip_explore.specs.declared.kept.Base.{Base}
 use Rattle.chip_explore.specs.declared.kept.Kept.{Kept}
 use Rattle.chip_explore.specs.declared.members.Members.{Members}
 use Rattle.chip_explore.specs.declared.setting.Setting.{Setting}
+use Rattle.chip_explore.specs.declared.ways.Reading.{Reading}
 use Rattle.chip_explore.specs.Executed.{is_among, is_at_one}
 use Rattle.chip_explore.specs.inner.Kept.{state_at}
-use Rattle.chip_explore.specs.inner.Cover.{phase, tick_at, View, Grows, IsFine, Moves, AreWithin, forgotten_at, Joins, SafeFor, Safe, IsTaken, Extends, GoesTo, GoesOn, HasChoices, Holds, IsAt, Goes, Leads, view_of}
+use Rattle.chip_explore.specs.inner.Cover.{phase, tick_at, View, Grows, IsFine, Moves, AreWithin, forgotten_at, Joins, SafeFor, Safe, IsTaken, Extends, GoesTo, GoesOn, GoesBy, HasChoices, HasValues, Holds, IsAt, Goes, Leads, LeadsAs, view_of}
+use Rattle.chip_explore.specs.inner.Delays.{read_as, timed_register}
 
 -- what is fine stays so where more addresses are noted
 or_more : (stopped early late : Bool) → (early ≡ true → late ≡ true) → (stopped || early) ≡ true → (stopped || late) ≡ true
@@ -31,10 +33,10 @@ still_noted early late more s noted =
 module _ (p : Setting) (early late : List Bool) (more : Grows early late) (s : State) where
   pub still_fine : IsFine p early s → IsFine p late s
   still_fine fine =
-      record { avoided = fine.avoided; calm = fine.calm; noted = still_noted early late more s fine.noted }
+      record { avoided = fine.avoided; noted = still_noted early late more s fine.noted }
 
   pub still_moves : Moves p early s → Moves p late s
-  still_moves moves = record { fine = still_fine moves.fine; same = moves.same; drawn = moves.drawn }
+  still_moves moves = record { fine = still_fine moves.fine; same = moves.same; untimed = moves.untimed; drawn = moves.drawn }
 
 module _ (p : Setting) (v w : View) (more : Extends p v w) where
   pub still_within : (m place : ℕ) → place < length v.steps → AreWithin m (forgotten_at v place) → AreWithin m (forgotten_at w place)
@@ -77,6 +79,10 @@ module _ (p : Setting) (v w : View) (more : Extends p v w) where
   pub still_goes : (m : ℕ) (s next : State) (t : ℕ) → GoesTo p v m s next t → GoesTo p w m s next t
   still_goes m s next t goes = record { after = goes.after; is_after = goes.is_after; safe = still_safe goes.after next (t + 1) goes.safe }
 
+  pub still_goes_on : (register : Option ℕ) (m : ℕ) (s : State) (t : ℕ) → GoesBy register p v m s t → GoesBy register p w m s t
+  still_goes_on None m s t on = λ keys within. still_goes m s _ t (on keys within)
+  still_goes_on (Some register) m s t on = λ value low. still_goes m s _ t (on value low)
+
 pub one_move : (p : Setting) (v : View) (m : ℕ) (s : State) (t : ℕ) → Moves p v.executed s → IsUnread m s → GoesTo p v m s (step_of s 0 (tick_at p t)) t → Safe p v m s t
 one_move p v m s t move unread goes = record { moves = suc goes.safe.moves; path = (move, unread, (goes.after, goes.is_after, goes.safe.path)) }
 
@@ -107,11 +113,11 @@ still_taken p v w more j kept same taken =
     record {
       drawn = subst (λ (s : State). s.core.draws < 2 ^ 64 - 1) (sym member) taken.drawn;
       unread = subst (λ (m : ℕ). IsUnread m (w.member j)) (sym forgotten) (subst (λ (s : State). IsUnread (forgotten_at v j) s) (sym member) taken.unread);
-      goes_on = λ keys within.
-          subst (λ (m : ℕ). GoesTo p w m (w.member j) (step_of (w.member j) keys (tick_at p (slice_index w.steps j))) (slice_index w.steps j)) (sym forgotten)
-          (subst (λ (s : State). GoesTo p w (forgotten_at v j) s (step_of s keys (tick_at p (slice_index w.steps j))) (slice_index w.steps j)) (sym member)
-          (subst (λ (t : ℕ). GoesTo p w (forgotten_at v j) (v.member j) (step_of (v.member j) keys (tick_at p t)) t) (sym same)
-          (still_goes p v w more _ _ _ _ (taken.goes_on keys within))));
+      goes_on =
+          subst (λ (m : ℕ). GoesOn p w m (w.member j) (slice_index w.steps j)) (sym forgotten)
+          (subst (λ (s : State). GoesOn p w (forgotten_at v j) s (slice_index w.steps j)) (sym member)
+          (subst (λ (t : ℕ). GoesOn p w (forgotten_at v j) (v.member j) t) (sym same)
+          (still_goes_on p v w more (timed_register p (v.member j)) _ _ _ taken.goes_on)));
     }
 
 -- flags and steps by their places
@@ -260,7 +266,26 @@ leads_before p l m n one place step keys kept leads =
 pub leads_after : (p : Setting) (l m n : Members) → Goes p m n → (place step keys : ℕ) → Leads p l m place step keys → Leads p l n place step keys
 leads_after p l m n two place step keys leads = still_goes p (view_of m) (view_of n) two.extends _ _ _ step leads
 
--- a state is taken once each choice was followed
+-- a state is taken once each of its ways was followed
+taken_by : (p : Setting) (l n : Members) → Goes p l n → (place step : ℕ) → place < length l.steps.items → (register : Option ℕ)
+    → timed_register p ((view_of l).member place) ≡ register → ((view_of l).member place).core.draws < 2 ^ 64 - 1
+    → IsUnread (forgotten_at (view_of l) place) ((view_of l).member place)
+    → GoesBy register p (view_of n) (forgotten_at (view_of l) place) ((view_of l).member place) step
+    → slice_index n.steps.items place ≡ step → IsTaken p (view_of n) place
+taken_by p l n more place step kept register is drawn unread on same =
+    let member : (view_of n).member place ≡ (view_of l).member place = same_member p l n more place kept in
+    let forgotten : forgotten_at (view_of n) place ≡ forgotten_at (view_of l) place = same_forgotten p l n more place kept in
+    record {
+      drawn = subst (λ (s : State). s.core.draws < 2 ^ 64 - 1) (sym member) drawn;
+      unread = subst (λ (f : ℕ). IsUnread f ((view_of n).member place)) (sym forgotten) (subst (λ (s : State). IsUnread (forgotten_at (view_of l) place) s) (sym member) unread);
+      goes_on =
+          subst (λ (f : ℕ). GoesOn p (view_of n) f ((view_of n).member place) (slice_index n.steps.items place)) (sym forgotten)
+          (subst (λ (s : State). GoesOn p (view_of n) (forgotten_at (view_of l) place) s (slice_index n.steps.items place)) (sym member)
+          (subst (λ (t : ℕ). GoesOn p (view_of n) (forgotten_at (view_of l) place) ((view_of l).member place) t) (sym same)
+          (subst (λ (r : Option ℕ). GoesBy r p (view_of n) (forgotten_at (view_of l) place) ((view_of l).member place) step) (sym is) on)));
+    }
+
+-- each choice of keys
 module _ (p : Setting) (l m n : Members) (one : Goes p l m) (two : Goes p m n) (place step choices : ℕ) (kept : place < length l.steps.items)
     (has : HasChoices p (forgotten_at (view_of l) place) ((view_of l).member place) choices)
     (none : Leads p l m place step 0)
@@ -279,21 +304,36 @@ module _ (p : Setting) (l m n : Members) (one : Goes p l m) (two : Goes p m n) (
       (leads_before p l m n one place step (2 ^ down.0) kept (each down.0 below there)))
       choice
 
-  on_and_on : GoesOn p (view_of n) (forgotten_at (view_of l) place) ((view_of l).member place) step
+  on_and_on : GoesBy None p (view_of n) (forgotten_at (view_of l) place) ((view_of l).member place) step
   on_and_on keys within =
       let r = has.all keys within in
       subst (λ (next : State). GoesTo p (view_of n) (forgotten_at (view_of l) place) ((view_of l).member place) next step) (sym (r.2 (tick_at p step))) (by_choice r.0 r.1)
 
   pub all_taken : slice_index n.steps.items place ≡ step → IsTaken p (view_of n) place
   all_taken same =
-      let both = goes_more p l m n one two in
-      let member : (view_of n).member place ≡ (view_of l).member place = same_member p l n both place kept in
-      let forgotten : forgotten_at (view_of n) place ≡ forgotten_at (view_of l) place = same_forgotten p l n both place kept in
-      record {
-        drawn = subst (λ (s : State). s.core.draws < 2 ^ 64 - 1) (sym member) has.drawn;
-        unread = subst (λ (f : ℕ). IsUnread f ((view_of n).member place)) (sym forgotten) (subst (λ (s : State). IsUnread (forgotten_at (view_of l) place) s) (sym member) has.unread);
-        goes_on =
-            subst (λ (f : ℕ). GoesOn p (view_of n) f ((view_of n).member place) (slice_index n.steps.items place)) (sym forgotten)
-            (subst (λ (s : State). GoesOn p (view_of n) (forgotten_at (view_of l) place) s (slice_index n.steps.items place)) (sym member)
-            (subst (λ (t : ℕ). GoesOn p (view_of n) (forgotten_at (view_of l) place) ((view_of l).member place) t) (sym same) on_and_on));
-      }
+      taken_by p l n (goes_more p l m n one two) place step kept None has.untimed has.drawn has.unread on_and_on same
+
+-- or each value of the delay timer
+pub all_read : (p : Setting) (l n : Members) → Goes p l n → (place step : ℕ) → place < length l.steps.items → (read : Reading)
+    → HasValues p (forgotten_at (view_of l) place) ((view_of l).member place) read
+    → ((value : ℕ) → value ≤ read.bound → LeadsAs p l n place step value)
+    → slice_index n.steps.items place ≡ step → IsTaken p (view_of n) place
+all_read p l n more place step kept read has each same =
+    taken_by p l n more place step kept (Some read.register) has.timed has.drawn has.unread
+    (λ value low. each value (subst (λ (bound : ℕ). value ≤ bound) has.bound low))
+    same
+
+pub reads_before : (p : Setting) (l m n : Members) → Goes p l m → (place step value : ℕ) → place < length l.steps.items → LeadsAs p m n place step value → LeadsAs p l n place step value
+reads_before p l m n one place step value kept leads =
+    subst (λ (f : ℕ). GoesTo p (view_of n) f ((view_of l).member place) (read_as value ((view_of l).member place)) step) (same_forgotten p l m one place kept)
+    (subst (λ (s : State). GoesTo p (view_of n) (forgotten_at (view_of m) place) s (read_as value s) step) (same_member p l m one place kept) leads)
+
+pub reads_after : (p : Setting) (l m n : Members) → Goes p m n → (place step value : ℕ) → LeadsAs p l m place step value → LeadsAs p l n place step value
+reads_after p l m n two place step value leads = still_goes p (view_of m) (view_of n) two.extends _ _ _ step leads
+
+pub has_values_in : (p : Setting) (l m : Members) → Goes p l m → (place : ℕ) → place < length l.steps.items → (read : Reading)
+    → HasValues p (forgotten_at (view_of l) place) ((view_of l).member place) read
+    → HasValues p (forgotten_at (view_of m) place) ((view_of m).member place) read
+has_values_in p l m more place kept read has =
+    subst (λ (f : ℕ). HasValues p f ((view_of m).member place) read) (sym (same_forgotten p l m more place kept))
+    (subst (λ (s : State). HasValues p (forgotten_at (view_of l) place) s read) (sym (same_member p l m more place kept)) has)

@@ -5,10 +5,12 @@
 --     Scripts      key scripts, and what none of them reaches
 --     Executed     at which addresses a machine makes steps
 --     Answers      what each answer says
+--     Speeds       what is said of all speeds of the timers
 --     inner        what the search keeps, and why it says what none reaches; a reader may skip it
 pub mod Causes
 pub mod Target
 pub mod Scripts
 pub mod Executed
 pub mod Answers
+pub mod Speeds
 pub mod inner

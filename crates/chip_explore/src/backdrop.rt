@@ -1,11 +1,11 @@
 //! What changes seldom of a state, which states share.
 
-ghost use Rattle.std.specs.Prelude.{◌≡◌, ◌+◌, ◌*◌, ◌^◌, fold, OnOk};
-ghost use Rattle.chip_explore.specs.inner.Kept.{with_byte, with_row};
+ghost use Rattle.std.specs.Prelude.{◌≡◌, ◌+◌, ◌*◌, ◌^◌, fold, IfOk, IsTrue, OnOk};
+ghost use Rattle.chip_explore.specs.inner.Kept.{state_with, with_byte, with_row};
 
 use crate::kept::{Base, ROWS};
-use chip_machine::Machine;
 use chip_machine::limits::{FLAGS, FRAMES, MEMORY_BYTES};
+use chip_machine::{Machine, Parts};
 use std::alloc::{AllocError, Global};
 use std::collections::HashMap;
 use std::rc::Rc;
@@ -118,7 +118,7 @@ impl Backdrop {
     }
 
     /// Puts the bytes in the memory of a machine.
-    pub(crate) fn put_bytes(&self, machine: &mut Machine)
+    fn put_bytes(&self, machine: &mut Machine)
         ensures { machine.new ≡ fold with_byte machine.old self.now.bytes.items }
     {
         for patch in &self.bytes {
@@ -129,7 +129,7 @@ impl Backdrop {
     }
 
     /// Puts the rows among those of the base.
-    pub(crate) fn put_rows(&self, base: &Base, rows: &mut Vec<u128>) -> Result<(), AllocError>
+    fn put_rows(&self, base: &Base, rows: &mut Vec<u128>) -> Result<(), AllocError>
         ensures { OnOk result (rows.new.items
             ≡ fold with_row base.now.rows.items self.now.rows.items) }
     {
@@ -142,6 +142,29 @@ impl Backdrop {
             }
         }
         Ok(())
+    }
+
+    /// Gives a machine the state that a base has with some parts and this: the answer is whether that
+    /// was possible. The rows are room for those of the screen.
+    pub(crate) fn load(
+        &self,
+        parts: &Parts,
+        base: &Base,
+        machine: &mut Machine,
+        rows: &mut Vec<u128>,
+    ) -> Result<bool, AllocError>
+        ensures { IfOk result (λ answer. IsTrue answer
+            → machine.new ≡ state_with parts.now base.now self.now) }
+    {
+        self.put_rows(base, rows)?;
+        if parts.depth as usize > FRAMES || rows.len() != ROWS {
+            return Ok(false);
+        }
+        machine.copy_from(&base.machine)?;
+        machine.restore(parts);
+        self.put_bytes(machine);
+        machine.set_screen(rows);
+        Ok(true)
     }
 }
 

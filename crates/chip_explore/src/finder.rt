@@ -3,8 +3,9 @@
 
 use crate::guesses::Guesses;
 use crate::leg::Runner;
-use crate::limits::MOST_PRESSES;
+use crate::limits::{MOST_PRESSES, MOST_WAYS};
 use crate::seen::Seen;
+use crate::setting::Setting;
 use chip_machine::Forgotten;
 use chip_replay::LAST_STEP;
 use std::alloc::{AllocError, Global};
@@ -70,7 +71,10 @@ pub(crate) struct Finder {
     pub(crate) hit: Option<Origin>,
     /// For which other causes the machine stopped.
     pub(crate) seen: Seen,
+    /// Whether a delay timer was above 0 where the ticks are free.
     pub(crate) is_timer_set: bool,
+    /// In how many ways it went on from states.
+    pub(crate) ways: u64,
     /// What is forgotten of the states.
     pub(crate) guesses: Guesses,
 }
@@ -86,18 +90,31 @@ impl Finder {
             hit: None,
             seen,
             is_timer_set: false,
+            ways: 0,
             guesses,
         }
     }
 
     /// Whether a step refuted what the search takes for granted.
-    pub(crate) fn is_refuted(&self) -> bool {
-        self.is_timer_set || self.guesses.is_refuted
+    pub(crate) fn is_refuted(&self, setting: &Setting) -> bool {
+        self.guesses.is_refuted || self.is_timer_set && setting.is_strict
     }
 
-    /// The parts that are to be forgotten of the state that a runner has: where its next step doesn't
-    /// tell keys apart, those that are.
-    pub(crate) fn parts_to_forget(&mut self, runner: &Runner) -> Forgotten {
+    /// Whether a search that keeps so many states is left before it takes up one that was reached at a
+    /// step: it has refuted what it takes for granted, or met what it waits for, or it keeps as many
+    /// states as it may with free ticks, or has gone on from them in so many ways.
+    pub(crate) fn is_left(&self, setting: &Setting, states: usize, step: u64) -> bool {
+        let most = setting.most_timed;
+        let is_full = states > most || self.ways / MOST_WAYS > most as u64;
+        self.is_refuted(setting)
+            || self.is_timer_set && is_full
+            || setting.awaited.is_any() && self.seen.has_all(&setting.awaited, step)
+    }
+
+    /// The parts that are to be forgotten of the state that a runner has: where its next step goes on in
+    /// one way, those that are. A delay timer above 0 is noted where the ticks are free.
+    pub(crate) fn parts_to_forget(&mut self, setting: &Setting, runner: &Runner) -> Forgotten {
+        self.is_timer_set |= setting.free && runner.machine.delay() != 0;
         if runner.is_quiet {
             runner.forgotten
         } else {
@@ -123,7 +140,8 @@ impl Finder {
     }
 
     /// How a state is reached by a step of the state at a place, with these keys down.
-    pub(crate) fn origin(&self, place: usize, step: u64, keys: u16) -> Origin {
+    pub(crate) fn origin(&mut self, place: usize, step: u64, keys: u16) -> Origin {
+        self.ways = self.ways.saturating_add(1);
         let before = match self.origins.get(place) {
             Some(origin) => origin.presses,
             None => 0,

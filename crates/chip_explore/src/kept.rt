@@ -1,11 +1,12 @@
 //! A state as what it has beside a base.
 
-ghost use Rattle.std.specs.Prelude.{◌≡◌, ◌+◌, ◌*◌, ◌^◌, fold, IfOk, IsTrue, OnOk};
+ghost use Rattle.std.specs.Prelude.{◌≡◌, ◌<◌, ◌≤◌, ◌+◌, ◌*◌, ◌^◌, fold, Some, IfOk, IsTrue, OnOk};
 ghost use Rattle.chip_machine.specs.Relevant.{Alike};
-ghost use Rattle.chip_explore.specs.inner.Kept.{parts_of, state_of, with_byte, with_row};
+ghost use Rattle.chip_explore.specs.inner.Kept.{parts_of, parts_read, state_of, with_byte, with_row};
+ghost use Rattle.chip_explore.specs.inner.Delays.{delay_register, read_as};
 
 use crate::backdrop::{Backdrop, Backdrops};
-use chip_machine::limits::FRAMES;
+use chip_machine::limits::LAST_WORD;
 use chip_machine::{Forgotten, Machine, Parts};
 use std::alloc::{AllocError, Global};
 use std::rc::Rc;
@@ -94,6 +95,21 @@ impl Kept {
         }
     }
 
+    /// What it has so after a step that set a register to a value of the delay timer.
+    fn parts_read(&self, register: u8, value: u8) -> Parts
+        requires range { register < 16 }
+        requires place { self.now.pc ≤ LAST_WORD }
+        ensures { result ≡ parts_read register value (parts_of self.now) }
+    {
+        let mut parts = self.parts();
+        parts.registers[register as usize] = value;
+        parts.pc += 2;
+        if value == 0 {
+            parts.delay = 0;
+        }
+        parts
+    }
+
     /// Gives a machine this state: the answer is whether that was possible. The rows are room for
     /// those of the screen.
     pub(crate) fn load(
@@ -105,17 +121,26 @@ impl Kept {
         ensures { IfOk result (λ answer. IsTrue answer
             → machine.new ≡ state_of base.now self.now) }
     {
-        let backdrop: &Backdrop = &self.backdrop;
-        let parts = self.parts();
-        backdrop.put_rows(base, rows)?;
-        if parts.depth as usize > FRAMES || rows.len() != ROWS {
-            return Ok(false);
-        }
-        machine.copy_from(&base.machine)?;
-        machine.restore(&parts);
-        backdrop.put_bytes(machine);
-        machine.set_screen(rows);
-        Ok(true)
+        self.backdrop.load(&self.parts(), base, machine, rows)
+    }
+
+    /// Likewise the state after its next step, which sets a register to the delay timer, where that
+    /// has a value.
+    pub(crate) fn load_read(
+        &self,
+        register: u8,
+        value: u8,
+        base: &Base,
+        machine: &mut Machine,
+        rows: &mut Vec<u128>,
+    ) -> Result<bool, AllocError>
+        requires range { register < 16 }
+        requires reads { delay_register (state_of base.now self.now) ≡ Some register }
+        ensures { IfOk result (λ answer. IsTrue answer
+            → machine.new ≡ read_as value (state_of base.now self.now)) }
+    {
+        let parts = self.parts_read(register, value);
+        self.backdrop.load(&parts, base, machine, rows)
     }
 
     /// Whether this is the state of a machine, but for what no later step depends on: true only

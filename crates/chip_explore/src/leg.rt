@@ -1,4 +1,5 @@
-//! Some steps in a row that don't tell keys apart, and read nothing that is forgotten.
+//! Some steps in a row that tell neither keys nor values of the delay timer apart, and read nothing
+//! that is forgotten.
 
 ghost use Rattle.std.specs.Prelude.{◌≡◌, ◌<◌, ◌≤◌, ◌-◌, ◌^◌, IfOk, IfSome, IsNone};
 ghost use Rattle.chip_explore.specs.inner.Cover.{Grows, IsEnd, Moves, Safe, View};
@@ -16,11 +17,9 @@ pub(crate) enum End {
     Past,
     /// The machine meets the target.
     Wanted,
-    /// The delay timer is above 0, where the timers are free.
-    TimerSet,
     /// The machine has stopped for another cause.
     Halted,
-    /// The next step can tell keys apart, or the steps are many.
+    /// The next step can tell keys apart, or values of the delay timer, or the steps are many.
     Joined,
     /// The next step reads something that is forgotten.
     Read,
@@ -41,7 +40,7 @@ pub(crate) struct Runner {
     pub(crate) forgotten: Forgotten,
     /// Those that the step read at which it ended last.
     pub(crate) read: Forgotten,
-    /// Whether its next step doesn't tell keys apart.
+    /// Whether its next step doesn't tell keys apart, nor values of the delay timer.
     pub(crate) is_quiet: bool,
     pub(crate) touch: Touch,
     /// Room for the rows of a screen.
@@ -66,8 +65,8 @@ impl Runner {
     }
 
     /// Makes steps from a step on up to the limit, to a stop, or to a state whose next step can
-    /// tell keys apart or reads something that is forgotten, and notes the addresses of these steps
-    /// and of that next one.
+    /// tell keys or values of the delay timer apart or reads something that is forgotten, and notes
+    /// the addresses of these steps and of that next one.
     pub(crate) fn run(
         &mut self,
         setting: &Setting,
@@ -129,9 +128,6 @@ impl Runner {
         if setting.target.met_in(&self.machine).is_some() {
             return Some(End::Wanted);
         }
-        if setting.free && self.machine.delay() != 0 {
-            return Some(End::TimerSet);
-        }
         if self.machine.stopped().is_some() {
             return Some(End::Halted);
         }
@@ -139,7 +135,8 @@ impl Runner {
         if left == 0 || self.machine.draws() == u64::MAX {
             return Some(End::Joined);
         }
-        self.is_quiet = self.machine.key_choices(setting.allowed) == 0;
+        self.is_quiet = self.machine.key_choices(setting.allowed) == 0
+            && setting.timed_register(&self.machine).is_none();
         if self.is_quiet {
             None
         } else {

@@ -21,11 +21,12 @@ mod setting;
 mod sum;
 mod target;
 mod watcher;
+mod ways;
 
 pub use causes::Causes;
 pub use executed::Executed;
 pub use limits::END;
-pub use question::{Bounds, Explored, Outcome, Question, explore};
+pub use question::{Bounds, Explored, Outcome, Question, Ticks, explore};
 pub use script::KeyEvent;
 pub use seen::{STOPS, Seen};
 pub use target::{Met, Target};

@@ -8,6 +8,12 @@ pub const END: u64 = u64::MAX;
 /// How many steps that don't tell keys apart are made in a row before their state is kept.
 pub(crate) const MOST_QUIET_STEPS: u32 = 1_000;
 
+/// Of the states that a search may keep it keeps this part at most while the ticks are free.
+pub(crate) const FREE_SHARE: usize = 12;
+
+/// In so many ways it goes on from a state then at most, on average.
+pub(crate) const MOST_WAYS: u64 = 4;
+
 /// How often a search begins anew at most, since a step refuted what it took for granted.
 pub(crate) const MOST_ATTEMPTS: u32 = 10_000;
 

@@ -1,9 +1,10 @@
 //! The states that a search keeps.
 
-ghost use Rattle.std.specs.Prelude.{◌≡◌, ◌<◌, ◌≤◌, ◌+◌, ◌-◌, ◌^◌, [], ℕ, length, slice_index, slice_index_or, IfOk, IsTrue, true, false, is_some};
+ghost use Rattle.std.specs.Prelude.{◌≡◌, ◌<◌, ◌≤◌, ◌+◌, ◌-◌, ◌^◌, [], ℕ, length, slice_index, slice_index_or, Some, IfOk, IsTrue, true, false, is_some};
 ghost use Rattle.chip_machine.specs.State.{IsProper};
 ghost use Rattle.chip_explore.specs.Executed.{is_at_one};
 ghost use Rattle.chip_explore.specs.inner.Kept.{state_at};
+ghost use Rattle.chip_explore.specs.inner.Delays.{delay_register, read_as};
 ghost use Rattle.chip_explore.specs.inner.Cover.{phase, view_of, AreWithin, Holds, Goes, IsAt, IsTaken, Joins};
 
 use crate::executed::Executed;
@@ -83,6 +84,26 @@ impl Members {
             → machine.new ≡ state_at self.now.base self.now.states.items place) }
     {
         self.states[place].load(&self.base, machine, rows)
+    }
+
+    /// Likewise the state after the next step of that, which sets a register to the delay timer, where
+    /// that has a value.
+    pub(crate) fn load_read(
+        &self,
+        place: usize,
+        register: u8,
+        value: u8,
+        machine: &mut Machine,
+        rows: &mut Vec<u128>,
+    ) -> Result<bool, AllocError>
+        requires kept { place < length self.now.states.items }
+        requires range { register < 16 }
+        requires reads { delay_register (state_at self.now.base self.now.states.items place)
+            ≡ Some register }
+        ensures { IfOk result (λ answer. IsTrue answer
+            → machine.new ≡ read_as value (state_at self.now.base self.now.states.items place)) }
+    {
+        self.states[place].load_read(register, value, &self.base, machine, rows)
     }
 
     /// The least step at which the state of a place was reached.

@@ -9,6 +9,7 @@ ghost use Rattle.chip_explore.specs.declared.question.Outcome.TheVariants.{Withi
 ghost use Rattle.chip_explore.specs.inner.Cover.{view_of, Confirms, Goes, Holds, Safe};
 ghost use Rattle.chip_explore.specs.Scripts.{Avoids};
 ghost use Rattle.chip_explore.specs.Scripts as spec;
+ghost use Rattle.chip_explore.specs.Speeds.{AvoidsAtAnySpeed, NeverAtAnySpeed};
 ghost use Rattle.chip_explore.specs.Target.{met_in};
 
 use crate::backdrop::Backdrops;
@@ -18,7 +19,7 @@ use crate::finder::{Finder, Order, Origin};
 use crate::guesses::Guesses;
 use crate::kept::Base;
 use crate::leg::Runner;
-use crate::limits::{END, MOST_ATTEMPTS};
+use crate::limits::{END, FREE_SHARE, MOST_ATTEMPTS};
 use crate::members::Members;
 use crate::script::{KeyEvent, script_to};
 use crate::search::Search;
@@ -41,6 +42,18 @@ pub struct Question {
     pub target: Target,
 }
 
+/// How a search takes the ticks of the timers. What its answer says of the rate is the same of each.
+#[derive(Clone, Copy, PartialEq, Eq)]
+pub enum Ticks {
+    /// At the rate alone, so that what it saw executed is executed at the rate.
+    AtRate,
+    /// First as if the timers could tick after any step or not, with a part of the states. Where that
+    /// doesn't answer, a search at the rate follows.
+    Free,
+    /// Likewise, with all states.
+    FreeWithAll,
+}
+
 /// How far a search goes.
 #[derive(Clone, Copy)]
 pub struct Bounds {
@@ -51,6 +64,7 @@ pub struct Bounds {
     /// Whether a search that ends there is followed by one that takes up the deepest states first,
     /// within the same bounds, and whether a script may be answered that isn't a first one.
     pub is_deep: bool,
+    pub ticks: Ticks,
 }
 
 /// What a search found.
@@ -83,13 +97,18 @@ pub struct Explored {
     pub outcome: Outcome,
     /// The causes that it met beside the wanted ones.
     pub seen: Seen,
-    /// How many states it kept, with those of the deep search behind it.
+    /// How many states it kept at most, with those of the deep search behind it.
     pub states: usize,
     /// The addresses at which it saw steps made: those of all steps, under any key script, in which
     /// the outcome says that the target isn't met, and maybe of later ones.
     pub executed: Executed,
     /// Whether memory ran out before the search was done, so that the outcome may say less.
     pub is_short: bool,
+    /// Whether no key script makes the machine meet the target at any step below `END`, whenever the
+    /// timers tick.
+    pub is_at_any_speed: bool,
+    /// Whether it had free ticks and a delay timer above 0, so that at the rate less may be met.
+    pub(crate) is_timed: bool,
 }
 
 impl Bounds {
@@ -98,6 +117,14 @@ impl Bounds {
         ensures { result ≡ self.now.steps - 1 }
     {
         self.steps.saturating_sub(1)
+    }
+
+    /// How many states a search keeps at most where the ticks are free and a delay timer was above 0.
+    fn most_timed(&self) -> usize {
+        match self.ticks {
+            Ticks::Free => self.states / FREE_SHARE,
+            Ticks::AtRate | Ticks::FreeWithAll => self.states,
+        }
     }
 }
 
@@ -135,6 +162,7 @@ impl Explored {
         ensures outcome { result.outcome ≡ outcome }
         ensures executed { result.executed ≡ executed }
         ensures states { result.states ≡ 0 }
+        ensures speed { result.is_at_any_speed ≡ false }
     {
         Explored {
             outcome,
@@ -142,6 +170,8 @@ impl Explored {
             states: 0,
             executed,
             is_short,
+            is_at_any_speed: false,
+            is_timed: false,
         }
     }
 
@@ -150,6 +180,7 @@ impl Explored {
         ensures outcome { result.outcome ≡ outcome }
         ensures executed { result.executed ≡ search.now.members.executed }
         ensures states { result.states ≡ length search.now.members.steps.items }
+        ensures speed { result.is_at_any_speed ≡ false }
     {
         Explored {
             outcome,
@@ -157,6 +188,34 @@ impl Explored {
             states: search.members.steps.len(),
             executed: search.members.executed,
             is_short,
+            is_at_any_speed: false,
+            is_timed: search.finder.is_timer_set,
+        }
+    }
+
+    /// Whether a search with these bounds tells all that is asked for.
+    fn is_whole(&self, bounds: &Bounds) -> bool {
+        match self.outcome {
+            Outcome::Never | Outcome::Found { .. } => true,
+            Outcome::Within(covered) => covered == bounds.last(),
+            Outcome::Later { .. } => false,
+        }
+    }
+
+    /// Whether a search at the rate is to follow one with free ticks: that doesn't tell all, or met other
+    /// causes, which are told with the least steps at which they are met at the rate.
+    fn needs_rate(&self, bounds: &Bounds) -> bool {
+        self.is_timed && (!self.is_whole(bounds) || self.seen.is_any())
+    }
+
+    /// Whether this of a search with free ticks says more than one at the rate that came to such an
+    /// outcome.
+    fn says_more_than(&self, rated: &Outcome) -> bool {
+        match (&self.outcome, rated) {
+            (Outcome::Never, _) => true,
+            (Outcome::Within(covered), Outcome::Within(step)) => covered > step,
+            (Outcome::Found { .. }, Outcome::Within(_)) => true,
+            _ => false,
         }
     }
 
@@ -167,13 +226,26 @@ impl Explored {
         ensures executed { result.executed ≡ self.executed }
         ensures seen { result.seen ≡ deep.seen }
         ensures states { result.states ≡ min (self.states + deep.states) usize.MAX }
+        ensures speed { result.is_at_any_speed ≡ false }
     {
         Explored {
             seen: deep.seen,
             states: self.states.saturating_add(deep.states),
             executed: self.executed,
             is_short: deep.is_short,
+            is_at_any_speed: false,
+            is_timed: false,
             outcome: deep.outcome.after(covered),
+        }
+    }
+
+    /// The other causes that a search at the rate is to meet, where this one tells all else: none where
+    /// it doesn't.
+    fn awaited(&self, bounds: &Bounds) -> Seen {
+        if self.is_whole(bounds) {
+            self.seen
+        } else {
+            Seen::none()
         }
     }
 
@@ -198,7 +270,7 @@ impl Explored {
 
 /// Whether under some key script, of the allowed keys alone, a machine that has drawn no random
 /// byte yet meets the target. States are taken up by the least step first, and then, where the
-/// bounds say so, by the greatest.
+/// bounds say so, by the greatest. Where they say so, the ticks are free at first.
 pub fn explore<W: Watcher>(
     alloc: Global,
     start: &Machine,
@@ -216,6 +288,8 @@ pub fn explore<W: Watcher>(
     ensures ends { EndsBy (bounds.now.steps - 1) result.outcome }
     ensures few { bounds.now.is_deep ≡ false → result.states ≤ bounds.now.states + most_ways }
     ensures few_by_both { result.states ≤ 2 * (bounds.now.states + most_ways) }
+    ensures any_speed { result.is_at_any_speed ≡ true
+        → NeverAtAnySpeed question.now.allowed question.now.target start.now }
 {
     if let Some(met) = question.target.met_in(start) {
         let outcome = Outcome::Found {
@@ -230,9 +304,11 @@ pub fn explore<W: Watcher>(
         allowed: question.allowed,
         target: question.target,
         free: true,
+        is_strict: bounds.ticks == Ticks::AtRate,
+        most_timed: bounds.most_timed(),
+        awaited: Seen::none(),
     };
-    let order = Order::LeastStep;
-    let Ok(first) = search(alloc, start, &setting, bounds, watcher, order, Seen::none()) else {
+    let Ok(first) = search_by_step(alloc, start, &setting, bounds, watcher) else {
         return Explored::at_once(Outcome::Within(0), Executed::at(start), true);
     };
     match first.covered_where_full(bounds) {
@@ -245,12 +321,100 @@ pub fn explore<W: Watcher>(
 #[derive(Drop)]
 struct Attempt {
     explored: Explored,
-    /// The delay timer stays at 0.
+    /// The ticks are free.
     free: bool,
     /// What is forgotten of the states.
     guesses: Guesses,
     /// A step refuted it, so another search may find more.
     is_refuted: bool,
+}
+
+/// A search with free ticks, and one at the rate behind it where that is needed.
+fn search_by_step<W: Watcher>(
+    alloc: Global,
+    start: &Machine,
+    setting: &Setting,
+    bounds: &Bounds,
+    watcher: &mut W,
+) -> Result<Explored, AllocError>
+    requires rate { 0 < setting.now.rate }
+    requires fresh { start.now.core.draws ≡ 0 }
+    requires going { met_in setting.now.target start.now ≡ None }
+    ensures answers { IfOk result (λ explored. Answers setting.now.rate setting.now.allowed
+        setting.now.target start.now explored.outcome) }
+    ensures executed { IfOk result (λ explored. AreExecuted setting.now.rate setting.now.allowed
+        explored.executed start.now explored.outcome) }
+    ensures first { IfOk result (λ explored. bounds.now.is_deep ≡ false
+        → IsFirst explored.outcome) }
+    ensures ends { IfOk result (λ explored. EndsBy (bounds.now.steps - 1) explored.outcome) }
+    ensures few { IfOk result (λ explored. explored.states ≤ bounds.now.states + most_ways) }
+    ensures any_speed { IfOk result (λ explored. explored.is_at_any_speed ≡ true
+        → NeverAtAnySpeed setting.now.allowed setting.now.target start.now) }
+{
+    let order = Order::LeastStep;
+    let free = search(alloc, start, setting, bounds, watcher, order, Seen::none())?;
+    if free.needs_rate(bounds) {
+        Ok(rated(alloc, start, setting, bounds, watcher, free))
+    } else {
+        Ok(free)
+    }
+}
+
+/// What a search with free ticks and one at the rate behind it say. Where the first told all that is
+/// asked for, the second ends once it has met the other causes that the first did.
+fn rated<W: Watcher>(
+    alloc: Global,
+    start: &Machine,
+    setting: &Setting,
+    bounds: &Bounds,
+    watcher: &mut W,
+    free: Explored,
+) -> Explored
+    requires rate { 0 < setting.now.rate }
+    requires fresh { start.now.core.draws ≡ 0 }
+    requires going { met_in setting.now.target start.now ≡ None }
+    requires answers { Answers setting.now.rate setting.now.allowed setting.now.target start.now
+        free.outcome }
+    requires executed { AreExecuted setting.now.rate setting.now.allowed free.executed start.now
+        free.outcome }
+    requires first { bounds.now.is_deep ≡ false → IsFirst free.outcome }
+    requires ends { EndsBy (bounds.now.steps - 1) free.outcome }
+    requires few { free.states ≤ bounds.now.states + most_ways }
+    requires any_speed { free.is_at_any_speed ≡ true
+        → NeverAtAnySpeed setting.now.allowed setting.now.target start.now }
+    ensures answers { Answers setting.now.rate setting.now.allowed setting.now.target start.now
+        result.outcome }
+    ensures executed { AreExecuted setting.now.rate setting.now.allowed result.executed start.now
+        result.outcome }
+    ensures first { bounds.now.is_deep ≡ false → IsFirst result.outcome }
+    ensures ends { EndsBy (bounds.now.steps - 1) result.outcome }
+    ensures few { result.states ≤ bounds.now.states + most_ways }
+    ensures any_speed { result.is_at_any_speed ≡ true
+        → NeverAtAnySpeed setting.now.allowed setting.now.target start.now }
+{
+    let known = Setting {
+        free: false,
+        awaited: free.awaited(bounds),
+        ..*setting
+    };
+    let order = Order::LeastStep;
+    let Ok(rated) = search(alloc, start, &known, bounds, watcher, order, Seen::none()) else {
+        return Explored {
+            is_short: !free.is_at_any_speed,
+            ..free
+        };
+    };
+    let states = free.states.max(rated.states);
+    if free.says_more_than(&rated.outcome) {
+        Explored {
+            seen: rated.seen,
+            states,
+            is_short: rated.is_short && !free.is_at_any_speed,
+            ..free
+        }
+    } else {
+        Explored { states, ..rated }
+    }
 }
 
 /// What a search said that covered the steps up to one, after a search of the deepest states first,
@@ -279,14 +443,21 @@ fn deepened<W: Watcher>(
         result.outcome }
     ensures ends { EndsBy (bounds.now.steps - 1) result.outcome }
     ensures few { result.states ≤ 2 * (bounds.now.states + most_ways) }
+    ensures speed { result.is_at_any_speed ≡ false }
 {
     let order = Order::GreatestStep;
     let seen = first.seen;
-    match search(alloc, start, setting, bounds, watcher, order, seen) {
+    let known = Setting {
+        free: true,
+        is_strict: true,
+        ..*setting
+    };
+    match search(alloc, start, &known, bounds, watcher, order, seen) {
         Ok(deep) => first.deepened_by(deep, covered),
         Err(_) => Explored {
             outcome: Outcome::Within(covered),
             is_short: true,
+            is_at_any_speed: false,
             ..first
         },
     }
@@ -314,6 +485,8 @@ fn search<W: Watcher>(
         → IsFirst explored.outcome) }
     ensures ends { IfOk result (λ explored. EndsBy (bounds.now.steps - 1) explored.outcome) }
     ensures few { IfOk result (λ explored. explored.states ≤ bounds.now.states + most_ways) }
+    ensures any_speed { IfOk result (λ explored. explored.is_at_any_speed ≡ true
+        → NeverAtAnySpeed setting.now.allowed setting.now.target start.now) }
 {
     let guesses = Guesses::new(alloc)?;
     let mut last = search_once(alloc, start, setting, bounds, watcher, order, seen, guesses)?;
@@ -372,6 +545,8 @@ fn search_once<W: Watcher>(
     ensures ends { IfOk result (λ attempt. EndsBy (bounds.now.steps - 1)
         attempt.explored.outcome) }
     ensures few { IfOk result (λ attempt. attempt.explored.states ≤ bounds.now.states + most_ways) }
+    ensures any_speed { IfOk result (λ attempt. attempt.explored.is_at_any_speed ≡ true
+        → NeverAtAnySpeed setting.now.allowed setting.now.target start.now) }
 {
     let finder = Finder::new(alloc, order, seen, guesses);
     let end = finder.end(bounds.steps);
@@ -388,8 +563,8 @@ fn search_once<W: Watcher>(
     let finder = search.finder;
     Ok(Attempt {
         explored,
-        free: setting.free && !finder.is_timer_set,
-        is_refuted: finder.is_refuted(),
+        free: setting.free && !(finder.is_timer_set && setting.is_strict),
+        is_refuted: finder.is_refuted(setting),
         guesses: finder.guesses.again(),
     })
 }
@@ -425,6 +600,8 @@ fn covered_by(setting: &Setting, members: &Members) -> u64
         members.now.start result }
     ensures stays { StaysAmong setting.now.rate setting.now.allowed members.now.executed
         members.now.start result }
+    ensures any_speed { setting.now.free ≡ true → AvoidsAtAnySpeed setting.now.allowed
+        setting.now.target members.now.start result }
 {
     alike_steps();
     members.covered()
@@ -470,6 +647,8 @@ fn explored_by(
     ensures first { bounds.now.is_deep ≡ false → IsFirst result.outcome }
     ensures ends { EndsBy (bounds.now.steps - 1) result.outcome }
     ensures states { result.states ≡ length search.now.members.steps.items }
+    ensures any_speed { result.is_at_any_speed ≡ true → NeverAtAnySpeed setting.now.allowed
+        setting.now.target search.now.members.start }
 {
     let members = &search.members;
     if members.limit == 0 {
@@ -477,7 +656,10 @@ fn explored_by(
     }
     let covered = covered_by(setting, members);
     if covered + 1 == END {
-        return Explored::after(search, Outcome::Never, false);
+        return Explored {
+            is_at_any_speed: setting.free,
+            ..Explored::after(search, Outcome::Never, false)
+        };
     }
     let covered = told_up_to(setting, members, covered, bounds.last());
     match found_after(alloc, setting, members, &search.finder, covered, bounds) {

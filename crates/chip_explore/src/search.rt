@@ -4,7 +4,7 @@ ghost use Rattle.std.specs.Prelude.{◌≡◌, ◌<◌, ◌≤◌, ◌+◌, ◌-
 ghost use Rattle.chip_machine.specs.Step.{step_of};
 ghost use Rattle.chip_machine.specs.Step as spec;
 ghost use Rattle.chip_explore.specs.Answers.{most_ways};
-ghost use Rattle.chip_explore.specs.inner.Cover.{forgotten_at, view_of, Holds, HasChoices, Goes, IsFine, Leads, Safe};
+ghost use Rattle.chip_explore.specs.inner.Cover.{forgotten_at, view_of, Holds, HasChoices, Goes, HasValues, HasWays, IsFine, Leads, LeadsAs, Safe};
 
 use crate::backdrop::Backdrops;
 use crate::finder::{Finder, Origin, Turn};
@@ -16,6 +16,7 @@ use crate::members::Members;
 use crate::setting::Setting;
 use crate::sum::Sums;
 use crate::watcher::Watcher;
+use crate::ways::{Reading, Ways};
 use chip_machine::Forgotten;
 use std::alloc::AllocError;
 
@@ -73,7 +74,7 @@ impl Search {
             ≤ length self.old.members.steps.items + 1 }
     {
         let forgotten = self.runner.forgotten;
-        let parts = self.finder.parts_to_forget(&self.runner);
+        let parts = self.finder.parts_to_forget(setting, &self.runner);
         if !forgotten.is_within(parts) {
             self.members.lower_limit(setting, step);
             self.refute(origin, forgotten.without(parts));
@@ -143,10 +144,6 @@ impl Search {
                 self.members.lower_limit(setting, leg.step);
                 self.finder.hit = Some(origin);
             }
-            End::TimerSet => {
-                self.members.lower_limit(setting, leg.step);
-                self.finder.is_timer_set = true;
-            }
             End::Halted => {
                 if let Some(cause) = self.runner.machine.stopped() {
                     self.finder.seen.note(cause, leg.step);
@@ -213,6 +210,81 @@ impl Search {
         Ok(true)
     }
 
+    /// Goes on from the state after the next step of one, which sets a register to the delay timer,
+    /// where that has a value: the answer is whether that was possible. The search speaks of the steps
+    /// below that one alone where it was not.
+    fn follow_as(
+        &mut self,
+        setting: &Setting,
+        place: usize,
+        step: u64,
+        read: Reading,
+        value: u8,
+    ) -> Result<bool, AllocError>
+        requires rate { 0 < setting.now.rate }
+        requires holds { Holds setting.now self.old.members }
+        requires kept { place < length self.old.members.steps.items }
+        requires in_range { step < 2 ^ 64 - 1 }
+        requires reads { HasValues setting.now (forgotten_at (view_of self.old.members) place)
+            ((view_of self.old.members).member place) read }
+        ensures goes { Goes setting.now self.old.members self.new.members }
+        ensures leads { IfOk result (λ answer. IsTrue answer
+            → LeadsAs setting.now self.old.members self.new.members place step value) }
+        ensures few { length self.new.members.steps.items
+            ≤ length self.old.members.steps.items + 1 }
+    {
+        let runner = &mut self.runner;
+        let origin = self.finder.origin(place, step, 0);
+        if !self.members.load_read(
+            place,
+            read.register,
+            value,
+            &mut runner.machine,
+            &mut runner.rows,
+        )? {
+            self.members.lower_limit(setting, step);
+            return Ok(false);
+        }
+        runner.forgotten = read.after;
+        self.run_on(setting, step + 1, origin)?;
+        Ok(true)
+    }
+
+    /// Does that with each value up to the bound, unless too many states are kept: the answer is whether
+    /// that was possible.
+    fn follow_values(
+        &mut self,
+        setting: &Setting,
+        place: usize,
+        step: u64,
+        read: Reading,
+        most_states: usize,
+    ) -> Result<bool, AllocError>
+        requires rate { 0 < setting.now.rate }
+        requires holds { Holds setting.now self.old.members }
+        requires kept { place < length self.old.members.steps.items }
+        requires in_range { step < 2 ^ 64 - 1 }
+        requires reads { HasValues setting.now (forgotten_at (view_of self.old.members) place)
+            ((view_of self.old.members).member place) read }
+        requires few { length self.old.members.steps.items ≤ most_states }
+        ensures goes { Goes setting.now self.old.members self.new.members }
+        ensures leads { IfOk result (λ answer. IsTrue answer
+            → (value : ℕ) → value ≤ read.bound
+            → LeadsAs setting.now self.old.members self.new.members place step value) }
+        ensures few { length self.new.members.steps.items ≤ most_states + 1 }
+    {
+        for value in 0..u16::from(read.bound) + 1 {
+            if self.members.steps.len() > most_states {
+                self.members.lower_limit(setting, step);
+                return Ok(false);
+            }
+            if !self.follow_as(setting, place, step, read, value as u8)? {
+                return Ok(false);
+            }
+        }
+        Ok(true)
+    }
+
     /// Makes the step of a state with each of these keys down alone, and goes on from there: the
     /// answer is whether that was possible.
     fn follow_each(
@@ -241,20 +313,20 @@ impl Search {
         Ok(true)
     }
 
-    /// Which keys the next step of a state can tell apart, unless it is not loaded, has drawn as many
-    /// random bytes as are counted, or its next step reads something that is forgotten.
-    fn choices(
+    /// In which ways the next step of a state goes, unless it is not loaded, has drawn as many random
+    /// bytes as are counted, or its next step reads something that is forgotten.
+    fn ways(
         &mut self,
         setting: &Setting,
         place: usize,
         step: u64,
-    ) -> Result<Option<u16>, AllocError>
+    ) -> Result<Option<Ways>, AllocError>
         requires holds { Holds setting.now self.old.members }
         requires kept { place < length self.old.members.steps.items }
         ensures same { self.new.members ≡ self.old.members }
-        ensures choices { IfOk result (λ answer. IfSome answer
-            (λ choices. HasChoices setting.now (forgotten_at (view_of self.old.members) place)
-            ((view_of self.old.members).member place) choices)) }
+        ensures ways { IfOk result (λ answer. IfSome answer
+            (λ ways. HasWays setting.now (forgotten_at (view_of self.old.members) place)
+            ((view_of self.old.members).member place) ways)) }
     {
         let runner = &mut self.runner;
         if !self
@@ -268,7 +340,14 @@ impl Search {
             .machine
             .forgotten_after(self.members.forgotten[place], 0)
         {
-            Ok(_) => Ok(Some(runner.machine.key_choices(setting.allowed))),
+            Ok(after) => match setting.timed_register(&runner.machine) {
+                Some(register) => Ok(Some(Ways::Values(Reading {
+                    register,
+                    bound: runner.machine.delay(),
+                    after,
+                }))),
+                None => Ok(Some(Ways::Keys(runner.machine.key_choices(setting.allowed)))),
+            },
             Err(read) => {
                 let origin = self.finder.origin(place, step, 0);
                 self.refute(origin, read);
@@ -277,23 +356,24 @@ impl Search {
         }
     }
 
-    /// Makes the next step of a state with each choice of keys, unless the limit is met.
-    pub(crate) fn take_up(&mut self, setting: &Setting, place: usize) -> Result<(), AllocError>
+    /// Makes the next step of a state with each choice of some keys, and notes that it was taken up.
+    fn take_up_keys(
+        &mut self,
+        setting: &Setting,
+        place: usize,
+        step: u64,
+        choices: u16,
+    ) -> Result<(), AllocError>
         requires rate { 0 < setting.now.rate }
         requires holds { Holds setting.now self.old.members }
         requires kept { place < length self.old.members.steps.items }
+        requires in_range { step < 2 ^ 64 - 1 }
+        requires choices { HasChoices setting.now (forgotten_at (view_of self.old.members) place)
+            ((view_of self.old.members).member place) choices }
         ensures goes { Goes setting.now self.old.members self.new.members }
         ensures few { length self.new.members.steps.items
             ≤ length self.old.members.steps.items + most_ways }
     {
-        let step = self.members.step(place);
-        if step >= self.members.limit {
-            return Ok(());
-        }
-        let Some(choices) = self.choices(setting, place, step)? else {
-            self.members.lower_limit(setting, step);
-            return Ok(());
-        };
         if !self.follow(setting, place, step, 0)? {
             return Ok(());
         }
@@ -304,6 +384,83 @@ impl Search {
             self.members.close(setting, place);
         }
         Ok(())
+    }
+
+    /// Does so with each value of the delay timer.
+    fn take_up_values(
+        &mut self,
+        setting: &Setting,
+        place: usize,
+        step: u64,
+        read: Reading,
+        most_states: usize,
+    ) -> Result<(), AllocError>
+        requires rate { 0 < setting.now.rate }
+        requires holds { Holds setting.now self.old.members }
+        requires kept { place < length self.old.members.steps.items }
+        requires in_range { step < 2 ^ 64 - 1 }
+        requires reads { HasValues setting.now (forgotten_at (view_of self.old.members) place)
+            ((view_of self.old.members).member place) read }
+        requires few { length self.old.members.steps.items ≤ most_states }
+        ensures goes { Goes setting.now self.old.members self.new.members }
+        ensures few { length self.new.members.steps.items ≤ most_states + 1 }
+    {
+        if !self.follow_values(setting, place, step, read, most_states)? {
+            return Ok(());
+        }
+        if self.members.step(place) == step {
+            self.members.close(setting, place);
+        }
+        Ok(())
+    }
+
+    /// Makes the next step of a state in each of its ways, unless the limit is met.
+    pub(crate) fn take_up(
+        &mut self,
+        setting: &Setting,
+        place: usize,
+        most_states: usize,
+    ) -> Result<(), AllocError>
+        requires rate { 0 < setting.now.rate }
+        requires holds { Holds setting.now self.old.members }
+        requires kept { place < length self.old.members.steps.items }
+        requires few { length self.old.members.steps.items ≤ most_states }
+        ensures goes { Goes setting.now self.old.members self.new.members }
+        ensures few { length self.new.members.steps.items ≤ most_states + most_ways }
+    {
+        let step = self.members.step(place);
+        if step >= self.members.limit {
+            return Ok(());
+        }
+        match self.ways(setting, place, step)? {
+            Some(Ways::Keys(choices)) => self.take_up_keys(setting, place, step, choices),
+            Some(Ways::Values(read)) => {
+                self.take_up_values(setting, place, step, read, most_states)
+            }
+            None => {
+                self.members.lower_limit(setting, step);
+                Ok(())
+            }
+        }
+    }
+
+    /// Takes up the state of a turn, unless that was done.
+    fn take_turn(
+        &mut self,
+        setting: &Setting,
+        turn: Turn,
+        most_states: usize,
+    ) -> Result<(), AllocError>
+        requires rate { 0 < setting.now.rate }
+        requires holds { Holds setting.now self.old.members }
+        requires few { length self.old.members.steps.items ≤ most_states }
+        ensures goes { Goes setting.now self.old.members self.new.members }
+        ensures few { length self.new.members.steps.items ≤ most_states + most_ways }
+    {
+        if !self.members.is_open(turn.place, turn.step) {
+            return Ok(());
+        }
+        self.take_up(setting, turn.place, most_states)
     }
 
     /// About how many bytes the states take.
@@ -331,8 +488,8 @@ impl Search {
             let Some(turn) = self.finder.next() else {
                 return Ok(());
             };
-            let place = turn.place;
-            if self.finder.is_refuted() || self.members.states.len() > most_states {
+            let states = self.members.states.len();
+            if self.finder.is_left(setting, states, turn.step) || states > most_states {
                 return Ok(());
             }
             if turn.step >= self.members.limit {
@@ -343,9 +500,7 @@ impl Search {
                 told = done;
                 watcher.note(turn.step, self.members.states.len(), self.room());
             }
-            if self.members.is_open(place, turn.step) {
-                self.take_up(setting, place)?;
-            }
+            self.take_turn(setting, turn, most_states)?;
         }
         Ok(())
     }

@@ -42,6 +42,24 @@ impl Seen {
         }
     }
 
+    /// Whether a cause was met.
+    pub(crate) fn is_any(&self) -> bool {
+        self.first_steps.iter().any(|step| step.is_some())
+    }
+
+    /// Whether each cause that was met in another search was met in this one too, which will meet none
+    /// at a step below this one any more.
+    pub(crate) fn has_all(&self, awaited: &Seen, step: u64) -> bool {
+        for cause in 0..8 {
+            match (awaited.first_steps[cause], self.first_steps[cause]) {
+                (Some(_), Some(met)) if met <= step => {}
+                (Some(_), _) => return false,
+                (None, _) => {}
+            }
+        }
+        true
+    }
+
     /// The least step at which a search met a cause, if it did.
     pub fn first_step(&self, cause: Stop) -> Option<u64>
         ensures { result ≡ slice_index_or self.now.first_steps (stop_number cause) None }

@@ -1,9 +1,13 @@
 //! What a search is about.
 
-ghost use Rattle.std.specs.Prelude.{◌≡◌, ◌<◌, ◌-◌, ◌^◌};
+ghost use Rattle.std.specs.Prelude.{◌≡◌, ◌<◌, ◌-◌, ◌^◌, IfSome};
 ghost use Rattle.chip_explore.specs.inner.Cover.{phase, tick_at};
+ghost use Rattle.chip_explore.specs.inner.Delays.{timed_register};
 
+use crate::seen::Seen;
 use crate::target::Target;
+use crate::ways::delay_register;
+use chip_machine::Machine;
 
 /// What a search is about, and how it takes the timers.
 #[derive(Clone, Copy)]
@@ -13,8 +17,15 @@ pub(crate) struct Setting {
     /// The keys that may be down, key k at bit k.
     pub(crate) allowed: u16,
     pub(crate) target: Target,
-    /// No state has a delay timer above 0, so the ticks change nothing.
+    /// The timers may tick after any step: the delay timer of a state is a bound of that of a run, and
+    /// no step of the search ticks.
     pub(crate) free: bool,
+    /// A state whose delay timer is above 0 refutes that.
+    pub(crate) is_strict: bool,
+    /// How many states are kept at most where the ticks are free and a delay timer was above 0.
+    pub(crate) most_timed: usize,
+    /// The search may end once it has met these causes, if there are any.
+    pub(crate) awaited: Seen,
 }
 
 impl Setting {
@@ -40,6 +51,19 @@ impl Setting {
             false
         } else {
             (step + 1) % u64::from(self.rate) == 0
+        }
+    }
+
+    /// The register that the next step of a machine sets to the delay timer, where that may have one
+    /// of several values.
+    pub(crate) fn timed_register(&self, machine: &Machine) -> Option<u8>
+        ensures value { result ≡ timed_register self.now machine.now }
+        ensures range { IfSome result (λ register. register < 16) }
+    {
+        if self.free && machine.delay() != 0 {
+            delay_register(machine)
+        } else {
+            None
         }
     }
 }

@@ -53,6 +53,7 @@ rule_by argument.AsImage = line.as_image
 rule_by argument.SearchSteps = line.search_steps
 rule_by argument.States = line.states
 rule_by argument.Deep = line.deep
+rule_by argument.AnySpeed = line.any_speed
 rule_by argument.Want = line.want
 rule_by argument.AllowedKeys = line.allowed_keys
 rule_by argument.KeysTo = line.keys_to

@@ -1,8 +1,8 @@
 -- What a search keeps, and what is known of it.
 -- Source: own.
 --     phase           the part of a step's number on which the ticks depend
---     tick_at         whether the timers tick in a step of the search: where the timers are free,
---                     as the delay timer stays at 0, they never do
+--     tick_at         whether the timers tick in a step of the search: where the ticks are free, they
+--                     never do, and the delay timer of a state is a bound
 --     View            the states that are kept, each with the parts that are forgotten of it and
 --                     the least step at which it was reached, the step below which the search speaks
 --                     of, and the addresses at which it saw steps made
@@ -10,15 +10,15 @@
 --     IsFine          a state that doesn't meet the target, and has stopped or is at an address that
 --                     is noted
 --     AreWithin       some parts are all among others
---     Safe            from a state at a step on, of which some parts are forgotten, steps that don't
---                     tell keys apart and read nothing that is forgotten lead to the limit, to a
---                     stop, or to a state that is kept, past no state that meets the target, and at
---                     no address that isn't noted
+--     Safe            from a state at a step on, of which some parts are forgotten, steps that tell
+--                     neither keys nor values of the delay timer apart and read nothing that is
+--                     forgotten lead to the limit, to a stop, or to a state that is kept, past no
+--                     state that meets the target, and at no address that isn't noted
 --     IsTaken         so does each step from a state that is kept
 --     Extends         a view knows more than another
 --     Holds           all is safe from each state that is closed on
 --     Goes            a call keeps that, and its view extends the one before
-use Rattle.std.specs.Prelude.{◌≡◌, ℕ, zero, suc, ◌+◌, ◌-◌, ◌%◌, ◌^◌, ◌<◌, ◌≤◌, ◌⊎◌, Bool, true, false, Some, None, List, length, is_some, slice_index, slice_index_or, if◌then◌else◌}
+use Rattle.std.specs.Prelude.{◌≡◌, ℕ, zero, suc, ◌+◌, ◌-◌, ◌%◌, ◌^◌, ◌<◌, ◌≤◌, ◌⊎◌, Bool, true, false, Option, Some, None, List, length, is_some, slice_index, slice_index_or, if◌then◌else◌}
 use Rattle.chip_machine.specs.Block.{ticks}
 use Rattle.chip_machine.specs.Choices.{IsWithin, Represents}
 use Rattle.chip_machine.specs.Forgotten.{has_part, IsUnread, IsForgottenAfter}
@@ -30,10 +30,14 @@ use Rattle.chip_replay.specs.Run.{run}
 use Rattle.chip_explore.specs.Executed.{is_among, is_at_one}
 use Rattle.chip_explore.specs.Target.{met_in}
 use Rattle.chip_explore.specs.declared.leg.End.{End}
-use Rattle.chip_explore.specs.declared.leg.End.TheVariants.{Past, Wanted, TimerSet, Halted, Joined, Read}
+use Rattle.chip_explore.specs.declared.leg.End.TheVariants.{Past, Wanted, Halted, Joined, Read}
 use Rattle.chip_explore.specs.inner.Kept.{state_at}
+use Rattle.chip_explore.specs.inner.Delays.{read_as, timed_register}
 use Rattle.chip_explore.specs.declared.members.Members.{Members}
 use Rattle.chip_explore.specs.declared.setting.Setting.{Setting}
+use Rattle.chip_explore.specs.declared.ways.Reading.{Reading}
+use Rattle.chip_explore.specs.declared.ways.Ways.{Ways}
+use Rattle.chip_explore.specs.declared.ways.Ways.TheVariants.{Keys, Values}
 use Rattle.chip_explore.specs.declared.target.Met.{Met}
 
 abbrev pub phase : Setting → ℕ → ℕ
@@ -54,13 +58,13 @@ Grows early late = (pc : ℕ) → is_among early pc ≡ true → is_among late p
 
 pub record IsFine (p : Setting) (executed : List Bool) (s : State) : Type 0 where
   pub avoided : met_in p.target s ≡ None
-  pub calm : p.free ≡ true → s.core.delay ≡ 0
   pub noted : is_at_one executed s ≡ true
 
--- the next step is the same whatever allowed keys are down
+-- the next step is the same whatever allowed keys are down, and whatever the delay timer has come to
 pub record Moves (p : Setting) (executed : List Bool) (s : State) : Type 0 where
   pub fine : IsFine p executed s
   pub same : Represents p.allowed 0 s
+  pub untimed : timed_register p s ≡ None
   pub drawn : s.core.draws < 2 ^ 64 - 1
 
 abbrev pub AreWithin : (parts others : ℕ) → Type 0
@@ -100,10 +104,16 @@ pub record GoesTo (p : Setting) (v : View) (forgotten : ℕ) (s : State) (next :
   pub is_after : IsForgottenAfter forgotten s next.core.pc after
   pub safe : Safe p v after next (t + 1)
 
--- likewise the next step with each allowed key script
-abbrev pub GoesOn : Setting → View → (forgotten : ℕ) → State → ℕ → Type 0
-GoesOn p v forgotten s t =
+-- likewise the next step with each allowed key script, or where it reads the delay timer with each
+-- value up to the bound
+abbrev pub GoesBy : (register : Option ℕ) → Setting → View → (forgotten : ℕ) → State → ℕ → Type 0
+GoesBy None p v forgotten s t =
     (keys : ℕ) → IsWithin p.allowed keys → GoesTo p v forgotten s (step_of s keys (tick_at p t)) t
+GoesBy (Some register) p v forgotten s t =
+    (value : ℕ) → value ≤ s.core.delay → GoesTo p v forgotten s (read_as value s) t
+
+abbrev pub GoesOn : Setting → View → (forgotten : ℕ) → State → ℕ → Type 0
+GoesOn p v forgotten s t = GoesBy (timed_register p s) p v forgotten s t
 
 pub record IsTaken (p : Setting) (v : View) (place : ℕ) : Type 0 where
   pub drawn : (v.member place).core.draws < 2 ^ 64 - 1
@@ -150,6 +160,21 @@ pub record HasChoices (p : Setting) (forgotten : ℕ) (s : State) (choices : ℕ
   pub few : choices < 2 ^ 16
   pub all : Represents p.allowed choices s
   pub unread : IsUnread forgotten s
+  pub untimed : timed_register p s ≡ None
+
+-- the next step of a state sets a register to one of the values of the delay timer up to the bound
+pub record HasValues (p : Setting) (forgotten : ℕ) (s : State) (read : Reading) : Type 0 where
+  pub drawn : s.core.draws < 2 ^ 64 - 1
+  pub unread : IsUnread forgotten s
+  pub timed : timed_register p s ≡ Some read.register
+  pub range : read.register < 16
+  pub bound : s.core.delay ≡ read.bound
+  pub is_after : IsForgottenAfter forgotten s (step_of s 0 false).core.pc read.after
+
+-- in which ways the next step of a state goes
+abbrev pub HasWays : (p : Setting) (forgotten : ℕ) (s : State) → Ways → Type 0
+HasWays p forgotten s (Keys choices) = HasChoices p forgotten s choices
+HasWays p forgotten s (Values read) = HasValues p forgotten s read
 
 -- the place holds a state like this one, with the ticks as at this step
 pub record IsAt (p : Setting) (m : Members) (place forgotten : ℕ) (s : State) (t : ℕ) : Type 0 where
@@ -164,11 +189,16 @@ Leads p m n place step keys =
     GoesTo p (view_of n) (forgotten_at (view_of m) place) ((view_of m).member place)
     (step_of ((view_of m).member place) keys (tick_at p step)) step
 
+-- likewise where it sets a register to a value of the delay timer
+abbrev pub LeadsAs : Setting → (m n : Members) → (place step value : ℕ) → Type 0
+LeadsAs p m n place step value =
+    GoesTo p (view_of n) (forgotten_at (view_of m) place) ((view_of m).member place)
+    (read_as value ((view_of m).member place)) step
+
 -- why some steps in a row ended at a state
 abbrev pub IsEnd : Setting → List Bool → ℕ → State → ℕ → End → Type 0
 IsEnd p executed limit s t Past = limit ≤ t
 IsEnd p executed limit s t Wanted = Unit {0}
-IsEnd p executed limit s t TimerSet = Unit {0}
 IsEnd p executed limit s t Halted = IsFine p executed s × (is_some s.core.stopped ≡ true)
 IsEnd p executed limit s t Joined = IsFine p executed s
 IsEnd p executed limit s t Read = Unit {0}

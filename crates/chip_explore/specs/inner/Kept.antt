@@ -3,8 +3,10 @@
 --     with_byte       a state with a byte in its memory
 --     with_row        rows of pixels with one in the place of another
 --     parts_of        what a state that is kept has beside its memory and its screen
---     state_of        the state that a base has with the parts, the bytes and the rows of one that
---                     is kept
+--     parts_read      some parts after a step that set a register to a value of the delay timer
+--     state_with      the state that a base has with some parts, and the bytes and the rows of a
+--                     backdrop
+--     state_of        likewise with the parts, the bytes and the rows of one that is kept
 --     nth             the item at a place, if there is one
 --     state_at        the state that is kept at a place, or that of the base where there is none
 use Rattle.std.specs.Prelude.{ℕ, zero, suc, ◌+◌, ◌*◌, ◌^◌, nat_lt, List, [], ◌∷◌, Option, Some, None, fold, length, slice_set, if◌then◌else◌}
@@ -12,10 +14,12 @@ use Rattle.chip_machine.specs.Limits.{MEMORY_BYTES}
 use Rattle.chip_machine.specs.Restored.{with_parts, with_screen}
 use Rattle.chip_machine.specs.State.{State, with_memory}
 use Rattle.chip_machine.specs.declared.parts.Parts.{Parts}
+use Rattle.chip_explore.specs.declared.backdrop.Backdrop.{Backdrop}
 use Rattle.chip_explore.specs.declared.backdrop.BytePatch.{BytePatch}
 use Rattle.chip_explore.specs.declared.backdrop.RowPatch.{RowPatch}
 use Rattle.chip_explore.specs.declared.kept.Base.{Base}
 use Rattle.chip_explore.specs.declared.kept.Kept.{Kept}
+use Rattle.chip_explore.specs.inner.Delays.{bound_after}
 
 abbrev pub with_byte : State → BytePatch → State
 with_byte s patch =
@@ -41,10 +45,21 @@ parts_of kept =
       high = kept.backdrop.value.high;
     }
 
+abbrev pub parts_read : (register value : ℕ) → Parts → Parts
+parts_read register value parts =
+    record parts {
+      registers = slice_set parts.registers register value;
+      pc = parts.pc + 2;
+      delay = bound_after value parts.delay;
+    }
+
+abbrev pub state_with : Parts → Base → Backdrop → State
+state_with parts base backdrop =
+    with_screen (fold with_row base.rows.items backdrop.rows.items)
+    (fold with_byte (with_parts parts base.machine) backdrop.bytes.items)
+
 abbrev pub state_of : Base → Kept → State
-state_of base kept =
-    with_screen (fold with_row base.rows.items kept.backdrop.value.rows.items)
-    (fold with_byte (with_parts (parts_of kept) base.machine) kept.backdrop.value.bytes.items)
+state_of base kept = state_with (parts_of kept) base kept.backdrop.value
 
 abbrev pub nth : List Kept → ℕ → Option Kept
 nth [] j = None

@@ -14,7 +14,8 @@ returns c = λ named. record {
   place = first_is (found_of c.args.found.now) (codes "reach") _ c.get_str-4.ensures;
   allowed_keys = first_is (found_of c.args.found.now) (codes "keys-allowed") _ c.get_str-5.ensures;
   keys_to = first_is (found_of c.args.found.now) (codes "keys-to") _ c.get_str-6.ensures;
-  is_covering = flag_is (found_of c.args.found.now) (codes "cover") c.get_flag-3.result c.get_flag-3.ensures.value c.get_flag-3.ensures.other c.get_flag-3.ensures.none;
-  is_progress_shown = flag_is (found_of c.args.found.now) (codes "progress") c.get_flag-4.result c.get_flag-4.ensures.value c.get_flag-4.ensures.other c.get_flag-4.ensures.none;
+  is_any_speed = flag_is (found_of c.args.found.now) (codes "any-speed") c.get_flag-3.result c.get_flag-3.ensures.value c.get_flag-3.ensures.other c.get_flag-3.ensures.none;
+  is_covering = flag_is (found_of c.args.found.now) (codes "cover") c.get_flag-4.result c.get_flag-4.ensures.value c.get_flag-4.ensures.other c.get_flag-4.ensures.none;
+  is_progress_shown = flag_is (found_of c.args.found.now) (codes "progress") c.get_flag-5.result c.get_flag-5.ensures.value c.get_flag-5.ensures.other c.get_flag-5.ensures.none;
   settings = c.setting_arguments.ensures named;
 }

@@ -7,7 +7,7 @@ returns-clause-searched g c =
     let question = c.args.question.now in
     search_printed g.O.Write.contents c.args.output.now c.print.new.output c.args.arguments.now c.args.source.now.lines question.rate question.allowed
     question.target c.args.start.now c.explore-explored.result c.deref.result.now c.in_ok-text.ensures.0 c.search_ending.result c.print.result
-    c.explore-explored.ensures.answers c.explore-explored.ensures.executed (c.deref.ensures.value ∙ c.in_ok-text.ensures.1) c.search_ending.ensures
+    c.explore-explored.ensures.answers c.explore-explored.ensures.executed c.explore-explored.ensures.any_speed (c.deref.ensures.value ∙ c.in_ok-text.ensures.1) c.search_ending.ensures
     c.print.ensures
 
 pub returns-clause-written : goal.returns-clause-written

@@ -1,6 +1,7 @@
 use Rattle.std.proofs.Common.{◌≡◌, ℕ, true, sym, subst, ◌∙◌}
 use Rattle.chip_machine.specs.State.{State, IsProper}
 use Rattle.chip_explore.specs.Executed.{is_at_one}
+use Rattle.chip_explore.specs.Speeds.{NeverAtAnySpeed}
 use Rattle.chip_explore.specs.inner.Cover.{Safe, view_of}
 use Rattle.chip_explore.proofs.Growth.{still_noted}
 use Rattle.chip_explore.proofs.question.search_once.Goals as goal
@@ -23,3 +24,9 @@ explored_by-explored-requires-clause-noted g c =
 
 pub explored_by-explored-requires-clause-proper : goal.explored_by-explored-requires-clause-proper
 explored_by-explored-requires-clause-proper g c = subst (λ (s : State). IsProper s) (sym c.search_all.ensures.goes.start) c.in_ok-new.ensures.proper
+
+pub returns-clause-any_speed : goal.returns-clause-any_speed
+returns-clause-any_speed g c = λ told.
+    let p = c.args.setting.now in
+    let start = c.search_all.ensures.goes.start ∙ c.in_ok-new.ensures.start in
+    subst (λ (s : State). NeverAtAnySpeed p.allowed p.target s) start (c.explored_by-explored.ensures.any_speed told)

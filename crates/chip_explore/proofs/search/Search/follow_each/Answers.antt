@@ -57,3 +57,11 @@ loop-key-preserved c =
             leads = subst (λ (x : Members). Followed p l place step choices (key + 1) x) (sym is) all;
           })
     ]
+
+pub returns-then-not-branch-clause-goes : goal.returns-then-not-branch-clause-goes
+returns-then-not-branch-clause-goes c =
+    goes_more c.args.setting.now c.args.self.now.members c.loop-key.self.members c.follow.new.self.members
+    c.loop-key.invariant.goes c.in_ok-follow.ensures.goes
+
+pub returns-clause-leads : goal.returns-clause-leads
+returns-clause-leads c = λ _ key below up. c.loop-key.invariant.leads key (omega arith) up

@@ -1,6 +1,6 @@
 use Rattle.std.proofs.Common.{inl}
 use Rattle.chip_explore.specs.inner.Cover.{view_of}
-use Rattle.chip_explore.proofs.Growth.{goes_noted}
+use Rattle.chip_explore.proofs.Growth.{goes_more, goes_noted}
 use Rattle.chip_explore.proofs.search.Search.run_on.Goals as goal
 
 pub lower_limit-requires : goal.lower_limit-requires
@@ -10,11 +10,6 @@ lower_limit-requires c =
 
 pub lower_limit-requires-in-Wanted : goal.lower_limit-requires-in-Wanted
 lower_limit-requires-in-Wanted c =
-    let noted = goes_noted c.args.setting.now c.args.self.now.members c.requires.holds c.run-leg.new.executed c.run-leg.ensures.grows in
-    record { holds = noted.holds }
-
-pub lower_limit-requires-in-TimerSet : goal.lower_limit-requires-in-TimerSet
-lower_limit-requires-in-TimerSet c =
     let noted = goes_noted c.args.setting.now c.args.self.now.members c.requires.holds c.run-leg.new.executed c.run-leg.ensures.grows in
     record { holds = noted.holds }
 
@@ -39,3 +34,10 @@ pub lower_limit-requires-in-Read : goal.lower_limit-requires-in-Read
 lower_limit-requires-in-Read c =
     let noted = goes_noted c.args.setting.now c.args.self.now.members c.requires.holds c.run-leg.new.executed c.run-leg.ensures.grows in
     record { holds = noted.holds }
+
+pub returns-then-is_err-clause-goes : goal.returns-then-is_err-clause-goes
+returns-then-is_err-clause-goes c =
+    let p = c.args.setting.now in
+    let m = c.args.self.now.members in
+    let noted = goes_noted p m c.requires.holds c.run-leg.new.executed c.run-leg.ensures.grows in
+    goes_more p m _ _ (goes_more p m _ _ noted c.join-joined.ensures.goes) c.lower_limit-then-is_err.ensures.goes

@@ -1,0 +1,270 @@
+-- Steps of a state with another value of the delay timer, and steps in which the timers tick.
+use Rattle.std.proofs.Common.{◌≡◌, ℕ, ◌+◌, ◌-◌, ◌*◌, ◌%◌, ◌≤◌, ◌==◌, ◌&&◌, Bool, true, false, not, List, length, Option, Some, None, Result, Ok, Err, nat_le, nat_lt, find, is_some, refl, ap, sym, subst, ◌∙◌, take, drop, if◌then◌else◌, arith}
+use Rattle.std.proofs.lemmas.Bool.{eqb-true}
+use Rattle.std.specs.List.{range_with_len}
+use Rattle.std.specs.FinSet as set
+use Rattle.chip_lang.specs.Decoding.{decode_of}
+use Rattle.chip_lang.specs.declared.instr.Instr.{Instr}
+use Rattle.chip_lang.specs.declared.instr.Instr.TheVariants as row
+use Rattle.chip_machine.specs.declared.limits.TheConstants.{FRAMES, LAST_WORD}
+use Rattle.chip_machine.specs.declared.stop.Stop.{Stop}
+use Rattle.chip_machine.specs.declared.stop.Stop.TheVariants as cause
+use Rattle.chip_machine.specs.Forgotten.{next_instr}
+use Rattle.chip_machine.specs.Profile.{quirks}
+use Rattle.chip_machine.specs.Relevant.{Alike, others}
+use Rattle.chip_machine.specs.Scroll.{scrolled_down, scrolled_right, scrolled_left}
+use Rattle.chip_machine.specs.Sprite.{sprite_bytes}
+use Rattle.chip_machine.specs.State.{Core, State, overwrite}
+use Rattle.chip_machine.specs.Step.{Effect, Stops, Changes, Keyed, Loads, Stores, call, effect, effect_at, effect_of_word, is_key_down, is_past, load_flags, next, perform, reg, return, settle, step_of, store_flags, super_only, take_key, with_flag, with_lit, with_reg, with_size, with_sprite, word_at}
+use Rattle.chip_explore.specs.declared.setting.Setting.{Setting}
+use Rattle.chip_explore.specs.inner.Delays.{bound_after, delay_register, read_as, register_read, timed_register, with_delay}
+
+-- ---- a step that doesn't read the delay timer
+
+-- a core is like another one but for a delay timer that is at most that one's
+abbrev Slower : Core → Core → Type 0
+Slower a b = (delay : ℕ) × (delay ≤ a.delay) × (b ≡ (record a { delay = delay }))
+
+abbrev Slow : Effect → Effect → Type 0
+Slow (Stops a) (Stops b) = a ≡ b
+Slow (Changes a) (Changes b) = Slower a b
+Slow (Keyed f) (Keyed g) = (keys : ℕ) → Slower (f keys) (g keys)
+Slow (Loads m f) (Loads n g) = (m ≡ n) × ((bytes : List ℕ) → Slower (f bytes) (g bytes))
+Slow (Stores x a) (Stores y b) = (x ≡ y) × Slower a b
+Slow _ _ = ⊥
+
+module _ (c : Core) (d : ℕ) (low : d ≤ c.delay) where
+  abbrev e : Core
+  e = record c { delay = d }
+
+  either : (test : Bool) (why : Stop) (f : Core → Effect) → Slow (f c) (f e) → Slow (if test then Stops why else f c) (if test then Stops why else f e)
+  either true why f h = refl
+  either false why f h = h
+
+  super_by : (test : Bool) (f : Core → Effect) → Slow (f c) (f e) → Slow (if test then f c else Stops cause.NoInstruction) (if test then f e else Stops cause.NoInstruction)
+  super_by true f h = h
+  super_by false f h = refl
+
+  super : (f : Core → Effect) → Slow (f c) (f e) → Slow (super_only c (f c)) (super_only e (f e))
+  super f h = super_by (quirks c.profile).has_super_instructions f h
+
+  logic : (clears : Bool) (x v : ℕ) → Slower (next (if clears then with_flag x v 0 c else with_reg x v c)) (next (if clears then with_flag x v 0 e else with_reg x v e))
+  logic true x v = (d, low, refl)
+  logic false x v = (d, low, refl)
+
+  waits : (key : Option ℕ) (x : ℕ) → Slower (take_key key x c) (take_key key x e)
+  waits None x = (d, low, refl)
+  waits (Some k) x = (d, low, refl)
+
+  draws : (draws_nothing : Bool) (x y n : ℕ)
+      → Slow (if draws_nothing then Changes (next (with_reg 15 0 c)) else Loads (sprite_bytes c.high n) (λ sprite. next (with_sprite (reg c x) (reg c y) n sprite c)))
+      (if draws_nothing then Changes (next (with_reg 15 0 e)) else Loads (sprite_bytes e.high n) (λ sprite. next (with_sprite (reg e x) (reg e y) n sprite e)))
+  draws true x y n = (d, low, refl)
+  draws false x y n = (refl, λ sprite. (d, low, refl))
+
+  row_slow : (instr : Instr) → register_read (Some instr) ≡ None → Slow (effect instr c) (effect instr e)
+  unfolding effect
+  row_slow (row.ScrollDown n) u = super (λ k. Changes (next (with_lit (scrolled_down n k.lit) k))) (d, low, refl)
+  row_slow row.ClearScreen u = (d, low, refl)
+  row_slow row.Return u = either _ _ (λ k. Changes (return k)) (d, low, refl)
+  row_slow row.ScrollRight u = super (λ k. Changes (next (with_lit (scrolled_right 4 k.lit) k))) (d, low, refl)
+  row_slow row.ScrollLeft u = super (λ k. Changes (next (with_lit (scrolled_left 4 k.lit) k))) (d, low, refl)
+  row_slow row.Exit u = super (λ k. Stops cause.Exit) refl
+  row_slow row.LowSize u = super (λ k. Changes (next (with_size false k))) (d, low, refl)
+  row_slow row.HighSize u = super (λ k. Changes (next (with_size true k))) (d, low, refl)
+  row_slow (row.Jump address) u = (d, low, refl)
+  row_slow (row.Call address) u = either _ _ (λ k. Changes (call address k)) (d, low, refl)
+  row_slow (row.SkipIfByte x byte) u = (d, low, refl)
+  row_slow (row.SkipUnlessByte x byte) u = (d, low, refl)
+  row_slow (row.SkipIfEqual x y) u = (d, low, refl)
+  row_slow (row.LoadByte x byte) u = (d, low, refl)
+  row_slow (row.AddByte x byte) u = (d, low, refl)
+  row_slow (row.Copy x y) u = (d, low, refl)
+  row_slow (row.Or x y) u = logic (quirks c.profile).clears_flag x _
+  row_slow (row.And x y) u = logic (quirks c.profile).clears_flag x _
+  row_slow (row.Xor x y) u = logic (quirks c.profile).clears_flag x _
+  row_slow (row.Add x y) u = (d, low, refl)
+  row_slow (row.Subtract x y) u = (d, low, refl)
+  row_slow (row.ShiftRight x y) u = (d, low, refl)
+  row_slow (row.SubtractFrom x y) u = (d, low, refl)
+  row_slow (row.ShiftLeft x y) u = (d, low, refl)
+  row_slow (row.SkipUnlessEqual x y) u = (d, low, refl)
+  row_slow (row.LoadIndex address) u = (d, low, refl)
+  row_slow (row.JumpOffset address) u = (d, low, refl)
+  row_slow (row.Random x byte) u = (d, low, refl)
+  row_slow (row.Draw x y n) u = draws (not (quirks c.profile).draws_sixteen && n == 0) x y n
+  row_slow (row.SkipIfKey x) u = λ keys. (d, low, refl)
+  row_slow (row.SkipUnlessKey x) u = λ keys. (d, low, refl)
+  row_slow (row.ReadDelay x) u = absurd (cc)
+  row_slow (row.WaitKey x) u = λ keys. waits (find (is_key_down keys) (range_with_len 0 16)) x
+  row_slow (row.SetDelay x) u = (reg c x, omega arith, refl)
+  row_slow (row.SetSound x) u = (d, low, refl)
+  row_slow (row.AddIndex x) u = (d, low, refl)
+  row_slow (row.SmallDigit x) u = (d, low, refl)
+  row_slow (row.BigDigit x) u = super (λ k. Changes (next (record k { index = 80 + 10 * (reg k x % 16) }))) (d, low, refl)
+  row_slow (row.StoreDecimal x) u = (refl, (d, low, refl))
+  row_slow (row.StoreRegisters x) u = (refl, (d, low, refl))
+  row_slow (row.LoadRegisters x) u = (refl, λ bytes. (d, low, refl))
+  row_slow (row.StoreFlags x) u = super (λ k. if nat_le (length k.flags) x then Stops cause.NoFlag else Changes (next (store_flags x k))) (either _ _ (λ k. Changes (next (store_flags x k))) (d, low, refl))
+  row_slow (row.LoadFlags x) u = super (λ k. if nat_le (length k.flags) x then Stops cause.NoFlag else Changes (next (load_flags x k))) (either _ _ (λ k. Changes (next (load_flags x k))) (d, low, refl))
+
+  at_slow : (past : Bool) (word : Option Instr) → register_read (if past then None else word) ≡ None
+      → Slow (if past then Stops cause.PcOutOfRange else effect_of_word word c) (if past then Stops cause.PcOutOfRange else effect_of_word word e)
+  at_slow true word u = refl
+  at_slow false None u = refl
+  at_slow false (Some instr) u = row_slow instr u
+
+-- a state is like another one but for a delay timer that is at most that one's
+pub record Delayed (a b : State) : Type 0 where
+  pub delay : ℕ
+  pub most : delay ≤ a.core.delay
+  pub is : b ≡ with_delay delay a
+
+abbrev Ends : Result State Stop → Result State Stop → Type 0
+Ends (Ok a) (Ok b) = Delayed a b
+Ends (Err a) (Err b) = a ≡ b
+Ends _ _ = ⊥
+
+module _ (s : State) (d : ℕ) (low : d ≤ s.core.delay) (keys : ℕ) where
+  abbrev there : State
+  there = with_delay d s
+
+  past_slow : (past : Bool) (a b : State) → Delayed a b → Ends (if past then Err cause.AddressOutOfRange else Ok a) (if past then Err cause.AddressOutOfRange else Ok b)
+  past_slow true a b h = refl
+  past_slow false a b h = h
+
+  perform_slow : (x y : Effect) → Slow x y → Ends (perform keys s x) (perform keys there y)
+  perform_slow (Stops a) (Stops b) h = h
+  perform_slow (Changes a) (Changes b) h = record { delay = h.0; most = h.1; is = ap (λ (k : Core). let t : State = record s { core = k } in t) h.2 }
+  perform_slow (Keyed f) (Keyed g) h =
+      let k = h keys in
+      record { delay = k.0; most = k.1; is = ap (λ (c : Core). let t : State = record s { core = c } in t) k.2 }
+  perform_slow (Loads m f) (Loads n g) h =
+      let bytes = take m (drop s.core.index s.memory) in
+      let k = h.1 bytes in
+      subst (λ (n : ℕ). Ends (perform keys s (Loads m f)) (perform keys there (Loads n g))) h.0
+      (past_slow (is_past s.core.index m) _ _
+      (record { delay = k.0; most = k.1; is = ap (λ (c : Core). let t : State = record s { core = c } in t) k.2 }))
+  perform_slow (Stores x a) (Stores y b) h =
+      let k = h.1 in
+      subst (λ (y : List ℕ). Ends (perform keys s (Stores x a)) (perform keys there (Stores y b))) h.0
+      (past_slow (is_past s.core.index (length x)) _ _
+      (record { delay = k.0; most = k.1; is = ap (λ (c : Core). let t : State = record { core = c; memory = overwrite s.memory s.core.index x } in t) k.2 }))
+  perform_slow _ _ h = absurd h
+
+  settle_slow : (r q : Result State Stop) → Ends r q → Delayed (settle false s r) (settle false there q)
+  settle_slow (Ok a) (Ok b) h = h
+  settle_slow (Err a) (Err b) h =
+      record { delay = d; most = low; is = ap (λ (why : Stop). let t : State = record there { core = record there.core { stopped = Some why } } in t) (sym h) }
+  settle_slow _ _ h = absurd h
+
+  step_slow : (stopped : Bool) → (if stopped then None else register_read (next_instr s)) ≡ None
+      → Delayed (if stopped then s else settle false s (perform keys s (effect_at s))) (if stopped then there else settle false there (perform keys there (effect_at there)))
+  step_slow true u = record { delay = d; most = low; is = refl }
+  step_slow false u = settle_slow _ _ (perform_slow _ _ (at_slow s.core d low (nat_lt LAST_WORD s.core.pc) (decode_of (word_at s.memory s.core.pc)) u))
+
+  -- such a step does the same with a lesser delay timer, of which it may set another value
+  pub delayed_step : delay_register s ≡ None → Delayed (step_of s keys false) (step_of there keys false)
+  unfolding step_of
+  delayed_step u = step_slow (is_some s.core.stopped) u
+
+-- ---- a step that reads it
+
+module _ (x : ℕ) (c : Core) where
+  abbrev told : Effect
+  told = Changes (next (with_reg x c.delay c))
+
+  row_read : (instr : Instr) → register_read (Some instr) ≡ Some x → effect instr c ≡ told
+  unfolding effect
+  row_read (row.ReadDelay y) u =
+      let same : y ≡ x = cc in
+      ap (λ (n : ℕ). Changes (next (with_reg n c.delay c))) same
+  row_read other u = absurd (cc)
+
+  at_read : (past : Bool) (word : Option Instr) → register_read (if past then None else word) ≡ Some x → (if past then Stops cause.PcOutOfRange else effect_of_word word c) ≡ told
+  at_read true word u = absurd (cc)
+  at_read false None u = absurd (cc)
+  at_read false (Some instr) u = row_read instr u
+
+step_read : (s : State) (x keys : ℕ) (stopped : Bool) → (if stopped then None else register_read (next_instr s)) ≡ Some x
+    → (if stopped then s else settle false s (perform keys s (effect_at s))) ≡ (record s { core = next (with_reg x s.core.delay s.core) })
+step_read s x keys true u = absurd (cc)
+step_read s x keys false u =
+    ap (λ (e : Effect). settle false s (perform keys s e)) (at_read x s.core (nat_lt LAST_WORD s.core.pc) (decode_of (word_at s.memory s.core.pc)) u)
+
+pub read_step : (s : State) (x keys : ℕ) → delay_register s ≡ Some x → step_of s keys false ≡ (record s { core = next (with_reg x s.core.delay s.core) })
+unfolding step_of
+read_step s x keys u = step_read s x keys (is_some s.core.stopped) u
+
+-- it leads to the same place with each value
+pub place_read : (s : State) (x value : ℕ) → delay_register s ≡ Some x → (read_as value s).core.pc ≡ (step_of s 0 false).core.pc
+place_read s x value reads =
+    ap (λ (b : State). b.core.pc) (read_step (with_delay value s) x 0 reads) ∙ sym (ap (λ (b : State). b.core.pc) (read_step s x 0 reads))
+
+-- where it tells values apart, the ticks are free
+timed_by : (free at_zero : Bool) (s : State) (x : ℕ) → (if free && not at_zero then delay_register s else None) ≡ Some x → (free ≡ true) × (delay_register s ≡ Some x)
+timed_by true true s x h = absurd (cc)
+timed_by true false s x h = (refl, h)
+timed_by false at_zero s x h = absurd (cc)
+
+pub timed_reads : (p : Setting) (s : State) (x : ℕ) → timed_register p s ≡ Some x → (p.free ≡ true) × (delay_register s ≡ Some x)
+timed_reads p s x h = timed_by p.free (s.core.delay == 0) s x h
+
+-- ---- a step in which the timers tick
+
+abbrev pub with_timers : (delay sound : ℕ) → State → State
+with_timers delay sound s = record s { core = record s.core { delay = delay; sound = sound } }
+
+pub record Ticked (a b : State) : Type 0 where
+  pub delay : ℕ
+  pub sound : ℕ
+  pub most : delay ≤ a.core.delay
+  pub is : b ≡ with_timers delay sound a
+
+settle_ticked : (tick : Bool) (s : State) (r : Result State Stop) → Ticked (settle false s r) (settle tick s r)
+settle_ticked true s (Ok a) = record { delay = a.core.delay - 1; sound = a.core.sound - 1; most = omega arith; is = refl }
+settle_ticked false s (Ok a) = record { delay = a.core.delay; sound = a.core.sound; most = omega arith; is = refl }
+settle_ticked tick s (Err why) = record { delay = s.core.delay; sound = s.core.sound; most = omega arith; is = refl }
+
+step_ticked : (stopped tick : Bool) (s : State) (keys : ℕ) → Ticked (if stopped then s else settle false s (perform keys s (effect_at s))) (if stopped then s else settle tick s (perform keys s (effect_at s)))
+step_ticked true tick s keys = record { delay = s.core.delay; sound = s.core.sound; most = omega arith; is = refl }
+step_ticked false tick s keys = settle_ticked tick s (perform keys s (effect_at s))
+
+pub ticked_step : (s : State) (keys : ℕ) (tick : Bool) → Ticked (step_of s keys false) (step_of s keys tick)
+unfolding step_of
+ticked_step s keys tick = step_ticked (is_some s.core.stopped) tick s keys
+
+-- ---- states that are alike, with other timers
+
+pub alike_silent : (f delay sound : ℕ) (a b : State) → Alike f (with_timers delay sound a) b → Alike f (with_delay delay a) b
+alike_silent f delay sound a b h =
+    record {
+      proper = record { memory_size = h.proper.memory_size };
+      others = h.others;
+      memory = h.memory;
+      draws = h.draws;
+      count = h.count;
+      registers = h.registers;
+      index = h.index;
+      screen = h.screen;
+    }
+
+pub alike_delayed : (f d : ℕ) (a b : State) → Alike f a b → Alike f (with_delay d a) (with_delay d b)
+alike_delayed f d a b h =
+    record {
+      proper = record { memory_size = h.proper.memory_size };
+      others = ap (λ (o : Core). record o { delay = d }) h.others;
+      memory = h.memory;
+      draws = h.draws;
+      count = h.count;
+      registers = h.registers;
+      index = h.index;
+      screen = h.screen;
+    }
+
+pub within_bound : (value bound : ℕ) → value ≤ bound → value ≤ bound_after value bound
+within_bound value bound low = by_test (value == 0) refl
+  where
+    by_test : (test : Bool) → (value == 0) ≡ test → value ≤ (if test then 0 else bound)
+    by_test true is = let none : value ≡ 0 = eqb-true value 0 is in omega arith
+    by_test false is = low

@@ -1,0 +1,38 @@
+use Rattle.std.proofs.Common.{rules, arith, below_more}
+use Rattle.chip_explore.specs.inner.Cover.{LeadsAs}
+use Rattle.chip_explore.proofs.Growth.{goes_more, has_values_in, reads_after, reads_before}
+use Rattle.chip_explore.proofs.search.Search.follow_values.Goals as goal
+
+pub follow_as-requires-clause-reads : goal.follow_as-requires-clause-reads
+follow_as-requires-clause-reads c =
+    has_values_in c.args.setting.now c.args.self.now.members c.loop-value.self.members c.loop-value.invariant.goes
+    c.args.place c.requires.kept c.args.read c.requires.reads
+
+pub loop-value-preserved : goal.loop-value-preserved
+loop-value-preserved c =
+    let p = c.args.setting.now in
+    let l = c.args.self.now.members in
+    let m = c.loop-value.self.members in
+    let n = c.follow_as.new.self.members in
+    let place = c.args.place in
+    let step = c.args.step in
+    let before = c.loop-value.invariant in
+    let told = c.in_ok-follow_as.ensures in
+    record {
+      goes = goes_more p l m n before.goes told.goes;
+      few = omega arith;
+      leads =
+          below_more (λ value. LeadsAs p l n place step value) c.loop-value.value
+          (λ value below. reads_after p l m n told.goes place step value (before.leads value below))
+          (reads_before p l m n before.goes place step c.loop-value.value c.requires.kept (told.leads (search rules)));
+    }
+
+pub returns-then-len-most_states-clause-goes : goal.returns-then-len-most_states-clause-goes
+returns-then-len-most_states-clause-goes c =
+    goes_more c.args.setting.now c.args.self.now.members c.loop-value.self.members c.lower_limit.new.self
+    c.loop-value.invariant.goes c.lower_limit.ensures.goes
+
+pub returns-then-not-branch-clause-goes : goal.returns-then-not-branch-clause-goes
+returns-then-not-branch-clause-goes c =
+    goes_more c.args.setting.now c.args.self.now.members c.loop-value.self.members c.follow_as.new.self.members
+    c.loop-value.invariant.goes c.in_ok-follow_as.ensures.goes
