@@ -190,6 +190,9 @@ class LayoutTests(PageTests):
                     "const ring = style.outlineStyle !== 'none' && parseFloat(style.outlineWidth) >= 2; const line = one.id === 'split-source' && after.backgroundColor !== 'rgba(0, 0, 0, 0)';"
                     "return ring || line || one === document.body ? '' : one.outerHTML.slice(0, 90); })()"
                 )
+                # what comes after the last part is the browser's own
+                if browser.value("document.activeElement.id") == "overview":
+                    break
                 if told:
                     unseen.append(told)
             assert unseen == [], unseen
