@@ -303,7 +303,7 @@ class PassingThrough(Running):
     def test_a_program_that_hangs(self) -> None:
         self.addCleanup(setattr, page_requests, "ANSWER_SECONDS", page_requests.ANSWER_SECONDS)
         self.opened()
-        page_requests.ANSWER_SECONDS = 0.2
+        page_requests.ANSWER_SECONDS = 5
         reply = self.good("ask", session=1, commands=["mem 0 0 1", "hang"])
         self.assertEqual(reply["answers"], ["00\n"])
         self.assertLess(reply["ended"]["status"], 0)

@@ -119,6 +119,16 @@ class Terminal:
         with contextlib.suppress(ProcessLookupError):
             self._process.send_signal(number)
 
+    def end_by(self, number: int) -> int:
+        """Sends a signal until the program has ended, and returns its status. One that comes just before Python waits for a key is
+        seen with the next one alone."""
+        deadline = time.monotonic() + SECONDS
+        while time.monotonic() < deadline:
+            self.kill(number)
+            with contextlib.suppress(subprocess.TimeoutExpired):
+                return self._process.wait(2)
+        raise AssertionError("the signal has no effect")
+
     def hang_up(self) -> int:
         """The terminal goes away; the status of the shell."""
         os.close(self._master)

@@ -257,8 +257,7 @@ class Beside(AtTerminal):
         terminal.ask("delete 1")
         terminal.send("x")
         terminal.read_until("x")
-        terminal.kill(signal.SIGTERM)
-        self.assertEqual(terminal.wait()[0], 128 + signal.SIGTERM)
+        self.assertEqual(terminal.end_by(signal.SIGTERM), 128 + signal.SIGTERM)
         self.assertEqual(self.kept(), [COUNTER.split("\n", 1)[1]])
 
 
