@@ -161,7 +161,10 @@ class Page {
     this.model.addEventListener('change', ({ detail }) => this.#changed(detail));
     this.viewer.addEventListener('shown', ({ detail }) => this.#show(detail));
     this.viewer.addEventListener('fault', ({ detail }) => this.#tellFault(detail));
-    this.player.addEventListener('change', () => this.#showPlayer());
+    this.player.addEventListener('change', () => {
+      if (this.player.direction !== 0) this.runControl.forget();
+      this.#showPlayer();
+    });
     // another document is no edit of this one
     this.documents.addEventListener('open', () => {
       this.#shown = null;
@@ -214,7 +217,8 @@ class Page {
   #changed(what) {
     if (what === 'text') this.documents.tellState();
     if (what === 'keys') this.keypad.show(this.model.keys, this.model.step);
-    if (what === 'step') this.runControl.forget();
+    // what is told of a play holds while it goes on
+    if (what === 'step' && this.player.direction === 0) this.runControl.forget();
     if (what === 'lastStep') byId('step').max = this.model.lastStep;
     else if (this.#begun && !['breakpoints', 'played', 'look', 'flag'].includes(what)) this.viewer.refresh();
     if (what === 'played' || what === 'keys') this.#tellPlayed();

@@ -97,9 +97,10 @@ class PlayTests(PageTests):
         """It is told before it comes, and what there is then."""
         with self.page(LOOP) as browser:
             last = browser.value("chipbenchPage.model.lastStep")
-            self.step(last - 900)
+            self.step(last - 2400)
+            self.rest()
             browser.click("#play")
-            browser.wait("/^the run ends in [12] s, at step 1,000,000/.test(document.getElementById('run-result').textContent)")
+            browser.wait("/^the run ends in [1-5] s, at step 1,000,000/.test(document.getElementById('run-result').textContent)")
             browser.wait(f"{DIRECTION} === 0")
             assert browser.value("chipbenchPage.model.step") == last
             assert "Play begins anew at step 0" in self.text_of("#run-result"), self.text_of("#run-result")

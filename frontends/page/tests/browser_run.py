@@ -392,8 +392,10 @@ class RunTests(PageTests):
             assert browser.value("chipbenchPage.model.keys.events") == events, (browser.value("chipbenchPage.model.keys.events"), events)
             browser.wait("!document.getElementById('undo-play').disabled")
             browser.click("#undo-play")
-            for _ in range(4):
+            for count in range(1, 5):
+                browser.wait("!document.getElementById('redo-keys').disabled")
                 browser.click("#redo-keys")
+                browser.wait(f"{size} === {count}")
             assert browser.value("chipbenchPage.model.keys.events") == events
             browser.wait("document.getElementById('redo-keys').disabled")
             browser.click("#undo-keys")
