@@ -2,12 +2,12 @@
 
 A small library that a C compiler makes here has an allocation fail; without a compiler there is nothing to try.
 """
-import functools
 import os
 import pathlib
-import shutil
 import subprocess
 import tempfile
+
+from runner.preload import library
 
 SOURCES = {
     "a loop": "LD V0, 1\nLOOP: SE V0, 0\nJP LOOP\nCLS\nSTOP: JP STOP\n",
@@ -44,21 +44,6 @@ void *realloc(void *old, size_t size) {
 """
 
 
-@functools.cache
-def library():
-    """The library, or nothing where there is no compiler."""
-    compiler = shutil.which("cc") or shutil.which("gcc")
-    if not compiler:
-        return None
-    folder = tempfile.TemporaryDirectory(prefix="chipbench-failing-")
-    source = pathlib.Path(folder.name, "failing.c")
-    source.write_text(LIBRARY)
-    made = source.with_suffix(".so")
-    ran = subprocess.run([compiler, "-shared", "-fPIC", "-o", made, source, "-ldl"], capture_output=True, check=False)
-    # The folder goes with the function's value, when Python ends.
-    return (made, folder) if ran.returncode == 0 else None
-
-
 def ran(program, folder, environment):
     """The status, the output and the errors of a check."""
     command = [program.file, "check", "--cover", "source"]
@@ -73,7 +58,7 @@ def wrong_check(program, source):
         whole = ran(program, folder, None)
         failed = 0
         for number in range(1, 100_000):
-            environment = {**os.environ, "LD_PRELOAD": str(library()[0]), "FAILS": str(number)}
+            environment = {**os.environ, "LD_PRELOAD": str(library(LIBRARY)[0]), "FAILS": str(number)}
             found = ran(program, folder, environment)
             if found == (4, b"", NO_MEMORY):
                 failed = number
@@ -86,6 +71,6 @@ def wrong_check(program, source):
 
 
 def checks(program):
-    if library():
+    if library(LIBRARY):
         for name, source in SOURCES.items():
             yield name, lambda source=source: wrong_check(program, source)

@@ -7,14 +7,14 @@ program waits to say so on standard error.
 import array
 import errno
 import fcntl
-import functools
 import os
 import pathlib
-import shutil
 import subprocess
 import tempfile
 import termios
 import time
+
+from runner.preload import library
 
 SOURCE = "".join(f"L{n}: JP L{n}  ; a line of the source\n" for n in range(1700))
 FEW = "image\nregs 1\nfoo\ndel 9999\nregs 2\n"
@@ -58,21 +58,6 @@ ssize_t write(int file, const void *bytes, size_t count) {
 """
 
 
-@functools.cache
-def library():
-    """The library, or nothing where there is no compiler."""
-    compiler = shutil.which("cc") or shutil.which("gcc")
-    if not compiler:
-        return None
-    folder = tempfile.TemporaryDirectory(prefix="chipbench-failing-")
-    source = pathlib.Path(folder.name, "failing.c")
-    source.write_text(LIBRARY)
-    made = source.with_suffix(".so")
-    ran = subprocess.run([compiler, "-shared", "-fPIC", "-o", made, source, "-ldl"], capture_output=True, check=False)
-    # The folder goes with the function's value, when Python ends.
-    return (made, folder) if ran.returncode == 0 else None
-
-
 def ran(program, words, folder, script, is_file, environment):
     """The status, the output and the errors of a run whose script is a file or comes over a pipe."""
     command = [program.file, *words]
@@ -107,7 +92,7 @@ def wrong_writes(program, words, script, is_file, error):
         for number in range(1, 1000):
             environment = {
                 **os.environ,
-                "LD_PRELOAD": str(library()[0]),
+                "LD_PRELOAD": str(library(LIBRARY)[0]),
                 "FAILS": str(number),
                 "ERROR": str(getattr(errno, error)),
                 "AFTER": str(after),
@@ -183,7 +168,7 @@ def wrong_end(program, script, is_file):
 def checks(program):
     for is_file, what in ((True, "from a file"), (False, "over a pipe")):
         yield f"a full pipe, {what}", lambda is_file=is_file: wrong_end(program, MANY, is_file)
-        if not library():
+        if not library(LIBRARY):
             continue
         for name, (words, script) in RUNS.items():
             for error in ERRORS:
