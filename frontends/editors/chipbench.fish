@@ -17,7 +17,7 @@ complete -c chipbench -n '__fish_seen_subcommand_from debug run trace picture ex
 complete -c chipbench -n '__fish_seen_subcommand_from debug run trace picture check explore' -l profile -x -a 'schip vip' -d 'Which machine: `schip` is SUPER-CHIP 1.1'
 complete -c chipbench -n '__fish_seen_subcommand_from debug' -l every -x -d 'How many steps lie between two checkpoints of the run'
 complete -c chipbench -n '__fish_seen_subcommand_from debug run trace picture explore' -l image -d 'SOURCE is an image: what `dis` prints of it is the source'
-complete -c chipbench -n '__fish_seen_subcommand_from debug' -l quiet -d 'Says nothing on standard error at a terminal: no prompt'
+complete -c chipbench -n '__fish_seen_subcommand_from debug' -l quiet -d 'At a terminal'
 complete -c chipbench -n '__fish_seen_subcommand_from list syms' -l hex -d 'Prints the values of names in hexadecimal'
 complete -c chipbench -n '__fish_seen_subcommand_from run trace picture' -l steps -x -d 'How many steps to run'
 complete -c chipbench -n '__fish_seen_subcommand_from run trace picture' -l keys -r -d 'The key events'

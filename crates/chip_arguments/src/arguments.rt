@@ -574,7 +574,7 @@ fn quiet_argument<'a>(alloc: Global) -> Arg<'a>
     flag(
         alloc,
         "quiet",
-        "Says nothing on standard error at a terminal: no prompt, and no sentence for a refusal",
+        "At a terminal, shows the answers alone: no prompt, and no sentence for a refusal",
     )
 }
 

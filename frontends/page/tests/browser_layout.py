@@ -119,7 +119,7 @@ class LayoutTests(PageTests):
                 assert wide < 2 or tall < 5, (where, one, other)
 
     def test_pictures_of_the_sizes(self) -> None:
-        """In a picture of the page the screen is where it is said to be, with as many lit points, and the other parts aren't blank."""
+        """In a picture of the page the screen is where it is said to be, with as many lit pixels, and the other parts aren't blank."""
         with self.page(self.example("breaker")) as browser, tempfile.TemporaryDirectory() as folder:
             self.played(browser)
             lit_share = browser.value(
