@@ -123,11 +123,8 @@ def parts(out):
 
 def lower(wide, out):
     """Lowers a module's memory to 32 bits."""
-    optimizer = shutil.which("wasm-opt")
-    if optimizer is None:
-        raise SystemExit("frontends/web/build: Debian's package binaryen isn't installed: apt-get install binaryen")
     features = [f"--enable-{name}" for name in FEATURES]
-    subprocess.run([optimizer, "--memory64-lowering", "-O3", *features, wide, "-o", out], check=True)
+    subprocess.run(["wasm-opt", "--memory64-lowering", "-O3", *features, wide, "-o", out], check=True)
 
 
 def unproved_program(out):
@@ -138,18 +135,10 @@ def unproved_program(out):
         compile_module(tools.module_of(kit(), work), out, PROGRAM[1], lambda line: tools.without_checks(line, found))
 
 
-def copied_tree(work, built=None):
-    """The crates in a folder of their own, so that what is built of them stays as it is; with what is built so far of one of them and of
-    those below it."""
+def copied_tree(work):
+    """The crates in a folder of their own, so that what is built of them stays as it is."""
     tree = f"{work}/tree"
-    for crate in os.listdir(f"{TOP}/crates"):
-        parts = ["src", "specs", "proofs"]
-        if built:
-            parts += ["out/rlib", "out/incremental"] if crate == built else ["out/rlib"]
-        for part in parts:
-            if os.path.isdir(f"{TOP}/crates/{crate}/{part}"):
-                os.makedirs(f"{tree}/crates/{crate}/{os.path.dirname(part)}", exist_ok=True)
-                subprocess.run(["cp", "-Rp", f"{TOP}/crates/{crate}/{part}", f"{tree}/crates/{crate}/{part}"], check=True)
+    shutil.copytree(f"{TOP}/crates", f"{tree}/crates", ignore=shutil.ignore_patterns("out"))
     for name in ("crates.txt", "HANDLES"):
         shutil.copy(f"{TOP}/{name}", tree)
     return tree
@@ -168,41 +157,67 @@ def unproved_session(out):
         compile_module(module, out, exports, lambda line: exported(tools.without_checks(line, found), crate, exports))
 
 
-def kit_that_keeps(work):
-    """A kit like the one that is there, whose clang keeps the module that it is given last, in the working folder. rt finds its kit by
-    its own place, so its scripts are copied."""
+def toolchain_that_keeps(work):
+    """The kit's toolchain, but for a clang that keeps the module that it is given last, in the working folder."""
     tools = unproved_tools()
-    there, copy = kit(), f"{work}/kit"
-    tools.link_all(there, copy, ["toolchain", "bin"])
-    tools.link_all(f"{there}/toolchain", f"{copy}/toolchain", ["bin"])
-    tools.link_all(f"{there}/toolchain/bin", f"{copy}/toolchain/bin", ["clang"])
-    scripts = ["rt", *(name for name in os.listdir(f"{there}/bin") if name.endswith(".py"))]
-    tools.link_all(f"{there}/bin", f"{copy}/bin", scripts)
-    for name in scripts:
-        shutil.copy(f"{there}/bin/{name}", f"{copy}/bin/{name}")
-    clang = f"{copy}/toolchain/bin/clang"
-    with open(clang, "w", encoding="utf-8") as file:
-        file.write(KEEPING_CLANG.format(work=work, clang=f"{there}/toolchain/bin/clang"))
-    os.chmod(clang, 0o755)
-    return f"{copy}/bin/rt"
+    there, copy = f"{kit()}/toolchain", f"{work}/toolchain"
+    tools.link_all(there, copy, ["bin"])
+    tools.link_all(f"{there}/bin", f"{copy}/bin", ["clang"])
+    with open(f"{copy}/bin/clang", "w", encoding="utf-8") as file:
+        file.write(KEEPING_CLANG.format(work=work, clang=f"{there}/bin/clang"))
+    os.chmod(f"{copy}/bin/clang", 0o755)
+    return copy
 
 
-def proved(crate, exports, command, out):
-    """A module of a crate that the kit proves and builds by a command."""
+def proved_libraries(work):
+    """The top of a tree of these sources whose libraries are those that `rt ci` proved: this one, where that is noted. Else `rt ci` runs
+    on a copy, and proves what no earlier run on this machine has proved."""
+    noted = subprocess.run([f"{TOP}/packaging/program", "--libraries"], capture_output=True, text=True)
+    if noted.stdout.strip() == "proved":
+        return TOP
+    tree = copied_tree(work)
+    ran = subprocess.run(["rt", "ci"], cwd=tree, stdin=subprocess.DEVNULL, capture_output=True, text=True)
+    if ran.returncode != 0:
+        raise SystemExit(f"{ran.stdout}{ran.stderr}frontends/web/build: rt ci doesn't pass")
+    return tree
+
+
+def words_of(crate, tree):
+    """The words with which rattle takes a crate over the libraries of a tree, as the kit's own rt makes them."""
+    loader = importlib.machinery.SourceFileLoader("rtlib", f"{kit()}/bin/rtlib.py")
+    rtlib = importlib.util.module_from_spec(importlib.util.spec_from_loader("rtlib", loader))
+    loader.exec_module(rtlib)
+    return rtlib.Crate(f"{tree}/crates/{crate}", tree, {}).words(["--jobs", "2"], keeps=False)
+
+
+def proved(crate, exports, tree, out):
+    """A module of a crate, which is proved here over the libraries of a tree."""
     with tempfile.TemporaryDirectory(prefix="chipbench-web-") as work:
-        rt = kit_that_keeps(work)
-        folder = f"{copied_tree(work, crate)}/crates/{crate}"
-        ran = subprocess.run([rt, command], cwd=folder, stdin=subprocess.DEVNULL, capture_output=True, text=True)
+        build = [f"{kit()}/bin/rattle", "build", *words_of(crate, tree), "--backend", "llvm", "--toolchain", toolchain_that_keeps(work)]
+        ran = subprocess.run([*build, "-o", f"{work}/made"], cwd=f"{tree}/crates/{crate}", stdin=subprocess.DEVNULL, capture_output=True, text=True)
         if ran.returncode != 0 or not os.path.exists(f"{work}/module.bc"):
             raise SystemExit(f"{ran.stdout}{ran.stderr}frontends/web/build: {crate} was not proved and built")
         compile_module(f"{work}/module.bc", out, exports)
 
 
-def proved_session(out):
-    """The session of proved code."""
-    proved(*SESSION, "lib", out)
+def optimizer_version():
+    """The version of binaryen, or nothing where it isn't installed."""
+    if shutil.which("wasm-opt") is None:
+        return ""
+    return subprocess.run(["wasm-opt", "--version"], capture_output=True, text=True, check=True).stdout.strip()
 
 
-def proved_program(out):
-    """The whole program of proved code. `rt run` builds it, and runs it on no input."""
-    proved(*PROGRAM, "run", out)
+def session(out, tree):
+    """The session, of proved code over the libraries of a tree, or with no tree of code that isn't proved."""
+    if tree is None:
+        unproved_session(out)
+    else:
+        proved(*SESSION, tree, out)
+
+
+def program(out, tree):
+    """The whole program, of proved code over the libraries of a tree, or with no tree of code that isn't proved."""
+    if tree is None:
+        unproved_program(out)
+    else:
+        proved(*PROGRAM, tree, out)

@@ -103,7 +103,7 @@ class TestRelease(unittest.TestCase):
             self.skipTest("there is no release/")
         self.top = pathlib.Path(tempfile.mkdtemp(prefix="chipbench-package-tests-"))
         self.addCleanup(shutil.rmtree, self.top)
-        for folder in ("crates", "packaging", "release"):
+        for folder in ("crates", "examples", "frontends/page", "frontends/web", "packaging", "release"):
             shutil.copytree(TOP / folder, self.top / folder, ignore=shutil.ignore_patterns("out", "__pycache__"))
         for file in ("chipbench", "crates.txt", "HANDLES"):
             shutil.copy(TOP / file, self.top)
@@ -123,12 +123,54 @@ class TestRelease(unittest.TestCase):
         self.assertIn("1 passed, 0 failed", self.check(0))
 
     def test_a_changed_byte_is_refused(self):
-        self.change("release/chipbench")
-        self.assertIn("0 passed, 1 failed", self.check(1))
+        for name in ("chipbench", *self.modules()):
+            with self.subTest(name):
+                self.change(f"release/{name}")
+                self.assertIn("0 passed, 1 failed", self.check(1))
+                self.change(f"release/{name}")
+        self.assertIn("1 passed, 0 failed", self.check(0))
 
     def test_a_changed_source_is_refused(self):
-        self.change("crates/chip_pages/src/pages.rt")
+        of_modules = ("frontends/web/heap.c", "frontends/web/carrier.mjs", "frontends/page/static/main.mjs", "examples/bounce.asm")
+        for name in ("crates/chip_pages/src/pages.rt", "crates/chip_web/src/lib.rt", *(of_modules if self.modules() else ())):
+            with self.subTest(name):
+                self.change(name)
+                self.assertIn("0 passed, 1 failed", self.check(1))
+                self.change(name)
+        self.assertIn("1 passed, 0 failed", self.check(0))
+
+    def modules(self):
+        """The files of release/ that are WebAssembly or made of it."""
+        return [name for name in ("session.wasm", "chipbench.wasm", "chipbench.html") if (self.top / "release" / name).exists()]
+
+    def test_a_module_that_is_missing_is_refused(self):
+        for name in self.modules():
+            (self.top / "release" / name).rename(self.top / "away")
+            self.assertIn("0 passed, 1 failed", self.check(1))
+            (self.top / "away").rename(self.top / "release" / name)
+
+    def build(self, **noted):
+        """Has modules as frontends/web/build makes them: the released ones, and the note on them, but for what is given."""
+        if not self.modules():
+            self.skipTest("release/ has no modules")
+        folder = self.top / "frontends/web/out"
+        folder.mkdir()
+        known = dict(line.split(": ", 1) for line in (self.top / "release/FROM").read_text(encoding="utf-8").splitlines()) | noted
+        lines = [f"{name}: {known[name]}\n" for name in ("kit", "binaryen", "module-sources", "session.wasm", "chipbench.wasm")]
+        (folder / "FROM").write_text("".join(lines), encoding="utf-8")
+        for name in ("session.wasm", "chipbench.wasm"):
+            shutil.copy(self.top / "release" / name, folder)
+
+    def test_modules_that_are_built_to_other_bytes_are_refused(self):
+        self.build()
+        self.assertIn("the modules have the bytes that were proved and built here", self.check(0))
+        self.change("frontends/web/out/session.wasm")
         self.assertIn("0 passed, 1 failed", self.check(1))
+
+    def test_modules_of_another_binaryen_are_not_compared(self):
+        self.build(binaryen="wasm-opt version 1")
+        self.change("frontends/web/out/session.wasm")
+        self.assertIn("weren't compared", self.check(0))
 
     def first(self, **options):
         """The first run of ./chipbench without the toolchain, and what it said."""
