@@ -11,6 +11,7 @@ from typing import Any
 
 from exploration import Exploration
 from files import MAX_FILE, Files, Refused, digest_of, read_file, shown
+from games import EXAMPLES, LAST_STEP, example, game_page, session_module, tape_of
 from program import Ended, Program, TooMuch, run_once
 from trace_search import MOST_STEPS, find_steps, pattern_of
 
@@ -27,12 +28,7 @@ OPTION_VALUES = {
     "every": re.compile(r"[0-9]{1,9}"),
 }
 WORDS = ("dis", "explain", "check", "trace", "test", "explore")
-NAMES = ("about", "open", "ask", "search", "word", "keys", "files", "read", "save", "example", "explore")
-# the examples that the page begins with, and the step of the picture of each
-EXAMPLES = {"bounce": 300, "breaker": 3000, "maze": 3000}
-TOP = Path(__file__).resolve().parents[1]
-#: in the repository, and where it is installed
-EXAMPLE_FOLDERS = (TOP.parent / "examples", TOP.parent / "doc/chipbench/examples")
+NAMES = ("about", "open", "ask", "search", "word", "keys", "files", "read", "save", "example", "explore", "game", "tape")
 TAKEN = "another window has started the program anew"
 
 
@@ -148,18 +144,24 @@ class Bridge:
         return {**found, "isImage": False}
 
     def example(self, request: dict[str, Any]) -> dict[str, Any]:
-        """A game to begin with: its text, and the screen after some steps as `run` prints it, or none without such a file."""
-        name = request.get("name")
-        if name not in EXAMPLES:
+        """A game to begin with, and its screen after some steps."""
+        name, steps = request.get("name"), number_of(request.get("steps"))
+        if name not in EXAMPLES or steps > LAST_STEP:
             raise Refused(400, "no such example")
-        for folder in EXAMPLE_FOLDERS:
-            content = read_file(folder / f"{name}.asm")
-            if content is None:
-                continue
-            status, output, _ = run_once([self._program, "run", str(folder / f"{name}.asm"), "--steps", str(EXAMPLES[name])])
-            shown_rows = output.decode("latin-1").split("\n", 3)[3] if status == 0 else None
-            return {"text": content.decode("latin-1"), "screen": shown_rows}
-        return {"text": None, "screen": None}
+        return example(self._program, name, steps)
+
+    def game(self, _: dict[str, Any]) -> dict[str, Any]:
+        """The page that plays a game, for an export."""
+        return game_page()
+
+    def tape(self, request: dict[str, Any]) -> dict[str, Any]:
+        """The random bytes that a seed gives."""
+        option_arguments({"seed": request.get("seed")})
+        place = self._new_file(b"")
+        try:
+            return {"tape": tape_of(self._program, place, request["seed"])}
+        finally:
+            place.unlink()
 
     def about(self, _: dict[str, Any]) -> dict[str, Any]:
         """What the page was opened on, and what the program takes."""
@@ -170,6 +172,7 @@ class Bridge:
             "settings": self._settings,
             "options": self._options,
             "words": self._words,
+            "exportsGames": session_module() is not None,
         }
 
     def files(self, _: dict[str, Any]) -> dict[str, Any]:

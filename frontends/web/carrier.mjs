@@ -1,46 +1,59 @@
-// The page's requests without a bridge: the session runs in one worker, and the program in another. One that answers a
-// request too late is ended, and begins anew with the next. Script and modules, as bytes, come from the page itself.
+// The page's requests without a bridge. The session runs in one worker, and the program in others: one for short commands, one
+// for searches in a run, one for each kind of long run. A worker that answers too late, or whose run is stopped, is ended and
+// begins anew with its next request. Script and modules, as bytes, come from the page itself.
 import { BridgeFault, carryBy } from './bridge.mjs';
+import { PageFiles } from './page_files.mjs';
 
 const SECONDS = 60;
-const OF_SESSION = ['open', 'ask'];
+const WORKERS = { open: 'session', ask: 'session', search: 'search' };
+const LONG_RUNS = ['explore', 'prove'];
 
 class Workers {
+  #script;
+  #modules;
+  #workers = new Map();
+  #number = 0;
+
   constructor(script, modules) {
-    this.script = script;
-    this.modules = modules;
-    this.workers = new Map();
-    this.number = 0;
+    this.#script = script;
+    this.#modules = modules;
   }
 
-  worker(kind) {
-    if (!this.workers.has(kind)) {
-      const worker = new Worker(this.script);
-      worker.postMessage({ kind, bytes: this.modules[kind] });
+  #worker(kind) {
+    if (!this.#workers.has(kind)) {
+      const worker = new Worker(this.#script);
+      const isSession = kind === 'session';
+      worker.postMessage({ kind: isSession ? 'session' : 'program', bytes: isSession ? this.#modules.session : this.#modules.program });
       const waiting = new Map();
       worker.onmessage = ({ data }) => {
-        waiting.get(data.number)?.(data);
-        waiting.delete(data.number);
+        const { answered, tell } = waiting.get(data.number) ?? {};
+        if (data.progress !== undefined) tell?.(data.progress);
+        else {
+          waiting.delete(data.number);
+          answered?.(data);
+        }
       };
-      this.workers.set(kind, { worker, waiting });
+      this.#workers.set(kind, { worker, waiting });
     }
-    return this.workers.get(kind);
+    return this.#workers.get(kind);
   }
 
   end(kind) {
-    const { worker, waiting } = this.workers.get(kind);
-    worker.terminate();
-    this.workers.delete(kind);
-    for (const answer of waiting.values()) answer({ refused: { status: 504, text: 'the program gave no answer in time and was ended' } });
+    const ended = this.#workers.get(kind);
+    if (ended === undefined) return;
+    ended.worker.terminate();
+    this.#workers.delete(kind);
+    for (const { answered } of ended.waiting.values()) answered({ refused: { status: 504, text: 'the program gave no answer in time and was ended' } });
   }
 
-  async ask(kind, name, body) {
-    const { worker, waiting } = this.worker(kind);
-    this.number += 1;
-    const number = this.number;
-    const late = setTimeout(() => this.end(kind), 1000 * SECONDS);
+  /** `tell` is told how far a run is; a run with one may take any time. */
+  async ask(kind, name, body, tell) {
+    const { worker, waiting } = this.#worker(kind);
+    this.#number += 1;
+    const number = this.#number;
+    const late = tell === undefined ? setTimeout(() => this.end(kind), 1000 * SECONDS) : null;
     const { reply, refused } = await new Promise((answered) => {
-      waiting.set(number, answered);
+      waiting.set(number, { answered, tell });
       worker.postMessage({ number, name, body });
     });
     clearTimeout(late);
@@ -49,54 +62,73 @@ class Workers {
   }
 }
 
-// The examples, and the files that were saved from this page: their texts as they were then.
-class Downloads {
-  constructor(examples) {
-    this.files = new Map(Object.entries(examples));
+/** Runs of one command that take long, one at a time: each is started, told of and stopped by its number, as the bridge does it. */
+class LongRuns {
+  #workers;
+  #name;
+  #number = 0;
+  #told = null;
+
+  constructor(workers, name) {
+    this.#workers = workers;
+    this.#name = name;
   }
 
-  told(name) {
-    const text = this.files.get(name) ?? null;
-    return { name, path: name, text, digest: text === null ? null : `${text.length} ${this.files.size}` };
+  answer({ action, number, ...body }) {
+    if (action === 'start') this.#start(body);
+    else if (number !== this.#number || this.#told === null) return { number: null };
+    if (action === 'stop') {
+      this.#stop();
+      return { number: null };
+    }
+    return { number: this.#number, ...this.#told };
   }
 
-  save(name, text) {
-    const bytes = Uint8Array.from(text, (character) => character.charCodeAt(0));
-    const link = document.createElement('a');
-    link.href = URL.createObjectURL(new Blob([bytes], { type: 'application/octet-stream' }));
-    link.download = name;
-    link.click();
-    setTimeout(() => URL.revokeObjectURL(link.href), 60_000);
-    this.files.set(name, text);
-    return { saved: true, ...this.told(name), text: null };
+  #start(body) {
+    this.#stop();
+    this.#number += 1;
+    const told = { step: 0, states: 0, result: null };
+    this.#told = told;
+    const take = (result) => {
+      told.result = result;
+    };
+    const asked = this.#workers.ask(this.#name, this.#name, body, (progress) => Object.assign(told, progress));
+    asked.then(take, (fault) => take({ status: -1, output: '', errors: fault.message, keys: '' }));
   }
 
-  list() {
-    return [...this.files].map(([name, text]) => ({ name, size: text.length }));
+  #stop() {
+    if (this.#told !== null && this.#told.result === null) this.#workers.end(this.#name);
+    this.#told = null;
   }
 }
 
-export function carryByWorkers(script, modules, examples) {
+export function carryByWorkers(script, modules, { examples, game }) {
   const workers = new Workers(script, modules);
-  const downloads = new Downloads(examples);
-  const start = [...globalThis.crypto.getRandomValues(new Uint8Array(8))].map((byte) => byte.toString(16).padStart(2, '0')).join('');
+  const files = new PageFiles(examples);
+  const runs = Object.fromEntries(LONG_RUNS.map((name) => [name, new LongRuns(workers, name)]));
+  // a tab that is loaded anew comes back to what it had open
+  const about = { name: null, path: null, text: null, digest: null, isImage: false, start: 'one file', folder: 'this browser', settings: {}, exportsGames: true };
   const own = {
-    about: async () => ({
-      name: null, path: null, text: null, digest: null, isImage: false, start, folder: 'this browser', settings: {},
-      ...(await workers.ask('program', 'about', {})),
-    }),
-    files: () => ({ folder: 'this browser', files: downloads.list() }),
-    read: ({ name }) => downloads.told(name),
-    save: ({ name, text }) => downloads.save(name, text),
+    about: async () => ({ ...about, picks: files.picks, ...(await workers.ask('program', 'about', {})) }),
+    files: () => ({ folder: 'this browser', files: files.list() }),
+    read: ({ name }) => files.read(name),
+    save: (body) => files.save(body),
+    pick: () => files.pick(),
+    choose: ({ name }) => files.choose(name),
+    game: () => game,
+    example: ({ name, steps }) => {
+      const text = examples[`${name}.asm`];
+      return text === undefined ? { text: null, screen: null } : workers.ask('program', 'example', { text, steps });
+    },
   };
   // The session's module takes a tape, and the program makes one of a seed.
   const withTape = async ({ seed, ...options }) =>
     seed === undefined ? options : { ...options, ...(await workers.ask('program', 'tape', { seed })) };
   carryBy(async (name, body) => {
     if (own[name]) return own[name](body);
-    const kind = OF_SESSION.includes(name) ? 'session' : 'program';
+    if (runs[name]) return runs[name].answer(body);
     const sent = name === 'open' ? { ...body, options: await withTape(body.options) } : body;
-    const reply = await workers.ask(kind, name, sent);
+    const reply = await workers.ask(WORKERS[name] ?? 'program', name, sent);
     if (reply.unopened === undefined) return reply;
     return { session: reply.session, answers: [], ended: await workers.ask('program', 'unopened', body) };
   });

@@ -11,7 +11,10 @@ const HEIGHT = 64;
 // the keypad's keys row by row, and the keys of a keyboard that stand as they do
 const KEYPAD = [1, 2, 3, 12, 4, 5, 6, 13, 7, 8, 9, 14, 10, 0, 11, 15];
 const CODES = ['Digit1', 'Digit2', 'Digit3', 'Digit4', 'KeyQ', 'KeyW', 'KeyE', 'KeyR', 'KeyA', 'KeyS', 'KeyD', 'KeyF', 'KeyZ', 'KeyX', 'KeyC', 'KeyV'];
-const ARROWS = { ArrowUp: 5, ArrowLeft: 7, ArrowRight: 9, ArrowDown: 8, Space: 6 };
+// for up, left, down and right, where nothing else is said
+const ARROWS = '5789';
+const ARROW_CODES = ['ArrowUp', 'ArrowLeft', 'ArrowDown', 'ArrowRight'];
+const LETTER_CODES = ['KeyW', 'KeyA', 'KeyS', 'KeyD'];
 
 const encoder = new TextEncoder();
 const decoder = new TextDecoder();
@@ -23,7 +26,7 @@ export class Game {
     this.session = new Session(new WebAssembly.Instance(module, {}).exports);
     this.rate = rate;
     const bytes = Uint8Array.from(source, (character) => character.charCodeAt(0));
-    const status = this.session.open(bytes, { rate, profile: PROFILES.includes(profile) ? profile : 'schip', tape: Uint8Array.from(tape) });
+    const status = this.session.open(bytes, { rate, profile: PROFILES.includes(profile) ? profile : 'schip', tape: Uint8Array.from(tape.match(/../g), (digits) => parseInt(digits, 16)) });
     if (status !== STATUS.done) throw new Error(`the game doesn't open: status ${status}`);
     this.held = new Set();
     this.step = 0;
@@ -54,6 +57,17 @@ export class Game {
   }
 }
 
+// The keys of the game by the codes of a keyboard.
+function keysOf({ arrows, letters }) {
+  const keys = { ...Object.fromEntries(CODES.map((code, place) => [code, KEYPAD[place]])), Space: 6 };
+  for (const codes of letters ? [ARROW_CODES, LETTER_CODES] : [ARROW_CODES]) {
+    codes.forEach((code, place) => {
+      keys[code] = parseInt((arrows || ARROWS)[place], 16);
+    });
+  }
+  return keys;
+}
+
 class Tone {
   constructor() {
     this.context = new AudioContext();
@@ -71,6 +85,7 @@ class Tone {
 export class Player {
   constructor(module, about) {
     this.begin = () => new Game(module, about);
+    this.keys = keysOf(about);
     this.game = this.begin();
     this.steps = 0;
     this.then = null;
@@ -81,10 +96,9 @@ export class Player {
   }
 
   listen() {
-    const keyOf = ({ code }) => (CODES.includes(code) ? KEYPAD[CODES.indexOf(code)] : ARROWS[code]);
     for (const [name, isDown] of [['keydown', true], ['keyup', false]]) {
       document.addEventListener(name, (event) => {
-        const key = keyOf(event);
+        const key = this.keys[event.code];
         if (key === undefined || event.ctrlKey || event.metaKey || event.altKey) return;
         event.preventDefault();
         if (!event.repeat) this.game.key(key, isDown);

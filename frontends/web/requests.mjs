@@ -10,7 +10,13 @@ const MOST_ANSWERS = 64_000_000;
 const OPTIONS = ['rate', 'tape', 'seed', 'profile', 'every'];
 const TAPE_BYTES = 256;
 const FIRST_REGISTER = 3;
-const WORDS = ['dis', 'explain', 'check', 'trace', 'test'];
+const WORDS = ['dis', 'explain', 'check', 'trace', 'test', 'explore', 'prove'];
+// So many states of a search take some 150 megabytes.
+const STATES = 1_000_000;
+const PROGRESS = /step (\d+), (\d+) states/;
+const LINE_OF_PROGRESS = 200;
+// The screen stands after the three lines of the registers in what `run` prints.
+const LINES_OF_REGISTERS = 3;
 
 // A request that is refused, with the status that the bridge answers it with.
 export class Refused extends Error {
@@ -96,20 +102,67 @@ export class SessionRequests {
   }
 }
 
+// A host of a long run, which says on standard error how far it is, in pieces of lines.
+class ToldHost extends MemoryHost {
+  constructor(words, files, tell) {
+    super(words, { files });
+    this.tell = tell;
+    this.last = '';
+  }
+
+  write(number, bytes) {
+    if (number === 2) {
+      this.last = (this.last + textOf(bytes)).slice(-LINE_OF_PROGRESS);
+      const found = PROGRESS.exec(this.last);
+      if (found !== null) {
+        this.tell({ step: Number(found[1]), states: Number(found[2]) });
+        this.last = '';
+      }
+    }
+    return super.write(number, bytes);
+  }
+}
+
 // The requests of which each runs the program once.
 export class ProgramRequests {
   constructor(module) {
     this.module = module;
+    this.known = new Map();
   }
 
-  runOnce(words, files) {
-    const host = new MemoryHost(words, { files });
+  runOnce(words, files = new Map(), host = new MemoryHost(words, { files })) {
     const status = run(this.module, host);
     return { status, output: textOf(host.written(1)), errors: new TextDecoder().decode(host.written(2)) };
   }
 
+  // Which options a command takes, by its own help.
+  optionsOf(word) {
+    if (!this.known.has(word)) this.known.set(word, OPTIONS.filter((name) => this.runOnce([word, '--help']).output.includes(`--${name} `)));
+    return this.known.get(word);
+  }
+
+  // The arguments of the settings that a command takes: the others make no difference to it.
+  argumentsFor(word, options) {
+    return argumentsOf(Object.fromEntries(Object.entries(options ?? {}).filter(([name]) => this.optionsOf(word).includes(name))));
+  }
+
   about() {
-    return { options: OPTIONS, words: WORDS };
+    const { output } = this.runOnce(['--help']);
+    return { options: this.optionsOf('debug'), words: WORDS.filter((word) => new RegExp(`^ +${word}\\b`, 'm').test(output)) };
+  }
+
+  // A game to begin with: its text, and the screen after some steps.
+  example({ text, steps }) {
+    const { status, output } = this.runOnce(['run', 'source', '--steps', `${steps}`], new Map([['source', bytesOf(text)]]));
+    return { text, screen: status === 0 ? output.split('\n').slice(LINES_OF_REGISTERS).join('\n') : null };
+  }
+
+  // A search over all key scripts: what it prints, and the keys that it found.
+  explore({ source, options }, tell) {
+    const files = new Map([['source', bytesOf(source)]]);
+    const words = ['explore', ...this.argumentsFor('explore', options), '--states', `${STATES}`, '--progress', '--keys-to', 'keys', 'source'];
+    const ran = this.runOnce(words, files, new ToldHost(words, files, tell));
+    return { ...ran, keys: textOf(files.get('keys') ?? new Uint8Array()) };
   }
 
   // Why a source doesn't open, as the program says it.
@@ -147,7 +200,7 @@ export class ProgramRequests {
 
   search({ source, keys, options, ...question }) {
     const files = new Map([['source', bytesOf(source)], ['keys', bytesOf(keys)]]);
-    const words = ['trace', ...argumentsOf(options), '--from', `${question.first}`, '--steps', `${question.last}`, '--keys', 'keys', 'source'];
+    const words = ['trace', ...this.argumentsFor('trace', options), '--from', `${question.first}`, '--steps', `${question.last}`, '--keys', 'keys', 'source'];
     return findSteps(this.module, words, files, question);
   }
 }

@@ -1,4 +1,4 @@
-// A worker of the page: it answers requests on the session or on the program, one after another.
+// A worker of the page: it answers requests on the session or on the program, one after another, and tells how far a long one is.
 import { ProgramRequests, SessionRequests } from './requests.mjs';
 
 const KINDS = { session: SessionRequests, program: ProgramRequests };
@@ -9,8 +9,9 @@ globalThis.onmessage = ({ data }) => {
     requests = new KINDS[data.kind](new WebAssembly.Module(data.bytes));
     return;
   }
+  const tell = (progress) => globalThis.postMessage({ number: data.number, progress });
   try {
-    globalThis.postMessage({ number: data.number, reply: requests[data.name](data.body) });
+    globalThis.postMessage({ number: data.number, reply: requests[data.name](data.body, tell) });
   } catch (error) {
     globalThis.postMessage({ number: data.number, refused: { status: error.status ?? 500, text: error.message } });
   }

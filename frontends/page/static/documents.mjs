@@ -244,7 +244,7 @@ export class Documents extends EventTarget {
   async saveAs() {
     const { name: own, isFile, digest } = this.#open;
     const asked = await this.#askName(isFile ? own : sourceName(own));
-    const name = asked === null || asked === own ? asked : asSource(asked);
+    const name = asked === null || asked === own || this.#about.picks ? asked : asSource(asked);
     if (name !== null) await this.#write(name, isFile && name === own ? digest : null);
   }
 

@@ -25,6 +25,11 @@ export function askName(name) {
   });
 }
 
+/** Has the author choose a file to save to by the browser's own file access; null where none is chosen. */
+export async function chooseName(name) {
+  return (await request('choose', { name })).name;
+}
+
 export class FileDialogs {
   #about;
   #documents;
@@ -44,7 +49,7 @@ export class FileDialogs {
     byId('save').addEventListener('click', () => this.#documents.save());
     byId('save-as-button').addEventListener('click', () => this.#documents.saveAs());
     byId('upload').addEventListener('click', () => this.#showOpen());
-    byId('upload-elsewhere').addEventListener('click', () => byId('upload-file').click());
+    byId('upload-elsewhere').addEventListener('click', () => (this.#about.picks ? this.#pick() : byId('upload-file').click()));
     byId('show-earlier').addEventListener('click', () => this.#showEarlier());
     byId('download-source').addEventListener('click', () => this.#download('asm', writeFile(this.#model.text, this.#model.form)));
     byId('download-keys').addEventListener('click', () => this.#download('keys', writeKeys(this.#model.keys)));
@@ -96,6 +101,15 @@ export class FileDialogs {
       if (found.text === null) throw new Error('there is no such file any more');
       if (kindOf(name) === 'source' && !this.#holdsGame(found.text)) this.#documents.openFile(found);
       else await this.#openContent(name, found.text);
+    });
+  }
+
+  /** A file that the author chooses by the browser's own file access: it is saved there again. */
+  async #pick() {
+    byId('open').close();
+    await this.#try('The file', async () => {
+      const { name } = await request('pick');
+      if (name !== null) await this.#openNamed(name);
     });
   }
 

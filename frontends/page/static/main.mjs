@@ -19,8 +19,9 @@ import { EventsView } from './events_view.mjs';
 import { Exports } from './exports.mjs';
 import { FaultHelp } from './fault_help.mjs';
 import { FaultPlaces } from './fault_places.mjs';
-import { askName, FileDialogs } from './file_dialogs.mjs';
+import { askName, chooseName, FileDialogs } from './file_dialogs.mjs';
 import { FindBar } from './find_bar.mjs';
+import { GameExport } from './game_export.mjs';
 import { Keypad } from './keypad.mjs';
 import { MemoryView } from './memory_view.mjs';
 import { Model } from './model.mjs';
@@ -134,10 +135,12 @@ class Page {
   }
 
   #makeFiles() {
-    this.documents = new Documents(this.#about, { model: this.model, editor: this.editor, askName, optionsFor: (of) => optionsOf(this.#about, of) });
+    const asks = this.#about.picks ? chooseName : askName;
+    this.documents = new Documents(this.#about, { model: this.model, editor: this.editor, askName: asks, optionsFor: (of) => optionsOf(this.#about, of) });
     const parts = { documents: this.documents, model: this.model, workbench: this.workbench };
     this.files = new FileDialogs(this.#about, parts);
     this.exports = new Exports(parts);
+    this.gameExport = new GameExport(parts, this.#about.exportsGames === true);
     this.start = new StartPage({ documents: this.documents, editor: this.editor });
   }
 

@@ -8,11 +8,11 @@ import { TEMPLATE } from './template.mjs';
 
 const WIDTH = 128;
 const HEIGHT = 64;
-/** The names that the bridge has, and what each shows. */
+/** The names that the bridge has, what each shows, and the step of its picture. */
 const EXAMPLES = [
-  ['bounce', 'A ball in a box, in 27 lines. It needs no key.'],
-  ['breaker', 'Bricks, a ball and a paddle. Key 5 serves, 4 and 6 move.'],
-  ['maze', 'Find the key, then the door. Keys 2, 4, 6 and 8 walk.'],
+  ['bounce', 'A ball in a box, in 27 lines. It needs no key.', 300],
+  ['breaker', 'Bricks, a ball and a paddle. Key 5 serves, 4 and 6 move.', 3000],
+  ['maze', 'Find the key, then the door. Keys 2, 4, 6 and 8 walk.', 3000],
 ];
 const PREVIEW_LINES = 12;
 
@@ -42,7 +42,7 @@ export class StartPage {
     this.#setShown(true);
     if (this.#isMade) return;
     this.#isMade = true;
-    byId('examples').append(...EXAMPLES.map(([name, about]) => this.#example(name, about)), this.#template());
+    byId('examples').append(...EXAMPLES.map((example) => this.#example(...example)), this.#template());
   }
 
   #hide() {
@@ -64,10 +64,10 @@ export class StartPage {
     return element('button', { type: 'button', className: 'example' }, picture, element('strong', { textContent: name }), element('span', { className: 'hint', textContent: about }));
   }
 
-  #example(name, about) {
+  #example(name, about, steps) {
     const canvas = element('canvas', { width: WIDTH, height: HEIGHT });
     const card = this.#card(`${name}.asm`, about, canvas);
-    const asked = request('example', { name }).catch(() => ({ text: null, screen: null }));
+    const asked = request('example', { name, steps }).catch(() => ({ text: null, screen: null }));
     asked.then(({ text, screen }) => {
       card.hidden = text === null;
       if (screen === null) return;

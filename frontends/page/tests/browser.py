@@ -24,6 +24,21 @@ from firefox import Firefox
 BROWSERS = {"chromium": Chromium, "firefox": Firefox}
 
 
+# Tests of files on the bridge, of its windows, its arguments and its end: the page in one file has none of these.
+OF_THE_BRIDGE = {
+    f"test_{name}"
+    for name in (
+        "reload", "save", "open_takes_the_title", "an_image", "save_as", "text_before_a_save", "a_file_that_changes_on_the_disk", "a_file_that_cannot_be_saved",
+        "a_full_disk", "a_hundred_connections", "an_address_without_its_last_slash", "faulty_arguments", "the_file_that_a_browser_is_given", "texts_of_two_windows",
+        "two_windows", "a_program_that_is_killed", "a_bridge_that_is_gone", "a_file_is_followed", "a_name_without_an_end", "a_window_that_lost_the_program",
+    )
+}  # fmt: skip
+
+
+# Tests of what the page in one file alone has.
+OF_ONE_FILE = {"test_files_without_a_bridge"}
+
+
 class Tests(SourceTests, TypingTests, RunTests, FileTests, ShapeTests, LayoutTests, PlayTests):
     """Each method whose name begins with `test_` is one test."""
 
@@ -32,7 +47,7 @@ def main(arguments: list[str]) -> int:
     parser = argparse.ArgumentParser(prog="frontends/page/tests/browser")
     parser.add_argument("--program", default=str(PROVED), help="the chipbench to run (default: the proved one)")
     parser.add_argument("--browser", choices=sorted(BROWSERS), default="chromium", help="the browser (default: chromium)")
-    parser.add_argument("--page", type=Path, default=TOP / "frontends/page", metavar="FOLDER", help="another page to try, such as an older one")
+    parser.add_argument("--page", type=Path, default=TOP / "frontends/page", metavar="PATH", help="the folder of another page, or the page in one file, from disk")
     parser.add_argument("--patience", type=float, default=1.0, metavar="N", help="wait N times longer, on a busy machine (default: 1)")
     parser.add_argument("--pictures", type=Path, help="a folder for pictures to look at")
     parser.add_argument("--documents", type=Path, metavar="FOLDER", help="make the pictures of the examples there, and no test")
@@ -50,7 +65,10 @@ def main(arguments: list[str]) -> int:
             tests.make_documents(words.documents)
             return 0
         names = [name for name in dir(tests) if name.startswith("test_")]
-        results = [ran(tests, name) for name in names if not words.names or any(part in name for part in words.names)]
+        chosen = [name for name in names if not words.names or any(part in name for part in words.names)]
+        left_out = OF_THE_BRIDGE if tests.is_one_file else OF_ONE_FILE
+        chosen = [name for name in chosen if name not in left_out]
+        results = [ran(tests, name) for name in chosen]
     finally:
         tests.browser.close()
         shutil.rmtree(tests.folder, ignore_errors=True)

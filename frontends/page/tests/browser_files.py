@@ -22,6 +22,20 @@ def has_arrived(path: Path) -> bool:
     return path.exists() and path.stat().st_size > 0
 
 
+# a file on the disk, which is what the author chooses
+FAKE_FILE = """{
+  globalThis.disk = { name: 'mine.asm', text: '' };
+  const bytesOf = (text) => Uint8Array.from(text, (character) => character.charCodeAt(0));
+  const handleOf = (file) => ({
+    name: file.name,
+    getFile: async () => ({ arrayBuffer: async () => bytesOf(file.text).buffer }),
+    createWritable: async () => ({ write: async (bytes) => { file.text = String.fromCharCode(...bytes); }, close: async () => {} }),
+  });
+  globalThis.showSaveFilePicker = async () => handleOf(disk);
+  globalThis.showOpenFilePicker = async () => [handleOf(disk)];
+}"""
+
+
 class FileTests(PageTests):
     def test_reload(self) -> None:
         text = self.example("guess")
@@ -99,7 +113,7 @@ class FileTests(PageTests):
             self.upload(keys)
             browser.wait("chipbenchPage.model.keys.at(40, 5)?.down === true && chipbenchPage.model.keys.size === 1")
             self.upload(place / "guess.ch8")
-            if browser.value("fetch('about', { method: 'POST', body: '{}' }).then((reply) => reply.json()).then(({ words }) => words.includes('dis'))"):
+            if "dis" in self.request("about", {})["words"]:
                 browser.wait("document.getElementById('file-name').textContent === 'guess.ch8'")
                 assert self.source() != text
                 assert self.said(browser.value("document.getElementById('source-text').value"), ["image"]) == self.said(text, ["image"])
@@ -397,6 +411,69 @@ class FileTests(PageTests):
             browser.value("document.getElementById('download-case').click()")
             browser.wait("/can't hold a source with a line `end`/.test(document.getElementById('notices').textContent)")
 
+    def test_a_game_is_exported(self) -> None:
+        """As a page that plays it by the keys of the keyboard, with its settings and its arrow keys."""
+        text = "LD I, #300\nLOOP: LD V0, K\nRND V1, #3F\nLD F, V0\nDRW V1, V2, 5\nJP LOOP\n"
+        place = self.folder / "games"
+        place.mkdir(exist_ok=True)
+        with self.page(text, "a game.asm", words=("--seed", "7", "--rate", "20")) as browser:
+            if browser.value("document.getElementById('export-game').hidden"):
+                print("    there is no session.wasm, so no game is exported")
+                return
+            browser.downloads(place)
+            browser.value("chipbenchPage.model.setLook({ screen: 'theme', arrows: '2486', letters: false })")
+            self.press_button("#export-game")
+            wait_for(lambda: has_arrived(place / "a game.html"), "the page of the game")
+        try:
+            browser.open((place / "a game.html").as_uri())
+            browser.wait("globalThis.chipbenchPlayer?.game.step > 10")
+            assert browser.value("document.title") == "a game"
+            # what was asked of the session and taken
+            browser.value(
+                "globalThis.events = []; { const { game } = chipbenchPlayer; const ask = game.ask.bind(game);"
+                "game.ask = (command) => { const answer = ask(command); if (answer === 'ok\\n') events.push(command); return answer; }; }"
+            )
+            browser.press("ArrowDown", "ArrowDown", hold=0.3)
+            browser.press("x", "KeyX", hold=0.3)
+            browser.wait("events.length === 4")
+            step, screen = browser.value("(() => { const { game } = chipbenchPlayer; return [game.step, game.ask(`screen ${game.step}`)]; })()")
+            events = browser.value("events")
+            assert [event.split()[2:] for event in events] == [["8", "down"], ["8", "up"], ["0", "down"], ["0", "up"]], events
+            assert len(screen.splitlines()) > 5, screen
+            assert self.said(text, [*events, f"screen {step}"], ("--seed", "7", "--rate", "20")) == "ok\n" * 4 + screen
+        finally:
+            browser.open("about:blank")
+
+    def test_files_without_a_bridge(self) -> None:
+        """Where the browser has file access of its own, a file is saved in its place and followed; else saving is a download."""
+        place = self.folder / "saved"
+        place.mkdir(exist_ok=True)
+        saved = "document.getElementById('file-state').textContent === 'saved'"
+        with self.page("CLS\n") as browser:
+            if not browser.value("typeof showSaveFilePicker === 'function'"):
+                browser.downloads(place)
+                browser.press("s", "KeyS", CONTROL)
+                browser.wait("document.getElementById('save-as').open")
+                browser.value("document.querySelector('#save-as [name=name]').value = 'mine.asm'; document.querySelector('#save-as [value=save]').click()")
+                browser.wait(saved)
+                wait_for(lambda: has_arrived(place / "mine.asm"), "the file that was saved")
+                assert (place / "mine.asm").read_text() == "CLS\n"
+                return
+            browser.value(FAKE_FILE)
+            browser.press("s", "KeyS", CONTROL)
+            browser.wait(saved)
+            assert [browser.value("disk.text"), self.text_of("#file-name")] == ["CLS\n", "mine.asm"]
+            self.put_line(1, "LD V0, 5")
+            browser.wait(f"!({saved})")
+            browser.press("s", "KeyS", CONTROL)
+            browser.wait(saved)
+            assert browser.value("disk.text") == "LD V0, 5\n"
+            browser.value("disk.text = 'LD V0, 6 ; theirs\\n'")
+            browser.wait("document.getElementById('source-text').value === 'LD V0, 6 ; theirs\\n'")
+            browser.value("disk = { ...disk, name: 'other.asm', text: 'RET\\n' }; document.getElementById('upload-elsewhere').click()")
+            browser.wait("document.getElementById('file-name').textContent === 'other.asm'")
+            assert self.source() == "RET\n"
+
     def test_an_address_without_its_last_slash(self) -> None:
         """It is the page too."""
         with self.page("LD V0, 5\n") as browser:
@@ -450,6 +527,10 @@ class FileTests(PageTests):
                     "localStorage['chipbench-page, earlier'] = '[7, {}]'; localStorage['chipbench-page, appearance'] = '5'; }); }"
                 )
                 self.reload()
+                if self.is_one_file and shown == "CLS\n":
+                    # the text stood in the storage alone
+                    assert self.source() == "", (kept, self.source())
+                    continue
                 assert self.source() == shown, (kept, self.source())
                 self.step(1)
                 assert self.registers()["pc"] == "0202"

@@ -11,6 +11,7 @@ import time
 import urllib.parse
 from collections.abc import Callable, Iterator
 from pathlib import Path
+from typing import Any
 
 from driver import Browser
 from small_png import small
@@ -59,14 +60,17 @@ class PageTests:
     """What each test needs: a page on a file of its own, and what the program itself says."""
 
     def __init__(self, browser: Browser, program: str, page: Path, pictures: Path | None) -> None:
+        """`page` is the folder of the page, or the page in one file, which is then opened from disk."""
         self.program = program
         self.page_folder = page
+        self.is_one_file = page.is_file()
         self.pictures = pictures
         self.browser = browser
         self.folder = Path(tempfile.mkdtemp(prefix="chipbench-page-test-"))
         self.bridge: subprocess.Popen[str] | None = None
         self.path = self.folder / "none.asm"
         self.address = ""
+        self.starts_before = 0
 
     @contextlib.contextmanager
     def page(self, text: str | bytes, name: str = "game.asm", words: tuple[str, ...] = ()) -> Iterator[Browser]:
@@ -82,6 +86,47 @@ class PageTests:
 
     @contextlib.contextmanager
     def page_on(self, opened: list[str], words: tuple[str, ...]) -> Iterator[Browser]:
+        with self.one_file_on(opened, words) if self.is_one_file else self.bridge_on(opened, words) as browser:
+            yield browser
+            origin = self.address.split("/")[2]
+            for line in browser.console:
+                raise AssertionError(f"the page complained: {line}")
+            for request in browser.requests:
+                parts = urllib.parse.urlsplit(request)
+                assert parts.netloc == origin or parts.scheme in ("about", "blob", "data"), f"a request to {request}"
+
+    def begin(self, address: str) -> None:
+        """Opens the page, as each test finds it."""
+        self.address = address
+        self.browser.console.clear()
+        self.browser.requests.clear()
+        self.browser.size(1600, 1000)
+        self.browser.theme("light")
+        self.browser.open(address)
+        self.browser.wait(SETTLED)
+
+    @contextlib.contextmanager
+    def one_file_on(self, opened: list[str], words: tuple[str, ...]) -> Iterator[Browser]:
+        """The page in one file on what the author opens in it. What the browser keeps is taken away at its end."""
+        try:
+            self.begin(self.page_folder.resolve().as_uri())
+            place = Path(opened[-1])
+            if place.exists():
+                self.upload(place)
+                self.browser.wait(f"document.getElementById('file-name').textContent === {json.dumps(place.name)}")
+            if words:
+                options = {"rate": "10", **{name.removeprefix("--"): value for name, value in zip(words[::2], words[1::2])}}
+                self.browser.value(f"chipbenchPage.model.setOptions({json.dumps(options)})")
+            self.rest()
+            self.starts_before = self.browser.value("chipbenchPage.workbench.starts") - 1
+            yield self.browser
+        finally:
+            with contextlib.suppress(RuntimeError):
+                self.browser.value("addEventListener('pagehide', () => { localStorage.clear(); sessionStorage.clear(); })")
+            self.browser.open("about:blank")
+
+    @contextlib.contextmanager
+    def bridge_on(self, opened: list[str], words: tuple[str, ...]) -> Iterator[Browser]:
         self.bridge = subprocess.Popen(
             [sys.executable, "-B", str(self.page_folder / "bridge.py"), "--program", self.program, "--no-open", "--port", "0", *words, *opened],
             stdout=subprocess.PIPE,
@@ -89,21 +134,9 @@ class PageTests:
             text=True,
         )
         assert self.bridge.stdout is not None
-        self.address = self.bridge.stdout.readline().split()[1]
-        self.browser.console.clear()
-        self.browser.requests.clear()
-        self.browser.size(1600, 1000)
-        self.browser.theme("light")
         try:
-            self.browser.open(self.address)
-            self.browser.wait(SETTLED)
+            self.begin(self.bridge.stdout.readline().split()[1])
             yield self.browser
-            origin = self.address.split("/")[2]
-            for line in self.browser.console:
-                raise AssertionError(f"the page complained: {line}")
-            for request in self.browser.requests:
-                parts = urllib.parse.urlsplit(request)
-                assert parts.netloc == origin or parts.scheme in ("about", "blob", "data"), f"a request to {request}"
         finally:
             self.browser.open("about:blank")
             self.bridge.terminate()
@@ -130,6 +163,15 @@ class PageTests:
     def press_button(self, selector: str) -> None:
         """Presses a button, wherever it is: in a menu that is closed, or behind a tab."""
         self.browser.value(f"document.querySelector({json.dumps(selector)}).click()")
+
+    def request(self, name: str, body: dict[str, object]) -> dict[str, Any]:
+        """What a request of the page is answered, whatever carries it."""
+        module = "'chipbench/bridge.mjs'" if self.is_one_file else "new URL('bridge.mjs', document.baseURI)"
+        return json.loads(self.browser.value(f"import({module}).then(({{ request }}) => request('{name}', {json.dumps(body)})).then(JSON.stringify)"))
+
+    def starts(self) -> int:
+        """How often the program was started since the page was opened; by the page in one file also on what it was opened on."""
+        return self.browser.value("chipbenchPage.workbench.starts") - self.starts_before
 
     def rest(self) -> None:
         self.browser.value(REST)
@@ -177,7 +219,11 @@ class PageTests:
         self.browser.value(f"[...document.querySelectorAll('.notice button')].find((button) => button.textContent === {json.dumps(text)}).click()")
 
     def open_named(self, name: str) -> None:
-        """Opens a file of the folder in the dialog."""
+        """Opens a file of the folder in the dialog, or without a bridge as one from elsewhere."""
+        if self.is_one_file:
+            self.upload(self.folder / name)
+            self.browser.wait(f"document.getElementById('file-name').textContent === {json.dumps(name)}")
+            return
         self.browser.click("#upload")
         self.browser.wait(f"[...document.querySelectorAll('#open-files button')].some((button) => button.firstChild.textContent === {json.dumps(name)})")
         self.browser.value(f"[...document.querySelectorAll('#open-files button')].find((button) => button.firstChild.textContent === {json.dumps(name)}).click()")

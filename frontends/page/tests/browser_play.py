@@ -186,5 +186,5 @@ class PlayTests(PageTests):
             browser.wait("/^Searching: up to step [1-9]/.test(document.getElementById('crashes-text').textContent)", 60.0)
             browser.click("#crashes-switch")
             browser.wait("/^Searches all/.test(document.getElementById('crashes-text').textContent)")
-            told = browser.value("fetch('explore', { method: 'POST', body: JSON.stringify({ action: 'tell', number: 1 }) }).then((reply) => reply.json())")
+            told = self.request("explore", {"action": "tell", "number": 1})
             assert told["number"] is None, told

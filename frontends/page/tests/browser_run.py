@@ -304,7 +304,7 @@ class RunTests(PageTests):
                 browser.wait(f"document.activeElement.textContent === {json.dumps('down' if is_down else 'up')}")
             browser.value("{ const { elements } = document.getElementById('add-event'); elements.step.value = 90; elements.key.value = '12'; document.getElementById('add-event').requestSubmit(); }")
             self.check_step(text, 95, ["kins 700 5 down", "kins 90 12 down"], ("--tape", "05"))
-            assert browser.value("chipbenchPage.workbench.starts") == 1
+            assert self.starts() == 1
 
     def test_settings(self) -> None:
         text = "RND V0, 255\nLD V1, 60\nLD DT, V1\nLOOP: LD V2, DT\nJP LOOP\n"
@@ -327,7 +327,7 @@ class RunTests(PageTests):
                 "(async () => { const { workbench, model } = chipbenchPage;"
                 "for (let round = 0; round < 26; round += 1) await workbench.answers(model.wanted, Array.from({ length: 5000 }, (_, step) => `regs ${step}`)); })()"
             )
-            assert browser.value("chipbenchPage.workbench.starts") == 2
+            assert self.starts() == 2
             self.check_step(text, 1000, [])
 
     def test_parts_agree(self) -> None:

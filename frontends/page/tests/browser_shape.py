@@ -184,7 +184,7 @@ class ShapeTests(PageTests):
             browser.click("#settings [value=apply]")
             colours = "[getComputedStyle(document.documentElement).colorScheme, getComputedStyle(document.documentElement).getPropertyValue('--screen-lit').trim()]"
             assert browser.value(colours) == ["dark", "#ffb640"], browser.value(colours)
-            assert browser.value("chipbenchPage.workbench.starts") == 1
+            assert self.starts() == 1
             self.reload()
             assert browser.value(colours) == ["dark", "#ffb640"]
             assert abs(browser.value(wide) - before - 120) < 12

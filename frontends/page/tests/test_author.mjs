@@ -10,6 +10,7 @@ import { columnOf, indentAfter, outdentLength, placeOf } from '../static/columns
 import { completionsOf } from '../static/completion.mjs';
 import { readPlaces } from '../static/fault_places.mjs';
 import { fixed, fixesOf } from '../static/fixes.mjs';
+import { gamePage } from '../static/game_page.mjs';
 import { readGame, writeGame } from '../static/game_file.mjs';
 import { encodeGif } from '../static/gif.mjs';
 import { KeyScript } from '../static/key_script.mjs';
@@ -34,6 +35,17 @@ function generator(seed) {
 }
 
 const kept = (value) => JSON.parse(JSON.stringify(value));
+
+// What is taken away -----------------------------------------------------------------------------------------------------------
+
+test('games: a page has the game, and no text of it is read as the page', () => {
+  const template = '<title>@TITLE@</title><p>@SETTINGS@</p><script id="game">@GAME@</script>@MODULE@@TITLE@';
+  const game = { title: 'a <b> & @GAME@', source: '; </script>@MODULE@\n', options: { rate: '20' }, tape: '05', look: { arrows: '2486', letters: true }, module: 'AAAA' };
+  const page = gamePage(template, game);
+  const title = 'a &#60;b&#62; &#38; @GAME@';
+  const about = '{"source":"; \\u003c/script>@MODULE@\\n","rate":20,"profile":"schip","tape":"05","arrows":"2486","letters":true}';
+  assert.equal(page, `<title>${title}</title><p>Profile schip, rate 20</p><script id="game">${about}</script>AAAA${title}`);
+});
 
 // What is undone ---------------------------------------------------------------------------------------------------------------
 

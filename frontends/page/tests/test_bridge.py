@@ -27,6 +27,7 @@ sys.path.insert(0, str(FOLDER.parent))
 import bridge  # noqa: E402
 import connections  # noqa: E402
 import files  # noqa: E402
+import games  # noqa: E402
 import page_requests  # noqa: E402
 import trace_search  # noqa: E402
 
@@ -91,6 +92,24 @@ class Running(unittest.TestCase):
 
     def opened(self, source: str = "CLS\n", commands: list[str] | None = None) -> Any:
         return self.good("open", source=source, options={}, commands=commands or [])
+
+
+class Games(Running):
+    """What an exported game is made of."""
+
+    def test_without_the_module_there_is_none(self) -> None:
+        with unittest.mock.patch.object(games, "MODULES", (self.folder / "none",)):
+            self.assertIs(self.good("about")["exportsGames"], False)
+            self.assertEqual(self.good("game"), {"template": None, "module": None})
+
+    def test_the_page_of_a_game(self) -> None:
+        module = self.folder / "session.wasm"
+        module.write_bytes(b"\0asm")
+        with unittest.mock.patch.object(games, "MODULES", (module,)):
+            self.assertIs(self.good("about")["exportsGames"], True)
+            found = self.good("game")
+        self.assertEqual(found["module"], "AGFzbQ==")
+        self.assertEqual(re.findall("@[A-Z]+@", found["template"]), ["@TITLE@", "@TITLE@", "@SETTINGS@", "@GAME@", "@MODULE@"])
 
 
 class Care(Running):
@@ -776,6 +795,21 @@ class TheProgram(Running):
         self.assertEqual(reply["answers"][1].splitlines()[1], "pc 0202 i 0000 dt 00 st 00 draws 0 low run")
         self.assertEqual(reply["answers"][2], "LOOP 514 2\n.\n")
         self.assertEqual(reply["answers"][5:], ["600570011202\n", "0202 7001 ADD V0, #01\n.\n", "ok\n", "no Q1\n"])
+
+    def test_an_example_with_its_screen(self) -> None:
+        found = self.good("example", name="bounce", steps=300)
+        self.assertEqual(found["text"], (TOP / "examples/bounce.asm").read_text())
+        self.assertEqual(found["screen"], self.opened(found["text"], ["screen 300"])["answers"][0])
+        self.assertEqual(self.ask("example", name="../HANDLES", steps=3)[0], 400)
+        self.assertEqual(self.ask("example", name="bounce", steps=1_000_001)[0], 400)
+
+    def test_the_tape_of_a_seed(self) -> None:
+        tape = self.good("tape", seed="7")["tape"]
+        self.assertEqual(len(tape), 512)
+        asked = {"source": "RND V1, 255\nRND V2, 255\n", "commands": ["regs 2"]}
+        by_seed = self.good("open", options={"seed": "7"}, **asked)["answers"]
+        self.assertEqual(self.good("open", options={"tape": tape}, **asked)["answers"], by_seed)
+        self.assertEqual(self.ask("tape", seed="7 --rate 3")[0], 400)
 
     def test_a_search_against_each_step(self) -> None:
         """Of each example, the columns against the answers of `regs`."""

@@ -45,6 +45,32 @@ test('the program answers words, files of key events and searches', { skip }, ()
   assert.equal(requests.search({ ...about, source: 'LD V0\n', most: 2, isLast: false, where: [['v0', ['05'], false]] }).refused.status, 1);
 });
 
+test('what a command does not take of the settings makes no difference to it', { skip }, () => {
+  const requests = new ProgramRequests(moduleOf(program));
+  const options = { rate: '20', every: '2000' };
+  const found = requests.search({ source: 'L: ADD V0, 1\nJP L\n', keys: '', options, first: 1, last: 100, most: 1, isLast: false, where: [['v0', ['05'], false]] });
+  assert.deepEqual(found.steps, [9]);
+  assert.deepEqual(requests.about(), { options: ['rate', 'tape', 'seed', 'profile', 'every'], words: requests.about().words });
+  assert.ok(requests.about().words.includes('explore'));
+});
+
+test('a search over all keys is told of while it goes on, and gives the keys that it found', { skip }, () => {
+  const requests = new ProgramRequests(moduleOf(program));
+  const found = requests.explore({ source: 'LOOP: LD V0, K\nSE V0, 3\nJP LOOP\nRET\n', options: { rate: '10', every: '1000' } }, () => {});
+  assert.match(found.output, /^S5 3\n/);
+  assert.equal(found.keys, '0 3 down\n1 3 up\n');
+  const told = [];
+  const source = fs.readFileSync(new URL('../../../examples/breaker.asm', import.meta.url), 'latin1');
+  assert.match(requests.explore({ source, options: {} }, (progress) => told.push(progress)).output, /^within \d+\n/);
+  assert.ok(told.length > 0 && told.every(({ step, states }) => step > 0 && states > 0));
+  assert.deepEqual(told, told.toSorted((one, other) => one.states - other.states));
+});
+
+test('an example has its screen', { skip }, () => {
+  const requests = new ProgramRequests(moduleOf(program));
+  assert.equal(requests.example({ text: 'LOW\n', steps: 1 }).screen, 'low\n.\n');
+});
+
 test('the tape of a seed is that of the program', { skip: skip || (native ? false : 'CHIPBENCH names no program') }, () => {
   const { tape } = new ProgramRequests(moduleOf(program)).tape({ seed: '7' });
   assert.equal(tape.length, 512);

@@ -1,0 +1,52 @@
+"""What pages in one file are made of: modules bundled as one script, texts in base64, a content security policy, and the page of a game."""
+
+import base64
+import hashlib
+import os
+import re
+
+HERE = os.path.dirname(os.path.abspath(__file__))
+GAME_SCRIPT = """
+const bytes = Uint8Array.from(atob(document.getElementById('session-module').textContent), (byte) => byte.charCodeAt(0));
+const about = JSON.parse(document.getElementById('game').textContent);
+WebAssembly.compile(bytes).then((module) => {
+  globalThis.chipbenchPlayer = new Player(module, about);
+});
+"""
+
+
+def text_of(*path):
+    with open(os.path.join(*path), encoding="utf-8") as file:
+        return file.read()
+
+
+def encoded(content):
+    return base64.b64encode(content).decode("ascii")
+
+
+def bundle(modules):
+    """Modules as one script, each in a scope of its own: a script that isn't a module can import none."""
+    parts = []
+    for name in modules:
+        text = re.sub(r"^import [^;]*;\n", "", text_of(HERE, name), flags=re.M)
+        names = ", ".join(re.findall(r"^export (?:async )?(?:class|function\*?|const) (\w+)", text, re.M))
+        plain = re.sub(r"^export ", "", text, flags=re.M)
+        parts.append(f"const {{ {names} }} = (() => {{\n{plain}return {{ {names} }};\n}})();\n")
+    return "'use strict';\n" + "".join(parts)
+
+
+def policy(scripts, styles, others):
+    """What the page may load: its own scripts and styles, which are told by their checksums, and nothing from elsewhere."""
+    def sums(texts):
+        return " ".join(f"'sha256-{encoded(hashlib.sha256(text.encode()).digest())}'" for text in texts)
+
+    rules = ["default-src 'none'", f"script-src {others} {sums(scripts)}", f"style-src {sums(styles)}", "img-src data: blob:"]
+    return "; ".join([*rules, "worker-src blob:", "form-action 'none'", "base-uri 'none'"])
+
+
+def game_template():
+    """The page of a game, but for what is of one game: @TITLE@, @SETTINGS@, @GAME@ and @MODULE@ stand in its place."""
+    script = bundle(["session.mjs", "game.mjs"]) + GAME_SCRIPT
+    style = text_of(HERE, "game.css")
+    parts = {"POLICY": policy([script], [style], "'wasm-unsafe-eval'"), "STYLE": style, "SCRIPT": script}
+    return re.sub("@(POLICY|STYLE|SCRIPT)@", lambda found: parts[found[1]], text_of(HERE, "game.html"))
