@@ -6,7 +6,7 @@ import tempfile
 import time
 from pathlib import Path
 
-from browser_page import PageTests
+from browser_page import PageTests, wait_for
 from driver import CONTROL, Browser
 from small_png import pixels
 
@@ -129,22 +129,24 @@ class LayoutTests(PageTests):
             for width, height in ((1440, 900), (720, 450), (390, 844)):
                 browser.size(width, height)
                 self.tab("source")
-                time.sleep(0.3)
                 place = Path(folder) / "page.png"
-                browser.picture(place)
-                wide, tall, colours = pixels(place.read_bytes())
-                assert (wide, tall) == (width, height)
 
                 def part(selector: str) -> list[tuple[int, ...]]:
+                    wide, _, colours = pixels(place.read_bytes())
                     left, top, right, bottom = (
                         round(edge)
                         for edge in browser.value(f"(() => {{ const b = document.querySelector('{selector}').getBoundingClientRect(); return [b.left, b.top, b.right, b.bottom]; }})()")
                     )
                     return [colour for row in range(top, bottom) for colour in colours[row * wide + left : row * wide + right]]
 
-                screen = part("#screen")
-                share = sum(colour[1] > 150 for colour in screen) / len(screen)
-                assert abs(share - lit_share) < 0.03, (width, share, lit_share)
+                def share() -> float:
+                    browser.picture(place)
+                    screen = part("#screen")
+                    return sum(colour[1] > 150 for colour in screen) / len(screen)
+
+                # a picture that is taken too soon is of the size before
+                wait_for(lambda: abs(share() - lit_share) < 0.03, f"the screen in a picture of {width} by {height}")
+                assert pixels(place.read_bytes())[:2] == (width, height)
                 for selector in ("#editor", "#registers-part", "#close-up", "#transport", "header"):
                     assert len(set(part(selector))) > 8, (width, selector)
 

@@ -107,9 +107,13 @@ class PageTests:
 
     @contextlib.contextmanager
     def one_file_on(self, opened: list[str], words: tuple[str, ...]) -> Iterator[Browser]:
-        """The page in one file on what the author opens in it. What the browser keeps is taken away at its end."""
+        """The page in one file on what the author opens in it, in a browser that keeps nothing of it yet."""
+        clear = "localStorage.clear(); sessionStorage.clear();"
         try:
             self.begin(self.page_folder.resolve().as_uri())
+            self.browser.value(f"{clear} addEventListener('pagehide', () => {{ {clear} }})")
+            self.browser.open("about:blank")
+            self.begin(self.address)
             place = Path(opened[-1])
             if place.exists():
                 self.upload(place)
@@ -121,8 +125,6 @@ class PageTests:
             self.starts_before = self.browser.value("chipbenchPage.workbench.starts") - 1
             yield self.browser
         finally:
-            with contextlib.suppress(RuntimeError):
-                self.browser.value("addEventListener('pagehide', () => { localStorage.clear(); sessionStorage.clear(); })")
             self.browser.open("about:blank")
 
     @contextlib.contextmanager

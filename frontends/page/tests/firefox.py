@@ -107,6 +107,8 @@ class Firefox(Browser):
             self.requests.append(parameters["request"]["url"])
 
     def open(self, address: str) -> None:
+        # a download or a window of another test may have taken the focus
+        self.call("browsingContext.activate", context=self._context)
         self.call("browsingContext.navigate", context=self._context, url=address, wait="complete")
         self.theme(self._theme)
 
