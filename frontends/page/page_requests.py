@@ -27,8 +27,9 @@ OPTION_VALUES = {
     "profile": re.compile(r"[a-z0-9]{1,20}"),
     "every": re.compile(r"[0-9]{1,9}"),
 }
-WORDS = ("dis", "explain", "check", "trace", "test", "explore")
-NAMES = ("about", "open", "ask", "search", "word", "keys", "files", "read", "save", "example", "explore", "game", "tape")
+SEARCHES = ("explore", "prove")
+WORDS = ("dis", "explain", "check", "trace", "test", *SEARCHES)
+NAMES = ("about", "open", "ask", "search", "word", "keys", "files", "read", "save", "example", "game", "tape", *SEARCHES)
 TAKEN = "another window has started the program anew"
 
 
@@ -86,13 +87,13 @@ class Bridge:
         self._saving = threading.Lock()
         self._searching = threading.Lock()
         self._exploring = threading.Lock()
-        self._exploration: Exploration | None = None
-        self._explorations = 0
+        self._explorations: dict[str, tuple[int, Exploration]] = {}
+        self._searches = 0
         self._options = [name for name in OPTION_VALUES if name in self._options_of("debug")]
         self._takes_keys = "keys" in self._options_of("run")
         self._words = self._known_words()
         self._trace_options = self._options_of("trace") if "trace" in self._words else set()
-        self._explore_options = self._options_of("explore") if "explore" in self._words else set()
+        self._search_options = {command: self._options_of(command) for command in SEARCHES if command in self._words}
         self._folder = tempfile.TemporaryDirectory(prefix="chipbench-page-")
         self.place = Path(self._folder.name)
 
@@ -263,7 +264,8 @@ class Bridge:
         with self._lock:
             self._close()
         with self._exploring:
-            self._end_exploration()
+            for command in list(self._explorations):
+                self._end_exploration(command)
         self._folder.cleanup()
 
     # Searches in a run ---------------------------------------------------------------------------------------------------
@@ -290,35 +292,46 @@ class Bridge:
                 events.unlink()
 
     def explore(self, request: dict[str, Any]) -> dict[str, Any]:
-        """Starts a search over all key scripts in place of the one before, tells how far the one of a number is, or stops it."""
+        """A search for keys under which the machine stops."""
+        return self._searched("explore", request)
+
+    def prove(self, request: dict[str, Any]) -> dict[str, Any]:
+        """A search for keys that break a property of the source."""
+        return self._searched("prove", request)
+
+    def _searched(self, command: str, request: dict[str, Any]) -> dict[str, Any]:
+        """Starts a search of a command in place of its one before, tells how far the one of a number is, or stops it."""
         action = request.get("action")
-        if not self._explore_options or action not in ("start", "tell", "stop"):
-            raise Refused(409, "this program has no command `explore`, or there is no such action")
+        if command not in self._words or action not in ("start", "tell", "stop"):
+            raise Refused(409, f"this program has no command `{command}`, or there is no such action")
         with self._exploring:
+            number, exploration = self._explorations.get(command, (None, None))
             if action == "start":
-                self._start_exploration(request)
-            elif request.get("number") != self._explorations or self._exploration is None:
+                self._end_exploration(command)
+                number, exploration = self._start_exploration(command, request)
+            elif request.get("number") != number or exploration is None:
                 return {"number": None}
             elif action == "stop":
-                self._end_exploration()
+                self._end_exploration(command)
                 return {"number": None}
-            assert self._exploration is not None
-            return {"number": self._explorations, **self._exploration.told}
+            assert exploration is not None
+            return {"number": number, **exploration.told}
 
-    def _start_exploration(self, request: dict[str, Any]) -> None:
+    def _start_exploration(self, command: str, request: dict[str, Any]) -> tuple[int, Exploration]:
         source, options = bytes_of(request.get("source"), MAX_FILE), request.get("options")
-        arguments = option_arguments({name: value for name, value in options.items() if name in self._explore_options} if isinstance(options, dict) else None)
-        self._end_exploration()
-        self._explorations += 1
+        known = self._search_options[command]
+        arguments = option_arguments({name: value for name, value in options.items() if name in known} if isinstance(options, dict) else None)
+        self._searches += 1
         try:
-            self._exploration = Exploration([self._program, "explore", *arguments], source, self.place / f"explored-{self._explorations}")
+            exploration = Exploration([self._program, command, *arguments], source, self.place / f"explored-{self._searches}", prints_json=command == "prove")
         except OSError as error:
             raise Refused(500, f"the search can't be started: {error.strerror}") from None
+        self._explorations[command] = (self._searches, exploration)
+        return self._explorations[command]
 
-    def _end_exploration(self) -> None:
-        if self._exploration is not None:
-            self._exploration.stop()
-            self._exploration = None
+    def _end_exploration(self, command: str) -> None:
+        if command in self._explorations:
+            self._explorations.pop(command)[1].stop()
 
     # Words of the program that are run once ------------------------------------------------------------------------------
 

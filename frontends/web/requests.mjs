@@ -102,7 +102,7 @@ export class SessionRequests {
   }
 }
 
-// A host of a long run, which says on standard error how far it is, in pieces of lines.
+// A host of a long run, which prints what it finds, and says on standard error how far it is, in pieces of lines.
 class ToldHost extends MemoryHost {
   constructor(words, files, tell) {
     super(words, { files });
@@ -111,6 +111,13 @@ class ToldHost extends MemoryHost {
   }
 
   write(number, bytes) {
+    if (number === 1) {
+      super.write(number, bytes);
+      // whole lines alone
+      const output = new TextDecoder().decode(this.written(1));
+      this.tell({ output: output.slice(0, output.lastIndexOf('\n') + 1) });
+      return bytes.length;
+    }
     if (number === 2) {
       this.last = (this.last + textOf(bytes)).slice(-LINE_OF_PROGRESS);
       const found = PROGRESS.exec(this.last);
@@ -130,7 +137,8 @@ export class ProgramRequests {
     this.known = new Map();
   }
 
-  runOnce(words, files = new Map(), host = new MemoryHost(words, { files })) {
+  runOnce(words, files = new Map()) {
+    const host = new MemoryHost(words, { files });
     const status = run(this.module, host);
     return { status, output: textOf(host.written(1)), errors: new TextDecoder().decode(host.written(2)) };
   }
@@ -157,12 +165,24 @@ export class ProgramRequests {
     return { text, screen: status === 0 ? output.split('\n').slice(LINES_OF_REGISTERS).join('\n') : null };
   }
 
-  // A search over all key scripts: what it prints, and the keys that it found.
+  // A search over all key scripts for a stop: what it prints, and the keys that it found.
   explore({ source, options }, tell) {
     const files = new Map([['source', bytesOf(source)]]);
-    const words = ['explore', ...this.argumentsFor('explore', options), '--states', `${STATES}`, '--progress', '--keys-to', 'keys', 'source'];
-    const ran = this.runOnce(words, files, new ToldHost(words, files, tell));
-    return { ...ran, keys: textOf(files.get('keys') ?? new Uint8Array()) };
+    const found = this.searchOver('explore', { options, files, more: ['--keys-to', 'keys'] }, tell);
+    return { ...found, keys: textOf(files.get('keys') ?? new Uint8Array()) };
+  }
+
+  // A search for keys that break a property of the source; what it prints is told as it comes.
+  prove({ source, options }, tell) {
+    return this.searchOver('prove', { options, files: new Map([['source', bytesOf(source)]]), more: ['--json'] }, tell);
+  }
+
+  searchOver(command, { options, files, more }, tell) {
+    const words = [command, ...this.argumentsFor(command, options), '--states', `${STATES}`, '--progress', ...more, 'source'];
+    const host = new ToldHost(words, files, tell);
+    const status = run(this.module, host);
+    const decoder = new TextDecoder();
+    return { status, output: decoder.decode(host.written(1)), errors: decoder.decode(host.written(2)) };
   }
 
   // Why a source doesn't open, as the program says it.

@@ -8,7 +8,7 @@ const STEP_PIXELS = 24;
 const LEAST_PIXELS = 280;
 const MOST_OF_WIDTH = 0.7;
 const MACHINE = '--machine-width';
-const TABS = ['words', 'stack', 'memory', 'sprite', 'keys', 'crashes', 'search'];
+const TABS = ['words', 'stack', 'memory', 'sprite', 'keys', 'crashes', 'properties', 'search'];
 
 const system = matchMedia(THEMES.system);
 /** Where the source is behind a tab, as in sizes.css. */

@@ -3,6 +3,7 @@
 import { byId, element } from './dom.mjs';
 import { hex } from './answers.mjs';
 import { DIRECTIVES, MNEMONICS, REGISTERS, rowsOf, tokensOf } from './language.mjs';
+import { propertyStart, propertyWords } from './property_line.mjs';
 
 const MOST = 12;
 /** How high a row of the list is, and what stands around the rows, in pixels, as style.css has them. */
@@ -20,9 +21,11 @@ export function completionsOf(line, place, symbols, isAsked = false) {
   const isStatement = before.trim() === '';
   const names = symbols.map(({ name, value }) => [name, `= ${value}, #${hex(value < 0 ? 2 ** 32 + value : value, 3)}`]);
   const words = [...MNEMONICS, ...DIRECTIVES.keys()].map((word) => [word, rowsOf(word)[0]]);
-  const all = isStatement ? words : [...names, ...REGISTERS.map((word) => [word, 'register'])];
-  const found = all.filter(([word]) => word.startsWith(begun.toUpperCase())).slice(0, MOST);
-  const isWhole = found.some(([word]) => word === begun.toUpperCase());
+  const ofStatements = isStatement ? words : [...names, ...REGISTERS.map((word) => [word, 'register'])];
+  const isProperty = propertyStart(line) !== null && place >= propertyStart(line);
+  const all = isProperty ? propertyWords(line.slice(0, place - begun.length), names) : ofStatements;
+  const found = all.filter(([word]) => word.toUpperCase().startsWith(begun.toUpperCase())).slice(0, MOST);
+  const isWhole = found.some(([word]) => word.toUpperCase() === begun.toUpperCase());
   if (found.length === 0 || (isWhole && !isAsked)) return null;
   return { start: place - begun.length, begun, found };
 }

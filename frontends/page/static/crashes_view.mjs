@@ -31,9 +31,9 @@ export class CrashesView {
 
   /** Loads the script under which the machine stops, as one change of the keys, and goes to its step. */
   showCrash() {
-    const { found, keys } = this.#crashes.state;
+    const { found } = this.#crashes.state;
     if (!found?.crash) return;
-    const script = readKeys(keys);
+    const script = readKeys(found.keys);
     this.#model.setFlag({ step: found.crash.step, text: found.crash.cause });
     this.#model.setKeys(script);
     this.#loaded = this.#model.keys;
@@ -49,7 +49,8 @@ export class CrashesView {
       this.#loaded = null;
       this.#model.setFlag(null);
     }
-    setText(this.#text, textOf(state));
+    const isBlank = this.#model.text.trim() === '' && state.name === 'faulty';
+    setText(this.#text, isBlank ? 'There is no source yet.' : textOf(state));
     this.#text.classList.toggle('bad', crash !== null);
     setText(this.#switch, isOn ? 'Stop' : 'Search');
     setProperty(this.#show, 'disabled', crash === null || isLoaded);
@@ -60,18 +61,19 @@ export class CrashesView {
   }
 }
 
-function textOf({ name, step, states, found, keys }) {
+function textOf({ name, step, states, found, why }) {
   const texts = {
     off: 'Searches all that a player can press for keys under which the machine stops, beside your work.',
     waits: 'The source has changed: the search begins anew.',
     searches: `Searching: up to step ${grouped(step)}, ${grouped(states)} states, no crash so far.`,
     faulty: 'There is no run, since a line has a fault.',
-    failed: `The search ended without an answer. ${keys}`.trim(),
+    failed: `The search ended without an answer. ${why}`.trim(),
   };
   if (name !== 'found') return texts[name];
   if (found.crash !== null) {
-    const count = keys.split('\n').length - 1;
-    return `${found.crash.cause} at step ${grouped(found.crash.step)}: ${codeText(found.crash.cause)}. ${count === 1 ? 'One key event leads' : `${grouped(count)} key events lead`} there.`;
+    const count = found.keys.split('\n').length - 1;
+    const line = found.crash.line === null ? '' : `, line ${found.crash.line}`;
+    return `${found.crash.cause} at step ${grouped(found.crash.step)}${line}: ${codeText(found.crash.cause)}. ${count === 1 ? 'One key event leads' : `${grouped(count)} key events lead`} there.`;
   }
   return found.within === null ? 'No keys make it stop, at any step.' : `No keys make it stop up to step ${grouped(found.within)}.`;
 }

@@ -1,6 +1,8 @@
 // The words of the language (docs/LANGUAGE.md) and the rows of its instructions (docs/MACHINE.md), to colour, to complete and to
 // explain what is written. What a line means, and whether it is right, the program says.
 
+import { propertyStart, propertyTokens } from './property_line.mjs';
+
 /** The instructions: the word, the source, and what it does. */
 export const INSTRUCTIONS = [
   ['00CN', 'SCD n', 'the pixels move down n stored rows'],
@@ -83,6 +85,7 @@ const TOKEN = /(?<comment>;.*)|(?<text>'[^']*'?|"[^"]*"?)|(?<number>[0-9#@$][A-Z
 
 /** The tokens of a line, each with its kind, its text and where it begins. A bad token has the kind of what it begins like. */
 export function tokensOf(line) {
+  if (propertyStart(line) !== null) return propertyTokens(line);
   const tokens = [];
   for (const found of line.matchAll(TOKEN)) {
     const { comment, text, number, word } = found.groups;

@@ -30,7 +30,10 @@ import { readNumber } from './numbers.mjs';
 import { tellEnd, tellFault } from './page_faults.mjs';
 import { findLastStep, optionsOf, takeKeptPlace } from './page_start.mjs';
 import { Player } from './player.mjs';
+import { propertiesIn } from './property_line.mjs';
 import { fieldsApart, RegistersView } from './registers_view.mjs';
+import { Properties } from './properties.mjs';
+import { PropertiesView } from './properties_view.mjs';
 import { RunControl } from './run_control.mjs';
 import { pixelsApart, ScreenView } from './screen_view.mjs';
 import { SearchView } from './search_view.mjs';
@@ -47,7 +50,6 @@ class Page {
   #about;
   #act;
   #begun = false;
-  #begunCrashes = false;
   /** The last machine that was shown, and the last step whose line was brought into sight. */
   #shown = null;
   #revealed = null;
@@ -119,14 +121,34 @@ class Page {
       await this.viewer.settle();
       return this.viewer.machine?.code === null;
     };
-    this.crashes = new Crashes(this.model, hasRun);
-    this.crashesView = new CrashesView(this.crashes, this.model);
-    byId('tab-crashes').hidden = !this.#about.words.includes('explore');
+    this.#makeBackground(hasRun);
     this.coverage = new Coverage(this.model, {
       ask: (questions) => this.workbench.answers(this.model.wanted, questions),
       map: () => this.viewer.assembled.map,
       show: (covered) => this.editor.showCovered(covered),
     });
+  }
+
+  /** The searches that go on beside the author's work, where the program has their commands. */
+  #makeBackground(hasRun) {
+    const states = () => propertiesIn(this.model.wanted.lines).length > 0;
+    this.crashes = new Crashes(this.model, hasRun);
+    this.crashesView = new CrashesView(this.crashes, this.model);
+    this.properties = new Properties(this.model, { hasRun, states });
+    this.propertiesView = new PropertiesView(this.properties, {
+      model: this.model,
+      machine: () => ({ machine: this.viewer.machine, symbols: this.viewer.assembled.symbols }),
+      goToLine: (line) => this.#goToLine(line),
+      isInSight: () => this.appearance.tab === 'properties',
+    });
+    const { words } = this.#about;
+    byId('tab-crashes').hidden = !words.includes('explore');
+    byId('tab-properties').hidden = !words.includes('prove');
+  }
+
+  #beginBackground() {
+    if (this.#about.words.includes('explore')) this.crashes.start();
+    if (this.#about.words.includes('prove')) this.properties.start();
   }
 
   /** Where the run stops at breakpoints; nowhere where the program can't search for them. */
@@ -153,6 +175,7 @@ class Page {
     this.#begun = true;
     this.start.showWhereBlank();
     this.viewer.refresh();
+    this.#beginBackground();
   }
 
   // What changes --------------------------------------------------------------------------------------------------------------
@@ -259,8 +282,7 @@ class Page {
     if (machine === null) return;
     const panels = {
       words: () => this.disassembly.show(machine, assembled, this.editor.lines),
-      // once it was opened it goes on by itself, until it is stopped
-      crashes: () => this.#beginCrashes(),
+      properties: () => this.propertiesView.show(),
       stack: () => this.callStack.show(machine, assembled),
       memory: () => this.memory.show(machine, assembled),
       sprite: () => this.sprite.show(machine),
@@ -270,11 +292,6 @@ class Page {
       },
     };
     panels[this.appearance.tab]?.();
-  }
-
-  #beginCrashes() {
-    if (!this.#begunCrashes) this.crashes.start();
-    this.#begunCrashes = true;
   }
 
   #showText({ listing, faults }) {

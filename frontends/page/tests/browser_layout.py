@@ -11,7 +11,7 @@ from driver import CONTROL, Browser
 from small_png import pixels
 
 SIZES = ((1440, 900), (1280, 800), (1024, 768), (720, 450), (390, 844), (360, 640))
-PANELS = ("words", "stack", "memory", "sprite", "keys", "crashes", "search")
+PANELS = ("words", "stack", "memory", "sprite", "keys", "crashes", "properties", "search")
 # the texts that are seen, each with its box, cut off where its parts are, its colour and the colour below it
 TEXTS = """(() => {
     const seen = [];

@@ -188,3 +188,58 @@ class PlayTests(PageTests):
             browser.wait("/^Searches all/.test(document.getElementById('crashes-text').textContent)")
             told = self.request("explore", {"action": "tell", "number": 1})
             assert told["number"] is None, told
+
+    def test_properties(self) -> None:
+        """Each has its answer while the author works on; the play that breaks one is shown with its values, and what was there comes back."""
+        text = ";! never V0 = 3 at DONE\n;! V1 = 0 here\nLOOP: LD V0, K\nSE V0, 3\nJP LOOP\nDONE: JP DONE\n;! ever at LOOP\n;! V0 <= NOWHERE\n"
+        with self.page(text) as browser:
+            if browser.value("document.getElementById('tab-properties').hidden"):
+                return
+            keys = "JSON.stringify(chipbenchPage.model.keys.events)"
+            browser.value("chipbenchPage.model.setKeys(chipbenchPage.model.keys.with(10, 2, true).with(14, 2, false))")
+            mine = browser.value(keys)
+            # it is searched before the tab is opened
+            browser.wait("!document.getElementById('properties-badge').hidden && document.getElementById('properties-badge').textContent === '1'", 60.0)
+            self.tab("properties")
+            rows = "[...document.querySelectorAll('#properties-rows li')].map((row) => [...row.querySelectorAll('.line, code, p')].map((part) => part.textContent))"
+            browser.wait(f"JSON.stringify({rows}).includes('never broken')", 60.0)
+            shown = browser.value(rows)
+            assert shown[:3] == [["1", "never V0 = 3 at DONE", "broken at step 2"], ["2", "V1 = 0 here", "never broken"], ["7", "ever at LOOP", "reached at step 0"]], shown
+            assert shown[3][:2] == ["8", "V0 <= NOWHERE"] and shown[3][2].startswith("P3: undefined name"), shown
+            browser.click("#properties-rows li:first-child .bordered")
+            browser.wait("document.querySelector('#properties-rows .values')?.textContent === 'At step 2: V0 = 3'")
+            self.check_step(text, 2, ["kins 0 3 down", "kins 1 3 up"])
+            assert browser.value("chipbenchPage.model.flag.step") == 2
+            self.picture("property")
+            browser.value("document.activeElement.blur()")
+            browser.press("z", "KeyZ", CONTROL)
+            assert browser.value(keys) == mine and browser.value("chipbenchPage.model.flag") is None
+            browser.click("#properties-rows li:first-child .bordered")
+            browser.click("#properties-mine")
+            assert browser.value(keys) == mine
+            # the search goes along with the source
+            self.put_line(4, "SE V0, 4")
+            browser.wait(f"{rows}[0][2] === 'never broken'", 60.0)
+            assert browser.value("document.getElementById('properties-badge').hidden")
+            browser.click("#properties-rows li:nth-child(2) .line")
+            assert browser.value("chipbenchPage.editor.line") == 2
+            self.put_line(4, "SE V0, NOWHERE")
+            browser.wait("/a line has a fault/.test(document.getElementById('properties-text').textContent)", 60.0)
+            browser.click("#properties-switch")
+            assert self.text_of("#properties-switch") == "Search"
+
+    def test_lines_of_properties(self) -> None:
+        """They have colours and completions of their own."""
+        with self.page("LOOP: ADD V0, 1\n;! always V0 <= 63 at LOOP ; so far\nJP LOOP\n") as browser:
+            spans = "[...document.querySelectorAll('#colours > div')][1].querySelectorAll('span')"
+            coloured = browser.value(f"[...{spans}].map((one) => [one.className, one.textContent])")
+            wanted = [["directive", ";!"], ["mnemonic", "always"], ["register", "V0"], ["number", "63"], ["mnemonic", "at"], ["comment", "; so far"]]
+            assert coloured == wanted, coloured
+            browser.value("chipbenchPage.editor.goToLine(3); chipbenchPage.editor.focus()")
+            for typed, first in ((";! ne", "never"), (" V1 = 1 at LO", "LOOP")):
+                for letter in typed:
+                    browser.press(letter, text=letter)
+                browser.wait("!document.getElementById('completions').hidden")
+                assert browser.value("document.querySelector('#completions li span').textContent") == first
+                browser.press("Tab")
+            browser.wait("chipbenchPage.editor.lines[2].startsWith(';! never V1 = 1 at LOOP')")

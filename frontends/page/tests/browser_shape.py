@@ -73,7 +73,7 @@ class ShapeTests(PageTests):
         with self.page(self.example("guess")) as browser:
             browser.value("chipbenchPage.model.setKeys(chipbenchPage.model.keys.with(20, 3, true))")
             self.rest()
-            for tab in ("source", "words", "stack", "memory", "sprite", "keys", "crashes", "search"):
+            for tab in ("source", "words", "stack", "memory", "sprite", "keys", "crashes", "properties", "search"):
                 self.tab(tab)
                 assert browser.nameless() == [], (tab, browser.nameless())
 

@@ -21,6 +21,8 @@ import { lookOf, mappedKey } from '../static/look.mjs';
 import { Model } from '../static/model.mjs';
 import { Names } from '../static/names.mjs';
 import { difference, SourceText } from '../static/source_text.mjs';
+import { answerText, isBad, readProved, scriptOf } from '../static/properties.mjs';
+import { namedValues, propertiesIn, propertyTokens, propertyWords } from '../static/property_line.mjs';
 import { placeFrom, placesOf, replacedAll } from '../static/text_find.mjs';
 import { readSprite, readSpriteLine, writeSprite } from '../static/sprite_lines.mjs';
 import { TextHistory } from '../static/text_history.mjs';
@@ -365,7 +367,8 @@ test('sprites: the DB lines that one is from, and is written to', () => {
 
 test('crashes: what `explore` prints', () => {
   // as docs/FORMATS.md has it
-  assert.deepEqual(readExplored('S5 3\nkeys 2\nstates 1\n'), { crash: { cause: 'S5', step: 3 }, within: null, others: [] });
+  assert.deepEqual(readExplored('S5 3\nkeys 2\nstates 1\n'), { crash: { cause: 'S5', step: 3, line: null }, within: null, others: [] });
+  assert.deepEqual(readExplored('S5 3, line 13: RET\nkeys 2\nstates 1\n').crash, { cause: 'S5', step: 3, line: 13 });
   assert.deepEqual(readExplored('S6 40\nkeys 2\nS2 77\nstates 91\n').others, [{ cause: 'S2', step: 77 }]);
   assert.deepEqual(readExplored('within 2349\nstates 200001\n'), { crash: null, within: 2349, others: [] });
   assert.deepEqual(readExplored('never\nstates 7\n'), { crash: null, within: null, others: [] });
@@ -397,7 +400,7 @@ test('crashes: a change of the source begins the search anew, and a stop ends it
   await pass(1000);
   result = { status: 1, output: 'S5 0\nkeys 0\nstates 1\n', keys: '' };
   await pass(400);
-  assert.deepEqual([crashes.state.name, crashes.state.found.crash], ['found', { cause: 'S5', step: 0 }]);
+  assert.deepEqual([crashes.state.name, crashes.state.found.crash], ['found', { cause: 'S5', step: 0, line: null }]);
   model.setText('BAD');
   await pass(1000);
   assert.equal(crashes.state.name, 'faulty');
@@ -408,4 +411,56 @@ test('crashes: a change of the source begins the search anew, and a stop ends it
   await pass(1000);
   assert.equal(crashes.state.name, 'off');
   assert.deepEqual(asked, ['start CLS', 'stop 1', 'start RET', 'tell 2', 'start RET', 'stop 3']);
+});
+
+// Properties -------------------------------------------------------------------------------------------------------------------
+
+test('properties: what `prove --json` prints', () => {
+  const lines = [
+    '{"line":12,"column":12,"end":17,"code":"P3","message":"undefined name","help":["did you mean LIVES?"],"file":"game.asm"}',
+    '{"line":4,"property":"always V1 <= 27","answer":"broken","step":3384,"keys":[{"step":20,"key":5,"down":true},{"step":31,"key":5,"down":false}],"file":"game.asm"}',
+    '{"line":5,"property":"V0 <= 63 here","answer":"never broken","file":"game.asm"}',
+    '{"line":6,"property":"never VF = 1 at ADDED","answer":"unbroken","covered":16291,"file":"game.asm"}',
+    '{"line":7,"property":"ever at OVER","answer":"not reached","covered":9,"file":"game.asm"}',
+    '{"states":30065,"file":"game.asm"}',
+  ];
+  const { answers, faults, ending } = readProved(lines.map((line) => `${line}\n`).join(''));
+  assert.deepEqual(faults.get(12), { code: 'P3', message: 'undefined name', help: ['did you mean LIVES?'] });
+  assert.equal(ending.states, 30065);
+  assert.equal(scriptOf(answers.get(4)), '20 5 down\n31 5 up\n');
+  const texts = [...answers.values()].map((answer) => [answerText(answer, String), isBad(answer)]);
+  assert.deepEqual(texts, [['broken at step 3384', true], ['never broken', false], ['unbroken up to step 16291', false], ['not reached up to step 9', true]]);
+  assert.equal(answerText({ answer: 'broken', step: 5000, covered: 300 }, String), 'broken at step 5000; no keys do so up to step 300');
+  // as far as it has come, without the line that isn't whole
+  assert.equal(readProved(`${lines[1]}\n{"line":5`).answers.size, 1);
+  assert.equal(readProved('usage: chipbench\n'), null);
+});
+
+test('properties: the lines that state them, their tokens and what may stand there', () => {
+  assert.deepEqual(propertiesIn(['CLS', ' ;! V0 <= 8 here', '; no', 'LD V0, 1 ;! no']), [{ line: 2, text: 'V0 <= 8 here' }]);
+  const tokens = propertyTokens(';! never [LIVES] = 3 at END ; so');
+  assert.deepEqual(
+    tokens.map(({ kind, text }) => [kind, text]),
+    [
+      ['directive', ';!'], ['mnemonic', 'never'], ['sign', '['], ['name', 'LIVES'], ['sign', ']'], ['sign', '='],
+      ['number', '3'], ['mnemonic', 'at'], ['name', 'END'], ['comment', '; so'],
+    ],
+  );
+  assert.ok(tokens.every(({ text, start }) => ';! never [LIVES] = 3 at END ; so'.startsWith(text, start)));
+  const names = [['LIVES', '= 768']];
+  assert.deepEqual(propertyWords(';! always V0 <= 3 at ', names), names);
+  assert.deepEqual(propertyWords(';! [', names), names);
+  assert.ok(propertyWords(';! ', names).some(([word]) => word === 'always'));
+  assert.ok(!propertyWords(';! V0 ', names).some(([word]) => word === 'always'));
+});
+
+test('properties: the values that one names', () => {
+  const registers = { v: Array.from({ length: 16 }, (_, number) => 16 * number), pc: 0x202, i: 0x300, dt: 7, stack: [0x204] };
+  const screen = { size: 'low', rows: [{ row: 4, digits: `0008${'0'.repeat(28)}` }] };
+  const machine = { registers, memory: Uint8Array.from({ length: 4096 }, (_, place) => place % 251), screen };
+  const symbols = [{ name: 'LIVES', value: 768 }];
+  const valuesOf = (property) => namedValues(property, machine, symbols);
+  assert.deepEqual(valuesOf('V0 + 2 * vf <= I and V0 > 1'), [['V0', 0], ['VF', 240], ['I', 768]]);
+  assert.deepEqual(valuesOf('[LIVES] < DEPTH or [#301] = DT at LIVES'), [['[LIVES]', 15], ['DEPTH', 1], ['[#301]', 16], ['DT', 7]]);
+  assert.deepEqual(valuesOf('PIXEL(6, 2) = PIXEL(7,2) and HIGH = 0'), [['PIXEL(6,2)', 1], ['PIXEL(7,2)', 0], ['HIGH', 0]]);
 });

@@ -38,7 +38,7 @@ class ExplorationTests(unittest.TestCase):
         exploration = self.started(SEARCHES)
         self.assertEqual((self.folder / "explored-1.asm").read_bytes(), b"RET\n")
         self.wait(lambda: exploration.told["step"] == 20)
-        self.assertEqual(exploration.told, {"step": 20, "states": 5, "result": None})
+        self.assertEqual(exploration.told, {"step": 20, "states": 5, "output": "", "result": None})
         exploration.stop()
         self.wait(lambda: exploration.told["result"] is not None)
         self.assertEqual(exploration.told["result"]["status"], -9)
@@ -47,8 +47,16 @@ class ExplorationTests(unittest.TestCase):
     def test_what_it_finds(self) -> None:
         exploration = self.started(FINDS)
         self.wait(lambda: exploration.told["result"] is not None)
-        self.assertEqual(exploration.told["result"], {"status": 1, "output": "S5 3\nkeys 1\n", "keys": "0 3 down\n"})
+        self.assertEqual(exploration.told["result"], {"status": 1, "output": "S5 3\nkeys 1\n", "errors": "", "keys": "0 3 down\n"})
         self.assertEqual(list(self.folder.iterdir()), [])
+
+    def test_what_it_prints_is_told_as_it_comes(self) -> None:
+        """In whole lines, while it goes on."""
+        printed = "import sys, time\nassert '--json' in sys.argv\nprint('{}\\n{\"line\"', end='', flush=True)\ntime.sleep(600)\n"
+        exploration = Exploration([sys.executable, "-c", printed], b"", self.folder / "explored-2", prints_json=True)
+        self.addCleanup(exploration.stop)
+        self.wait(lambda: exploration.told["output"] != "")
+        self.assertEqual((exploration.told["output"], exploration.told["result"]), ("{}\n", None))
 
 
 if __name__ == "__main__":

@@ -1,0 +1,120 @@
+// The panel of the properties: each with its answer, and a button that shows the play that breaks it, with the values that it names.
+
+import { byId, element, grouped, setProperty, setText } from './dom.mjs';
+import { readKeys } from './key_script.mjs';
+import { answerText, isBad, scriptOf } from './properties.mjs';
+import { namedValues, propertiesIn } from './property_line.mjs';
+
+const WITHOUT = 'No line of the source states a property. Write one, such as `;! V0 <= 63 here` before an instruction.';
+
+export class PropertiesView {
+  #properties;
+  #model;
+  #machine;
+  #goToLine;
+  #text = byId('properties-text');
+  #rows = byId('properties-rows');
+  #mine = byId('properties-mine');
+  #switch = byId('properties-switch');
+  #badge = byId('properties-badge');
+  /** The keys that were loaded, while they are those of the model, and the answer that they belong to. */
+  #loaded = null;
+  #shown = null;
+  #drawn = '';
+  #isInSight;
+
+  /**
+   * `machine()` is the machine that is shown, with the names of its source; `goToLine(line)` goes to a line of the source;
+   * `isInSight()` says whether the panel is.
+   */
+  constructor(properties, { model, machine, goToLine, isInSight }) {
+    this.#properties = properties;
+    this.#model = model;
+    this.#machine = machine;
+    this.#goToLine = goToLine;
+    this.#isInSight = isInSight;
+    properties.addEventListener('change', () => this.#draw());
+    model.addEventListener('change', ({ detail }) => {
+      if (detail === 'keys' || detail === 'text') this.#draw();
+    });
+    this.#switch.addEventListener('click', () => (properties.isOn ? properties.stop() : properties.start()));
+    this.#mine.addEventListener('click', () => model.undoKeys());
+  }
+
+  /** Draws the panel, which came into sight, or whose machine is another one. */
+  show() {
+    this.#draw();
+  }
+
+  /** Loads the script of an answer, as one change of the keys, and goes to its step. */
+  #show(answer) {
+    this.#model.setFlag({ step: answer.step, text: answer.property });
+    this.#model.setKeys(readKeys(scriptOf(answer)));
+    this.#loaded = this.#model.keys;
+    this.#shown = answer;
+    this.#model.setStep(answer.step);
+    this.#draw();
+  }
+
+  /** The values at the step that is shown, where the play is that of an answer. */
+  #showValues() {
+    const place = this.#rows.querySelector('.values');
+    const { machine, symbols } = this.#machine();
+    if (place === null || this.#shown === null || machine === null || machine.code !== null) return;
+    const values = namedValues(this.#shown.property, machine, symbols).map(([name, value]) => `${name} = ${value}`);
+    setText(place, `At step ${grouped(machine.step)}: ${values.join(', ') || 'it names no value'}`);
+  }
+
+  #draw() {
+    const { isOn, state } = this.#properties;
+    if (this.#loaded !== null && this.#model.keys !== this.#loaded) {
+      [this.#loaded, this.#shown] = [null, null];
+      this.#model.setFlag(null);
+    }
+    const broken = [...(state.found?.answers.values() ?? [])].filter(isBad);
+    setProperty(this.#badge, 'hidden', broken.length === 0);
+    setText(this.#badge, String(broken.length));
+    if (!this.#isInSight()) return;
+    const stated = propertiesIn(this.#model.wanted.lines);
+    setText(this.#text, stated.length === 0 ? WITHOUT : textOf(state, stated.length));
+    setText(this.#switch, isOn ? 'Stop' : 'Search');
+    setProperty(this.#mine, 'disabled', this.#loaded === null);
+    const drawn = JSON.stringify([stated, state.name, [...(state.found?.answers ?? [])], [...(state.found?.faults ?? [])], this.#shown?.line]);
+    // a row that stays the same keeps the focus
+    if (drawn !== this.#drawn) this.#rows.replaceChildren(...stated.map((one) => this.#row(one, state)));
+    this.#drawn = drawn;
+    this.#showValues();
+  }
+
+  #row({ line, text }, { name, found }) {
+    const answer = found?.answers.get(line);
+    const fault = found?.faults.get(line);
+    const told = fault !== undefined ? `${fault.code}: ${[fault.message, ...fault.help].join('; ')}` : answer === undefined ? pending(name) : answerText(answer, grouped);
+    const to = element('button', { type: 'button', className: 'line', textContent: `${line}`, title: `To line ${line}` });
+    to.setAttribute('aria-label', `To line ${line}`);
+    to.addEventListener('click', () => this.#goToLine(line));
+    const isShown = answer !== undefined && this.#shown === answer;
+    const show = element('button', { type: 'button', className: 'bordered', textContent: 'Show', title: 'Loads the keys, and goes to the step', disabled: isShown });
+    show.setAttribute('aria-label', `Show the play of line ${line}`);
+    show.hidden = answer?.keys === undefined;
+    show.addEventListener('click', () => this.#show(answer));
+    const isWrong = fault !== undefined || (answer !== undefined && isBad(answer));
+    const values = isShown ? [element('p', { className: 'values' })] : [];
+    return element('li', {}, to, element('code', { textContent: text }), show, element('p', { className: isWrong ? 'bad' : 'hint', textContent: told }), ...values);
+  }
+}
+
+const pending = (name) => (name === 'searches' ? 'not broken so far' : '');
+
+function textOf({ name, step, states, found, why }, count) {
+  const texts = {
+    off: 'Searches all that a player can press for keys that break a property, beside your work.',
+    waits: 'The source has changed: the search begins anew.',
+    searches: `Searching: up to step ${grouped(step)}, ${grouped(states)} states.`,
+    faulty: 'There is no run, since a line has a fault.',
+    failed: `The search ended without an answer. ${why}`.trim(),
+  };
+  if (name !== 'found') return texts[name];
+  const ways = found.ending?.out_of_memory ? ' Memory ran out.' : '';
+  return `${count === 1 ? 'One property' : `${grouped(count)} properties`}, ${grouped(found.ending?.states ?? 0)} states.${ways}`;
+}
