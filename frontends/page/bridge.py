@@ -25,7 +25,8 @@ from typing import Any
 
 from connections import Connections
 from files import Files, Refused, shown
-from page_requests import MAX_BODY, NAMES, OPTION_VALUES, Bridge
+from page_requests import NAMES, Bridge
+from request_values import MAX_BODY, OPTION_VALUES
 
 HOST = "127.0.0.1"
 FIRST_PORT = 8464

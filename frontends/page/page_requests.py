@@ -9,67 +9,21 @@ import threading
 from pathlib import Path
 from typing import Any
 
+from documents import DOCUMENTS, document
 from exploration import Exploration
 from files import MAX_FILE, Files, Refused, digest_of, read_file, shown
 from games import EXAMPLES, LAST_STEP, example, game_page, session_module, tape_of
 from program import Ended, Program, TooMuch, run_once
+from request_values import OPTION_VALUES, bytes_of, commands_of, number_of, option_arguments
 from trace_search import MOST_STEPS, find_steps, pattern_of
 
-MAX_BODY = 8_000_000
-MAX_COMMANDS = 25_000
 MAX_ANSWERS = 64_000_000
 ANSWER_SECONDS = 60.0
 
-OPTION_VALUES = {
-    "rate": re.compile(r"[0-9]{1,9}"),
-    "tape": re.compile(r"[0-9a-fA-F]{2,8192}"),
-    "seed": re.compile(r"[0-9]{1,20}"),
-    "profile": re.compile(r"[a-z0-9]{1,20}"),
-    "every": re.compile(r"[0-9]{1,9}"),
-}
 SEARCHES = ("explore", "prove")
 WORDS = ("dis", "explain", "check", "trace", "test", *SEARCHES)
-NAMES = ("about", "open", "ask", "search", "word", "keys", "files", "read", "save", "example", "game", "tape", *SEARCHES)
+NAMES = ("about", "open", "ask", "search", "word", "keys", "files", "read", "save", "document", "example", "game", "tape", *SEARCHES)
 TAKEN = "another window has started the program anew"
-
-
-def bytes_of(value: Any, most: int) -> bytes:
-    """The bytes of a text in which each character stands for one byte."""
-    if not isinstance(value, str) or len(value) > most:
-        raise Refused(400, "a text is missing or too long")
-    try:
-        return value.encode("latin-1")
-    except UnicodeEncodeError:
-        raise Refused(400, "a character that isn't a byte") from None
-
-
-def number_of(value: Any) -> int:
-    if not isinstance(value, int) or isinstance(value, bool) or not 0 <= value < 10**9:
-        raise Refused(400, "a number is missing or too large")
-    return value
-
-
-def commands_of(value: Any) -> list[bytes]:
-    """The commands of a request. Each is one line that isn't blank and has no CR at its end, which the program would drop: so
-    each has one answer, whose end is known by its first word."""
-    if not isinstance(value, list) or len(value) > MAX_COMMANDS:
-        raise Refused(400, "the commands are missing or too many")
-    commands = [bytes_of(command, MAX_BODY) for command in value]
-    for command in commands:
-        if b"\n" in command or command.endswith(b"\r") or not command.strip(b" "):
-            raise Refused(400, "a command is blank, has several lines or ends in CR")
-    return commands
-
-
-def option_arguments(options: Any) -> list[str]:
-    if not isinstance(options, dict):
-        raise Refused(400, "the options are missing")
-    arguments = []
-    for name, value in options.items():
-        if name not in OPTION_VALUES or not isinstance(value, str) or not OPTION_VALUES[name].fullmatch(value):
-            raise Refused(400, f"the option {name!r} has no such value")
-        arguments.append(f"--{name}={value}")
-    return arguments
 
 
 class Bridge:
@@ -150,6 +104,12 @@ class Bridge:
         if name not in EXAMPLES or steps > LAST_STEP:
             raise Refused(400, "no such example")
         return example(self._program, name, steps)
+
+    def document(self, request: dict[str, Any]) -> dict[str, Any]:
+        """A document that a page of `explain` names, or none."""
+        if request.get("name") not in DOCUMENTS:
+            raise Refused(400, "no such document")
+        return {"text": document(request["name"])}
 
     def game(self, _: dict[str, Any]) -> dict[str, Any]:
         """The page that plays a game, for an export."""

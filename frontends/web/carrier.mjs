@@ -102,7 +102,7 @@ class LongRuns {
   }
 }
 
-export function carryByWorkers(script, modules, { examples, game }) {
+export function carryByWorkers(script, modules, { examples, documents, game }) {
   const workers = new Workers(script, modules);
   const files = new PageFiles(examples);
   const runs = Object.fromEntries(LONG_RUNS.map((name) => [name, new LongRuns(workers, name)]));
@@ -116,6 +116,7 @@ export function carryByWorkers(script, modules, { examples, game }) {
     pick: () => files.pick(),
     choose: ({ name }) => files.choose(name),
     game: () => game,
+    document: ({ name }) => ({ text: documents[name] ?? null }),
     example: ({ name, steps }) => {
       const text = examples[`${name}.asm`];
       return text === undefined ? { text: null, screen: null } : workers.ask('program', 'example', { text, steps });

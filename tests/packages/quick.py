@@ -103,7 +103,7 @@ class TestRelease(unittest.TestCase):
             self.skipTest("there is no release/")
         self.top = pathlib.Path(tempfile.mkdtemp(prefix="chipbench-package-tests-"))
         self.addCleanup(shutil.rmtree, self.top)
-        for folder in ("crates", "examples", "frontends/page", "frontends/web", "packaging", "release"):
+        for folder in ("crates", "docs", "examples", "frontends/page", "frontends/web", "packaging", "release"):
             shutil.copytree(TOP / folder, self.top / folder, ignore=shutil.ignore_patterns("out", "__pycache__"))
         for file in ("chipbench", "crates.txt", "HANDLES"):
             shutil.copy(TOP / file, self.top)
@@ -131,7 +131,7 @@ class TestRelease(unittest.TestCase):
         self.assertIn("1 passed, 0 failed", self.check(0))
 
     def test_a_changed_source_is_refused(self):
-        of_modules = ("frontends/web/heap.c", "frontends/web/carrier.mjs", "frontends/page/static/main.mjs", "examples/bounce.asm")
+        of_modules = ("frontends/web/heap.c", "frontends/web/carrier.mjs", "frontends/page/static/main.mjs", "examples/bounce.asm", "docs/MACHINE.md")
         for name in ("crates/chip_pages/src/pages.rt", "crates/chip_web/src/lib.rt", *(of_modules if self.modules() else ())):
             with self.subTest(name):
                 self.change(name)

@@ -17,6 +17,7 @@ import { byId, grouped, setAttribute, setText, setTitle } from './dom.mjs';
 import { Editor } from './editor.mjs';
 import { EventsView } from './events_view.mjs';
 import { Exports } from './exports.mjs';
+import { showExplanation } from './explanation.mjs';
 import { FaultHelp } from './fault_help.mjs';
 import { FaultPlaces } from './fault_places.mjs';
 import { askName, chooseName, FileDialogs } from './file_dialogs.mjs';
@@ -373,9 +374,7 @@ class Page {
       const { status, output } = await request('word', { word: 'explain', code }).catch(() => ({ status: -1 }));
       if (status === 0) text = output;
     }
-    byId('explanation-title').textContent = code;
-    byId('explanation-text').textContent = text;
-    byId('explanation').showModal();
+    showExplanation(code, text);
   }
 }
 

@@ -7,7 +7,7 @@ import re
 import subprocess
 import time
 
-from browser_page import PageTests
+from browser_page import TOP, PageTests
 from driver import ALT, CONTROL, SHIFT
 
 
@@ -215,6 +215,20 @@ class SourceTests(PageTests):
             # a fix is one change, which is undone
             browser.press("z", "KeyZ", CONTROL)
             assert browser.value("chipbenchPage.editor.lines[3]") == "        MOV V2, 1"
+
+    def test_documents_of_an_explanation(self) -> None:
+        """A document that the page of a code names opens in the dialog, at the row of the code."""
+        with self.page("MOV V2, 1\n") as browser:
+            browser.value("chipbenchPage.editor.goToLine(1); chipbenchPage.explain('F3')")
+            browser.wait("document.querySelector('#explanation-text button')?.textContent === 'docs/LANGUAGE.md'")
+            assert self.text_of("#explanation-title") == "F3"
+            browser.click("#explanation-text button")
+            browser.wait("document.querySelector('#explanation-text mark') !== null")
+            assert self.text_of("#explanation-title") == "docs/LANGUAGE.md"
+            assert self.text_of("#explanation-text mark").startswith("| F3 "), self.text_of("#explanation-text mark")
+            assert self.text_of("#explanation-text") == (TOP / "docs/LANGUAGE.md").read_text(encoding="utf-8")
+            box = browser.value("(({ top, bottom }) => [top, bottom])(document.querySelector('#explanation-text mark').getBoundingClientRect())")
+            assert 0 <= box[0] and box[1] <= 1000, box
 
     def test_find_and_replace(self) -> None:
         text = "".join(f"L{number}: LD V{number % 16:X}, {number % 200}\n" for number in range(600))

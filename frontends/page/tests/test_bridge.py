@@ -29,6 +29,7 @@ import connections  # noqa: E402
 import files  # noqa: E402
 import games  # noqa: E402
 import page_requests  # noqa: E402
+import request_values  # noqa: E402
 import trace_search  # noqa: E402
 
 PROVED = TOP / "crates/chipbench/out/chipbench"
@@ -92,6 +93,15 @@ class Running(unittest.TestCase):
 
     def opened(self, source: str = "CLS\n", commands: list[str] | None = None) -> Any:
         return self.good("open", source=source, options={}, commands=commands or [])
+
+
+class Documents(Running):
+    """The documents that pages of `explain` name."""
+
+    def test_a_document(self) -> None:
+        self.assertEqual(self.good("document", name="LANGUAGE")["text"], (TOP / "docs/LANGUAGE.md").read_text(encoding="utf-8"))
+        for name in ("README", "../HANDLES", None, 5):
+            self.assertEqual(self.ask("document", name=name)[0], 400)
 
 
 class Games(Running):
@@ -192,7 +202,7 @@ class Care(Running):
 
     def test_commands_that_would_break_the_count(self) -> None:
         self.opened()
-        for commands in (["image\nimage"], [""], ["   "], ["\r"], [5], ["é€"], "image", None, ["image"] * (page_requests.MAX_COMMANDS + 1), ["list\r"], ["ins 1 A\r"], [" \r\r"]):
+        for commands in (["image\nimage"], [""], ["   "], ["\r"], [5], ["é€"], "image", None, ["image"] * (request_values.MAX_COMMANDS + 1), ["list\r"], ["ins 1 A\r"], [" \r\r"]):
             self.assertEqual(self.ask("ask", session=1, commands=commands)[0], 400, commands)
         self.assertEqual(self.good("ask", session=1, commands=["mem 0 0 1"])["answers"], ["00\n"])
 
