@@ -116,7 +116,7 @@ def from_tests(program, folder):
 
 
 def main(words):
-    program, count = Program(words[0]), int(words[1]) if len(words) > 1 else 0
+    program, count = Program(str(pathlib.Path(words[0]).resolve())), int(words[1]) if len(words) > 1 else 0
     with tempfile.TemporaryDirectory() as folder:
         sessions = [*from_tests(program, folder), *((f"generated {seed}", *Generator(seed).session()) for seed in range(count))]
         for session in sessions:
