@@ -59,11 +59,25 @@ test('a search over all keys is told of while it goes on, and gives the keys tha
   const found = requests.explore({ source: 'LOOP: LD V0, K\nSE V0, 3\nJP LOOP\nRET\n', options: { rate: '10', every: '1000' } }, () => {});
   assert.match(found.output, /^S5 3\n/);
   assert.equal(found.keys, '0 3 down\n1 3 up\n');
-  const told = [];
   const source = fs.readFileSync(new URL('../../../examples/breaker.asm', import.meta.url), 'latin1');
-  assert.match(requests.explore({ source, options: {} }, (progress) => told.push(progress)).output, /^within \d+\n/);
-  assert.ok(told.length > 0 && told.every(({ step, states }) => step > 0 && states > 0));
-  assert.deepEqual(told, told.toSorted((one, other) => one.states - other.states));
+  const first = { told: null };
+  const tell = (progress) => {
+    first.told = progress;
+    throw new Error('told once');
+  };
+  assert.throws(() => requests.explore({ source, options: {} }, tell), /told once/);
+  assert.ok(first.told.step > 0 && first.told.states > 0, first.told);
+});
+
+test('what prove prints is told as it comes', { skip }, (context) => {
+  const requests = new ProgramRequests(moduleOf(program));
+  if (!requests.about().words.includes('prove')) return context.skip('the program has no command prove');
+  const told = [];
+  const source = ';! never V0 = 3 at DONE\n;! V1 = 0 here\nLOOP: LD V0, K\nSE V0, 3\nJP LOOP\nDONE: JP DONE\n';
+  const found = requests.prove({ source, options: { rate: '10', every: '1000' } }, ({ output }) => output && told.push(output));
+  const answers = found.output.trimEnd().split('\n').map((line) => JSON.parse(line));
+  assert.deepEqual(answers.slice(0, 2).map(({ line, answer }) => [line, answer]), [[1, 'broken'], [2, 'never broken']]);
+  assert.ok(told.length > 0 && told.every((output) => found.output.startsWith(output)));
 });
 
 test('an example has its screen', { skip }, () => {
