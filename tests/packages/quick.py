@@ -369,10 +369,12 @@ class TestPackages(unittest.TestCase):
 
     def test_checksums(self):
         names = set(contents(self.folder / "one"))
-        debian, archive = f"chipbench_{version()}_amd64.deb", f"chipbench-{version()}-x86_64-linux.tar.gz"
-        self.assertEqual(names, {debian, archive, "SHA256SUMS"})
+        packages = {f"chipbench_{version()}_amd64.deb", f"chipbench-{version()}-x86_64-linux.tar.gz"}
+        if (pathlib.Path(TOP) / "release/chipbench.wasm").exists():
+            packages.add(f"chipbench-{version()}-node.tgz")
+        self.assertEqual(names, {*packages, "SHA256SUMS"})
         checked = run("sha256sum", "--check", "SHA256SUMS", cwd=self.folder / "one").decode()
-        self.assertEqual(sorted(checked.splitlines()), sorted(f"{name}: OK" for name in (debian, archive)))
+        self.assertEqual(sorted(checked.splitlines()), sorted(f"{name}: OK" for name in packages))
 
     def test_entries_of_the_archive(self):
         time = int(run("git", "-C", TOP, "log", "-1", "--format=%ct"))
