@@ -1,9 +1,8 @@
 use Rattle.std.proofs.Common.{◌≡◌, ◌∙◌, ◌++◌, ◌∷◌, [], List, ℕ, length, get_or, refl, ap, arith, append_assoc}
-use Rattle.chip_asm.specs.Layout.{body_of}
-use Rattle.chip_asm.specs.Listing.{address_shown, at_left, field_shown, more_shown, shown}
-use Rattle.chip_asm.specs.inner.Placements.{fault_noted, is_active_status}
-use Rattle.chip_asm.specs.inner.Records.{reading_in}
-use Rattle.chip_asm.proofs.listing.push_line.Goals as goal
+use Rattle.std.specs.Option.{option_copied}
+use Rattle.chip_asm.specs.Listing.{address_shown, at_left, field_shown, more_shown, row}
+use Rattle.chip_asm.specs.inner.Placements.{fault_noted}
+use Rattle.chip_asm.proofs.line_view.LineView.push_row.Goals as goal
 
 four : (l : List ℕ) → length l ≡ 4 → get_or l 0 0 ∷ get_or l 1 0 ∷ get_or l 2 0 ∷ get_or l 3 0 ∷ [] ≡ l
 four [] h = absurd (omega arith)
@@ -23,12 +22,14 @@ pushed : (out head a b d text : List ℕ) (m : ℕ) → head ≡ a ++ 32 ∷ (b 
 pushed out head a b d text m e = rw e (simp append_assoc)
 
 pub returns : goal.returns
-unfolding shown
+unfolding row
 returns c =
     let number = c.number_text.ensures in
     let address = c.address_text.ensures in
-    let text = address.text ∙ ap (λ active. address_shown active c.args.placement.now.here) c.is_active.ensures in
-    rw (c.in_ok-push.ensures.items, c.in_ok-extend_from_slice-2.ensures.items, c.text.ensures, c.in_ok-push_field.ensures, c.line.ensures, c.in_ok-extend_from_slice.ensures.items, ← number.text, ← text)
-    (pushed c.args.out.now.items _ c.number_text.result c.address_text.result
-    (at_left 12 (field_shown (fault_noted c.args.placement.now.status) (is_active_status c.args.placement.now.status) (body_of (reading_in c.args.kept.now)) c.args.placement.now.here c.args.placement.now.value c.args.placement.now.size c.args.bytes.now))
-    c.args.kept.now.text (more_shown (fault_noted c.args.placement.now.status) c.args.placement.now.size) (front c.number_text.result c.address_text.result number.places address.places))
+    let text = address.text ∙ ap (λ active. address_shown active c.self.inside.placement.here) c.is_active.ensures in
+    let fault = fault_noted c.self.inside.placement.status in
+    let bytes = c.self.inside.bytes.now in
+    rw (← c.self.view_is)
+    (rw (c.in_ok-push.ensures.items, c.in_ok-extend_from_slice-2.ensures.items, c.in_ok-push_field.ensures, c.fault.ensures, c.in_ok-extend_from_slice.ensures.items, ← number.text, ← text)
+    (pushed c.args.out.now.items _ c.number_text.result c.address_text.result (at_left 12 (field_shown fault (option_copied c.args.value) bytes))
+    c.self.inside.text.now (more_shown fault (length bytes)) (front c.number_text.result c.address_text.result number.places address.places)))
