@@ -1,10 +1,9 @@
 -- What the functions inside say: of the first pass in Turns, Follows, Placements, Marks, Layouts and
--- Resume; of symbols in ValueLists and Tables; of kept lines in HeldText, HeldLine, KeptLine, Facts,
+-- Resume; of symbols in ValueLists and Tables; of kept lines in HeldText, HeldLine, KeptLine,
 -- PackedUses, Infos, Records and Effect; of their codes in Recode and Codes; of both passes in
 -- Passes; of all of it in Kept.
 pub mod Codes
 pub mod Effect
-pub mod Facts
 pub mod Follows
 pub mod HeldLine
 pub mod HeldText

@@ -1,7 +1,6 @@
 //! The settings, the source and the key events that the lines of a case ask for.
 ghost use Rattle.std.specs.Prelude.{◌≡◌, ◌≤◌, IfOk, IfErr, Some, length, option_copied};
-ghost use Rattle.chip_arguments.specs.CommandArguments.{ReadsNumber, ReadsOr};
-ghost use Rattle.chip_machine.specs.QuirkList.{quirks_asked};
+ghost use Rattle.chip_arguments.specs.CommandArguments.{IsProfile, ReadsNumber, ReadsOr};
 ghost use Rattle.chip_bench.specs.SettingArguments.{settings_asked};
 ghost use Rattle.chip_bench.specs.Testing.{IsCaseKeys, IsCaseSource, IsHindrance, IsSourceOfImage, SetBy, text_of};
 
@@ -11,8 +10,8 @@ use crate::limits::KEY_FILE_BYTES;
 use crate::reading::{MOST_SOURCE, settings_of};
 use chip_arguments::{SettingArguments, number, seed};
 use chip_cases::{CaseSource, Placed, Setup};
+use chip_machine::Profile;
 use chip_machine::limits::IMAGE_BYTES;
-use chip_machine::{Profile, Quirks};
 use chip_replay::{LEAST_SPACING, MOST_RATE, MOST_SPACING};
 use chip_session::Settings;
 use chip_views::source_of_image;
@@ -58,7 +57,7 @@ fn setting_arguments<'t>(setup: &Setup<'t>) -> Result<SettingArguments<'t>, BadL
         rate: number_of(setup.rate, SettingArguments::DEFAULT.rate, 1, MOST_RATE)?,
         tape: text_of(setup.tape)?,
         seed: seed_of(setup.seed)?,
-        quirks: quirks_of(setup)?,
+        profile: profile_of(setup.profile)?,
         spacing: number_of(setup.every, LEAST_SPACING, LEAST_SPACING, MOST_SPACING)?,
     })
 }
@@ -115,23 +114,17 @@ fn seed_of(placed: Option<Placed<'_>>) -> Result<Option<u64>, BadLine>
     }
 }
 
-fn quirks_of(setup: &Setup<'_>) -> Result<Quirks, BadLine>
-    ensures { IfOk result (λ quirks. quirks_asked (text_of setup.now.profile)
-        (text_of setup.now.quirks) ≡ Some quirks) }
+fn profile_of(placed: Option<Placed<'_>>) -> Result<Profile, BadLine>
+    ensures { IfOk result (IsProfile (text_of placed.entry)) }
 {
-    let name = text_of(setup.profile)?;
-    let list = text_of(setup.quirks)?;
-    let Some(profile) = Profile::asked(name) else {
-        return Err(BadLine {
-            line: setup.profile.map_or(1, |placed| placed.line),
-            why: TestFault::Profile,
-        });
+    let (Some(name), Some(placed)) = (text_of(placed)?, placed) else {
+        return Ok(Profile::Schip);
     };
-    match profile.quirks().asked(list) {
-        Some(quirks) => Ok(quirks),
+    match Profile::from_name(name) {
+        Some(profile) => Ok(profile),
         None => Err(BadLine {
-            line: setup.quirks.map_or(1, |placed| placed.line),
-            why: TestFault::Quirks,
+            line: placed.line,
+            why: TestFault::Profile,
         }),
     }
 }

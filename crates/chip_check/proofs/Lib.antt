@@ -1,4 +1,3 @@
-pub mod LinesLeft
 pub mod KnownNames
 pub mod OperandSpans
 pub mod Pieces

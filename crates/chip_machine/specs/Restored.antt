@@ -23,7 +23,7 @@ core_with_parts p c =
       lit = c.lit;
       high = p.high;
       stopped = None;
-      quirks = c.quirks;
+      profile = c.profile;
     }
 
 abbrev pub with_parts : Parts → State → State
