@@ -59,7 +59,7 @@ LOGIC:  LD VF, 1            ; logic: does VF stay, or become 0?
         CALL SHOW
         LD F, VD
         CALL SHOW
-        EXIT                ; S1 under schip; under vip this is no instruction, S2
+        EXIT                ; S1 under schip; under vip this is not an instruction, S2
 
 SHOW:   DRW V6, V7, 5
         ADD V6, 6
