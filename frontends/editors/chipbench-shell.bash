@@ -2,11 +2,11 @@
 _chipbench_shell() {
     local word=${COMP_WORDS[COMP_CWORD]} before=${COMP_WORDS[COMP_CWORD-1]}
     case $before in
-        --profile) COMPREPLY=($(compgen -W "schip vip" -- "$word")); return ;;
-        --rate | --tape | --seed | --every) return ;;
+        --profile) COMPREPLY=($(compgen -W "schip vip chip48 schip10 schip-modern octo" -- "$word")); return ;;
+        --rate | --tape | --seed | --quirks | --every) return ;;
     esac
     case $word in
-        -*) COMPREPLY=($(compgen -W "--help --image --keys --strict --echo --quiet --program --rate --tape --seed --profile --every" -- "$word")) ;;
+        -*) COMPREPLY=($(compgen -W "--help --image --keys --strict --echo --quiet --program --rate --tape --seed --profile --quirks --every" -- "$word")) ;;
         *) COMPREPLY=($(compgen -f -- "$word")) ;;
     esac
 }

@@ -2,7 +2,7 @@
 _chipbench_steps() {
     local word=${COMP_WORDS[COMP_CWORD]} before=${COMP_WORDS[COMP_CWORD-1]}
     case $before in
-        --profile) COMPREPLY=($(compgen -W "schip vip" -- "$word")); return ;;
+        --profile) COMPREPLY=($(compgen -W "schip vip chip48 schip10 schip-modern octo" -- "$word")); return ;;
         --instruction | --count | --seed | --programs) return ;;
     esac
     case $word in

@@ -2,27 +2,28 @@
 _chipbench() {
     local word=${COMP_WORDS[COMP_CWORD]} before=${COMP_WORDS[COMP_CWORD-1]} options=
     if [ "$COMP_CWORD" -eq 1 ]; then
-        COMPREPLY=($(compgen -W "debug asm list syms dis run trace picture check test explore explain help --help --version" -- "$word"))
+        COMPREPLY=($(compgen -W "debug asm list syms dis run trace picture check test explore prove explain help --help --version" -- "$word"))
         return
     fi
     case $before in
-        --profile) COMPREPLY=($(compgen -W "schip vip" -- "$word")); return ;;
+        --profile) COMPREPLY=($(compgen -W "schip vip chip48 schip10 schip-modern octo" -- "$word")); return ;;
         --color) COMPREPLY=($(compgen -W "auto always never" -- "$word")); return ;;
-        --rate | --tape | --seed | --every | --steps | --from | --allow | --states | --want | --reach | --keys-allowed) return ;;
+        --rate | --tape | --seed | --quirks | --every | --steps | --from | --allow | --states | --keys-allowed | --want | --reach | --never | --always | --only | --seconds) return ;;
         explain) COMPREPLY=($(compgen -W "$(chipbench explain 2>/dev/null | cut -d ' ' -f 1)" -- "$word")); return ;;
     esac
     case ${COMP_WORDS[1]} in
-        debug) options="--rate --tape --seed --profile --every --image --quiet --help" ;;
+        debug) options="--rate --tape --seed --profile --quirks --every --image --quiet --help" ;;
         asm) options=" --help" ;;
         list) options="--hex --help" ;;
         syms) options="--hex --help" ;;
         dis) options=" --help" ;;
-        run) options="--steps --rate --tape --seed --profile --keys --image --help" ;;
-        trace) options="--steps --rate --tape --seed --profile --keys --image --from --hash --json --against --help" ;;
-        picture) options="--steps --rate --tape --seed --profile --keys --image --ascii --pbm --png --help" ;;
-        check) options="--json --allow --cover --color --profile --help" ;;
+        run) options="--steps --rate --tape --seed --profile --quirks --keys --image --help" ;;
+        trace) options="--steps --rate --tape --seed --profile --quirks --keys --image --from --hash --json --against --help" ;;
+        picture) options="--steps --rate --tape --seed --profile --quirks --keys --image --ascii --pbm --png --help" ;;
+        check) options="--json --allow --cover --color --profile --quirks --help" ;;
         test) options="--update --tap --help" ;;
-        explore) options="--steps --states --deep --any-speed --want --reach --keys-allowed --keys-to --cover --progress --rate --tape --seed --profile --image --help" ;;
+        explore) options="--steps --states --deep --any-speed --keys-allowed --keys-to --progress --rate --tape --seed --profile --quirks --image --want --reach --never --always --cover --help" ;;
+        prove) options="--steps --states --deep --any-speed --keys-allowed --keys-to --progress --rate --tape --seed --profile --quirks --only --seconds --json --help" ;;
         explain) options=" --help" ;;
     esac
     case $word in

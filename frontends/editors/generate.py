@@ -25,6 +25,9 @@ LAUNCHERS = {
     "chipbench-steps": ("chipbench_steps.__main__", "python"),
     "chipbench-shell": ("chipbench_shell.__main__", "python"),
 }
+# the words of a property, a line that begins with `;!` (docs/LANGUAGE.md)
+PROPERTY_WORDS = "always never ever can here at and or".split()
+PROPERTY_ITEMS = "I PC DT DEPTH HIGH KEYS PIXEL".split()
 # a command of the shell that prints all codes
 CODES = "chipbench explain 2>/dev/null | cut -d ' ' -f 1"
 
@@ -40,7 +43,7 @@ def in_order(words):
 def profiles():
     """The names of the profiles, with a space between them."""
     text = read("chip_machine/src/profile.rt")
-    names = dict(re.findall(r'const (\w+): &str = "(\w+)";', text))
+    names = dict(re.findall(r'const (\w+): &str = "([\w-]+)";', text))
     listed = re.search(r"const PROFILES: .*?= \[(.*?)\];", text, re.S).group(1)
     return " ".join(names[word] for word in re.findall(r"\w+", listed))
 
@@ -314,10 +317,13 @@ def vim(language):
         "syntax region chip8Text start=/'/ end=/'/ oneline",
         'syntax region chip8Text start=/"/ end=/"/ oneline',
         "syntax match chip8Comment /;.*$/",
+        r"syntax match chip8Property /^\s*;!.*$/ contains=chip8PropertyWord,chip8PropertyItem,chip8Number",
+        r"syntax match chip8PropertyWord /\c\<\%%(%s\)\>/ contained" % r"\|".join(PROPERTY_WORDS),
+        r"syntax match chip8PropertyItem /\c\<\%%(V\x\|%s\)\>/ contained" % r"\|".join(PROPERTY_ITEMS),
         *(f"highlight default link chip8{group} {link}" for group, link in (
             ("Instruction", "Statement"), ("Directive", "PreProc"), ("Switch", "Constant"),
             ("Register", "Identifier"), ("Number", "Number"), ("Label", "Label"), ("Text", "String"),
-            ("Comment", "Comment"))),
+            ("Comment", "Comment"), ("Property", "SpecialComment"), ("PropertyWord", "Statement"), ("PropertyItem", "Identifier"))),
         'let b:current_syntax = "chip8"', "",
     ])
 
@@ -326,7 +332,11 @@ def textmate(language):
     def words(name, texts):
         return {"name": name + ".chip8", "match": rf"(?i)\b({'|'.join(texts)})\b"}
 
+    number = {"name": "constant.numeric.chip8", "match": r"#[0-9A-Fa-f]+\b|@[0-7]+\b|\$[01.]+|\b[0-9]+\b"}
+    inside = [words("keyword.other.property", PROPERTY_WORDS), words("variable.language.property", ["V[0-9A-F]"] + PROPERTY_ITEMS), number]
     patterns = [
+        {"name": "meta.property.chip8", "begin": r"^[ \t]*;!", "end": "$", "patterns": inside,
+         "beginCaptures": {"0": {"name": "punctuation.definition.property.chip8"}}},
         {"name": "comment.line.semicolon.chip8", "match": ";.*$"},
         {"name": "string.quoted.single.chip8", "match": "'[^']*'"},
         {"name": "string.quoted.double.chip8", "match": '"[^"]*"'},
@@ -335,7 +345,7 @@ def textmate(language):
         words("keyword.control.directive", language.directives),
         words("constant.language", language.switches),
         words("variable.language.register", ["V[0-9A-F]"] + language.parts),
-        {"name": "constant.numeric.chip8", "match": r"#[0-9A-Fa-f]+\b|@[0-7]+\b|\$[01.]+|\b[0-9]+\b"},
+        number,
     ]
     made = {"name": "CHIP-8", "scopeName": "source.chip8", "fileTypes": ["asm", "ch8asm"],
             "comment": "Made by frontends/editors/generate.py.", "patterns": patterns}

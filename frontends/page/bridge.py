@@ -47,7 +47,7 @@ SETTINGS = {
     "rate": ("N", "how many steps lie between two ticks of the timers"),
     "tape": ("HEX", "the random bytes"),
     "seed": ("N", "a number that makes the random bytes"),
-    "profile": ("NAME", "schip or vip"),
+    "profile": ("NAME", "schip, vip, chip48, schip10, schip-modern or octo"),
     "every": ("P", "how many steps lie between two checkpoints"),
 }
 

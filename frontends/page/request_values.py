@@ -14,7 +14,7 @@ OPTION_VALUES = {
     "rate": re.compile(r"[0-9]{1,9}"),
     "tape": re.compile(r"[0-9a-fA-F]{2,8192}"),
     "seed": re.compile(r"[0-9]{1,20}"),
-    "profile": re.compile(r"[a-z0-9]{1,20}"),
+    "profile": re.compile(r"[a-z0-9-]{1,20}"),
     "every": re.compile(r"[0-9]{1,9}"),
 }
 

@@ -306,8 +306,8 @@ def join_lines(lines: Iterable[bytes]) -> bytes:
 
 @dataclass(frozen=True)
 class Fault:
-    """A fault of a line, or a warning, whose code begins with W. `start` and `end` are byte positions in the line, which
-    only `check` reports, as it does warnings."""
+    """A fault of a line, or a warning, whose code begins with W, or with P where a property can't be read. `start` and `end`
+    are byte positions in the line, which only `check` reports, as it does warnings."""
 
     line: int
     code: str
@@ -318,7 +318,7 @@ class Fault:
 
     @property
     def is_warning(self) -> bool:
-        return self.code.startswith("W")
+        return self.code.startswith(("W", "P"))
 
     def __str__(self) -> str:
         return f"line {self.line}: {self.code}" + (f": {self.sentence}" if self.sentence else "")
@@ -374,14 +374,16 @@ def read_listing_line(line: bytes) -> ListingLine:
     )
 
 
-def check(source: str | bytes, program: str | None = None, profile: str | None = None) -> list[Fault]:
-    """The faults of a source with their places, and then its warnings under a profile, by the program's `check`.
+def check(
+    source: str | bytes, program: str | None = None, profile: str | None = None, quirks: str | None = None
+) -> list[Fault]:
+    """The faults of a source with their places, and then its warnings under a profile and quirks, by the program's `check`.
 
     >>> [(fault.line, fault.code, fault.start, fault.end) for fault in check("LD V0, COLUMN")]
     [(1, 'F9', 7, 13)]
     """
     content, program = to_bytes(source), program or find_program()
-    options = ["--profile", profile] if profile else []
+    options = [*(["--profile", profile] if profile else []), *(["--quirks", quirks] if quirks else [])]
     status, output, errors = run_once([program, "check", "--json", *options, "-"], content)
     if status not in (0, 1):
         raise Ended(status, errors.strip(), [])
@@ -509,8 +511,8 @@ class Bench:
     """A source, key events, and the machine at each step, as one `chipbench debug` answers them.
 
     Give one of `source` (text or bytes), `path` (a file), and `image` (bytes, which `dis` turns into a source).
-    `profile`, `rate`, `tape` (bytes), `seed` and `every` are the options of `chipbench debug`. `program` is the program's name,
-    by default that of `find_program`.
+    `profile`, `quirks`, `rate`, `tape` (bytes), `seed` and `every` are the options of `chipbench debug`. `program` is the
+    program's name, by default that of `find_program`.
 
     >>> with Bench("WAIT: LD V1, K\\nJP WAIT", rate=20) as bench:
     ...     bench.press(5, at=2)
@@ -531,13 +533,14 @@ class Bench:
         tape: bytes | None = None,
         seed: int | None = None,
         every: int | None = None,
+        quirks: str | None = None,
         program: str | os.PathLike[str] | None = None,
     ) -> None:
         if sum(given is not None for given in (source, path, image)) > 1:
             raise ValueError("give one of source, path and image")
         self.program = os.fspath(program) if program is not None else find_program()
         random_bytes = None if tape is None else tape.hex()
-        settings = {"profile": profile, "rate": rate, "tape": random_bytes, "seed": seed, "every": every}
+        settings = {"profile": profile, "quirks": quirks, "rate": rate, "tape": random_bytes, "seed": seed, "every": every}
         self._options = [f"--{name}={value}" for name, value in settings.items() if value is not None]
         self._running: Program | None = None
         self._is_closed = False

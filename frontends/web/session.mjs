@@ -21,7 +21,7 @@ export const STATUS = {
   tooManyLines: 7,
   lineTooLong: 1000,
 };
-export const PROFILES = ['schip', 'vip'];
+export const PROFILES = ['schip', 'vip', 'chip48', 'schip10', 'schip-modern', 'octo'];
 
 // A module's bytes, or the module.
 export async function load(module) {

@@ -5,7 +5,7 @@ import tempfile
 
 CODES = [
     f"{letter}{number}"
-    for letter, last in (("F", 17), ("W", 8), ("N", 10), ("Q", 4), ("C", 2), ("E", 4), ("O", 3), ("S", 7))
+    for letter, last in (("F", 17), ("W", 8), ("P", 6), ("N", 10), ("Q", 4), ("C", 2), ("E", 4), ("O", 3), ("S", 7))
     for number in range(1, last + 1)
 ]
 WORDS = ["ins", "rep", "del", "kins", "krep", "kdel", "image", "syms", "list", "faults", "regs", "mem", "screen", "dis"]
@@ -49,7 +49,7 @@ def wrong_page(program, code):
     if len(blocks) == 2:
         found = answers(program, *blocks)
         is_so = found.endswith(f"no {code}\n")
-    elif code.startswith("W"):
+    elif code.startswith(("W", "P")):
         found = warnings(program, blocks[0])
         last = blocks[0].count("\n")
         is_so = re.search(rf"^source:{last}:[0-9]+: {code}: ", found, re.MULTILINE)

@@ -7,7 +7,7 @@ import pathlib
 import tempfile
 
 DRAWN = "LD I, BALL\nDRW V0, V1, 2\nSTOP: JP STOP\n"
-# Faults and warnings: the words, and sources.
+# Faults, warnings and faults of properties: the words, and sources.
 LINES = {
     "F1": (["`#10`", "`@17`", "`$1..1`", "`;`"], ["DB #10, @17, $1..1 ; a comment"]),
     "F2": (["quote", "end of the text"], ["DA 'ab'", "DA \"it's\""]),
@@ -43,6 +43,15 @@ LINES = {
     ),
     "W7": (["without the instruction", "profile schip"], ["CLS"]),
     "W8": (["lead there", "delete", "`explore --cover`"], ["LD V0, 1\nLOOP: SKP V0\nJP LOOP\nCLS", "LD V0, 1\nLOOP: SE V0, 0\nJP LOOP"]),
+    "P1": (["condition", "place", "`;! never at BUG`"], ["STOP: JP STOP\n;! always V0 <= 7", "BUG: JP BUG\n;! never at BUG"]),
+    "P2": (
+        ["two comparisons", "`;! 0 < V0 and V0 < 5`", "in parentheses"],
+        ["STOP: JP STOP\n;! 0 < V0 and V0 < 5", "STOP: JP STOP\n;! V0 < (2 * 3)", "STOP: JP STOP\n;! V0 = 3 or V0 <> 4"],
+    ),
+    "P3": (["spelling", "label", "EQU"], ["STOP: JP STOP\n;! never V0 = 1 at STOP", "LIVES EQU 3\n;! V0 <= LIVES\nSTOP: JP STOP"]),
+    "P4": (["in the range", "added on the other"], ["STOP: JP STOP\n;! never [4095] = 1", "STOP: JP STOP\n;! V0 <= V1 + 3"]),
+    "P5": (["register", "DT", "KEYS"], ["STOP: JP STOP\n;! always DT = 0", "STOP: JP STOP\n;! KEYS = 0", "STOP: JP STOP\n;! ever V0 = 0"]),
+    "P6": (["several properties", "EQU"], ["PART EQU ((1))\nSTOP: JP STOP\n;! (((PART))) = V0"]),
 }
 # Refusals: the words, a source, and scripts. None of a script's commands is refused.
 REFUSALS = {

@@ -32,6 +32,7 @@ def emulator():
 
 
 EMULATED = emulator()
+QUIRKS = EMULATED.quirks_of("schip")
 
 
 def word(rng):
@@ -93,7 +94,7 @@ def kept_on_the_way(machine):
 
 def most_states(code):
     """How many states a search may keep."""
-    count, known, left = 0, set(), [EMULATED.Machine(code, False, b"\0", None)]
+    count, known, left = 0, set(), [EMULATED.Machine(code, QUIRKS, b"\0", None)]
     while left:
         kept, machine = kept_on_the_way(left.pop())
         count += kept

@@ -45,6 +45,7 @@ def emulator():
 
 
 EMULATED = emulator()
+QUIRKS = EMULATED.quirks_of("schip")
 
 
 def word(rng, size):
@@ -115,7 +116,7 @@ def shown(machine):
 def searched(code):
     """What keys can do up to STEPS: the first step at which some stop the program, by the cause's number, and the first step that is
     made at an address, by the address. None for too many states."""
-    states, first, made = [EMULATED.Machine(code, False, bytes.fromhex(TAPE), None)], {}, {}
+    states, first, made = [EMULATED.Machine(code, QUIRKS, bytes.fromhex(TAPE), None)], {}, {}
     for step in range(1, STEPS + 2):
         later = {}
         for state in states:
@@ -137,7 +138,7 @@ def searched(code):
 def replayed(code, lines, step):
     """The number of the cause for which the program has stopped at a step, with the keys of a file, and at no earlier one."""
     events = sorted((int(line.split()[0]), int(line.split()[1]), line.split()[2] == "down") for line in lines)
-    machine = EMULATED.Machine(code, False, bytes.fromhex(TAPE), None)
+    machine = EMULATED.Machine(code, QUIRKS, bytes.fromhex(TAPE), None)
     for number in range(step):
         if machine.stopped:
             return None

@@ -28,6 +28,7 @@ def explored_programs():
 
 SEARCHED = explored_programs()
 EMULATED = SEARCHED.EMULATED
+QUIRKS = SEARCHED.QUIRKS
 
 
 def word(rng, size):
@@ -52,7 +53,7 @@ def image(number):
 
 def searched(code):
     """The first step at which some keys and ticks stop the program, by the cause's number. None for too many states."""
-    states, first = [EMULATED.Machine(code, False, bytes.fromhex(SEARCHED.TAPE), None)], {}
+    states, first = [EMULATED.Machine(code, QUIRKS, bytes.fromhex(SEARCHED.TAPE), None)], {}
     for step in range(1, SEARCHED.STEPS + 1):
         later = {}
         for state in states:

@@ -7,7 +7,7 @@ from .texts import Text, bytes_of
 
 # The least and the greatest number of steps between two checkpoints: no answer depends on it.
 EACH_EVERY = ("1000", "100000")
-SETTINGS = ("profile", "rate", "tape", "seed", "every")
+SETTINGS = ("profile", "quirks", "rate", "tape", "seed", "every")
 # Questions whose empty answer is an empty line.
 ONE_LINE = ("image", "mem")
 

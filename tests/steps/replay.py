@@ -7,11 +7,12 @@ from common import TOP
 found = importlib.util.spec_from_file_location("trace_emulator", TOP / "tests" / "trace" / "emulator.py")
 emulator = importlib.util.module_from_spec(found)
 found.loader.exec_module(emulator)
+QUIRKS = emulator.profiles()
 
 
-def machine_of(case, is_vip):
+def machine_of(case, profile):
     initial = case["initial"]
-    machine = emulator.Machine(b"", is_vip, bytes(initial["random"]), None)
+    machine = emulator.Machine(b"", QUIRKS[profile], bytes(initial["random"]), None)
     machine.memory[:] = bytes(4096)
     for address, byte in initial["memory"]:
         machine.memory[address] = byte
@@ -50,7 +51,7 @@ def wanted_by(case):
 
 def differing(case, profile):
     """The names of the parts in which the emulator isn't as the case says."""
-    machine, initial = machine_of(case, profile == "vip"), case["initial"]
+    machine, initial = machine_of(case, profile), case["initial"]
     machine.step(sum(1 << key for key in initial["keys"]), initial["tick"])
     found, wanted = found_by(machine), wanted_by(case)
     return [name for name in wanted if found[name] != wanted[name]]

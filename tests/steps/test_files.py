@@ -13,7 +13,7 @@ from schema import Schema
 class TestFiles(unittest.TestCase):
     def test_a_file_for_each_row_of_the_table(self):
         machine = (TOP / "docs/MACHINE.md").read_text(encoding="utf-8")
-        table = machine[machine.index("## Instructions") : machine.index("## The two profiles")]
+        table = machine[machine.index("## Instructions") : machine.index("## Profiles and quirks")]
         rows = re.findall(r"^\| `(\w{4})` \|", table, re.M)
         for profile in PROFILES:
             self.assertEqual([listed["row"] for listed in index(profile)["files"]], [*rows, "S2", "S3"])

@@ -38,10 +38,10 @@ module _ (fault : Option (List ℕ) → Kinds) (arguments : List (Bor (List ℕ)
   fails_here i nothing text e within is has same =
       subst (λ (kinds : Kinds). HasKind kinds e) (sym (step i nothing text within is) ∙ same) (still_fails (fault text) (first_from (i + 1)) e has)
 
--- where neither the first nor the second is a fault, the last is judged
-pub fails_last : {T : Type 0} (first second last : Kinds) (result : Result T Error) → first ≡ [] → second ≡ [] → FailsBy last result →
-    FailsBy (or_else first (or_else second last)) result
-fails_last first second last result none_first none_second fails = rw (none_first, none_second) fails
+-- where none of the first three is a fault, the last is judged
+pub fails_after_third : {T : Type 0} (first second third last : Kinds) (result : Result T Error) → first ≡ [] → second ≡ [] → third ≡ [] →
+    FailsBy last result → FailsBy (or_else first (or_else second (or_else third last))) result
+fails_after_third first second third last result none_first none_second none_third fails = rw (none_first, none_second, none_third) fails
 
 pub fails_fifth : {T : Type 0} (first second third fourth last : Kinds) (result : Result T Error) → first ≡ [] → second ≡ [] → third ≡ [] → fourth ≡ [] →
     FailsBy last result → FailsBy (or_else first (or_else second (or_else third (or_else fourth last)))) result

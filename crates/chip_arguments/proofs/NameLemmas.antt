@@ -178,20 +178,21 @@ entered_name a (Some p) name rows plain before e = by_found (find (λ s. answers
         (subst (λ (n : List ℕ). IsOneOf n (map (λ (s : Shape). s.name) a.subs)) is_name known.0, λ help. before (sym word ∙ is_name ∙ help))
 
 pub debug_is_left : (name : List ℕ) → IsOneOf name command_names → name ≢ codes "asm" → name ≢ codes "list" → name ≢ codes "syms"
-    → name ≢ codes "dis" → name ≢ codes "run" → name ≢ codes "trace" → name ≢ codes "picture" → name ≢ codes "check" → name ≢ codes "test" → name ≢ codes "explore" → name ≢ codes "explain" → name ≡ codes "debug"
-debug_is_left name (inl e) asm list syms dis run trace picture check test explore explain = e
-debug_is_left name (inr (inl e)) asm list syms dis run trace picture check test explore explain = absurd (asm e)
-debug_is_left name (inr (inr (inl e))) asm list syms dis run trace picture check test explore explain = absurd (list e)
-debug_is_left name (inr (inr (inr (inl e)))) asm list syms dis run trace picture check test explore explain = absurd (syms e)
-debug_is_left name (inr (inr (inr (inr (inl e))))) asm list syms dis run trace picture check test explore explain = absurd (dis e)
-debug_is_left name (inr (inr (inr (inr (inr (inl e)))))) asm list syms dis run trace picture check test explore explain = absurd (run e)
-debug_is_left name (inr (inr (inr (inr (inr (inr (inl e))))))) asm list syms dis run trace picture check test explore explain = absurd (trace e)
-debug_is_left name (inr (inr (inr (inr (inr (inr (inr (inl e)))))))) asm list syms dis run trace picture check test explore explain = absurd (picture e)
-debug_is_left name (inr (inr (inr (inr (inr (inr (inr (inr (inl e))))))))) asm list syms dis run trace picture check test explore explain = absurd (check e)
-debug_is_left name (inr (inr (inr (inr (inr (inr (inr (inr (inr (inl e)))))))))) asm list syms dis run trace picture check test explore explain = absurd (test e)
-debug_is_left name (inr (inr (inr (inr (inr (inr (inr (inr (inr (inr (inl e))))))))))) asm list syms dis run trace picture check test explore explain = absurd (explore e)
-debug_is_left name (inr (inr (inr (inr (inr (inr (inr (inr (inr (inr (inr (inl e)))))))))))) asm list syms dis run trace picture check test explore explain = absurd (explain e)
-debug_is_left name (inr (inr (inr (inr (inr (inr (inr (inr (inr (inr (inr (inr none)))))))))))) asm list syms dis run trace picture check test explore explain = absurd none
+    → name ≢ codes "dis" → name ≢ codes "run" → name ≢ codes "trace" → name ≢ codes "picture" → name ≢ codes "check" → name ≢ codes "test" → name ≢ codes "explore" → name ≢ codes "prove" → name ≢ codes "explain" → name ≡ codes "debug"
+debug_is_left name (inl e) asm list syms dis run trace picture check test explore prove explain = e
+debug_is_left name (inr (inl e)) asm list syms dis run trace picture check test explore prove explain = absurd (asm e)
+debug_is_left name (inr (inr (inl e))) asm list syms dis run trace picture check test explore prove explain = absurd (list e)
+debug_is_left name (inr (inr (inr (inl e)))) asm list syms dis run trace picture check test explore prove explain = absurd (syms e)
+debug_is_left name (inr (inr (inr (inr (inl e))))) asm list syms dis run trace picture check test explore prove explain = absurd (dis e)
+debug_is_left name (inr (inr (inr (inr (inr (inl e)))))) asm list syms dis run trace picture check test explore prove explain = absurd (run e)
+debug_is_left name (inr (inr (inr (inr (inr (inr (inl e))))))) asm list syms dis run trace picture check test explore prove explain = absurd (trace e)
+debug_is_left name (inr (inr (inr (inr (inr (inr (inr (inl e)))))))) asm list syms dis run trace picture check test explore prove explain = absurd (picture e)
+debug_is_left name (inr (inr (inr (inr (inr (inr (inr (inr (inl e))))))))) asm list syms dis run trace picture check test explore prove explain = absurd (check e)
+debug_is_left name (inr (inr (inr (inr (inr (inr (inr (inr (inr (inl e)))))))))) asm list syms dis run trace picture check test explore prove explain = absurd (test e)
+debug_is_left name (inr (inr (inr (inr (inr (inr (inr (inr (inr (inr (inl e))))))))))) asm list syms dis run trace picture check test explore prove explain = absurd (explore e)
+debug_is_left name (inr (inr (inr (inr (inr (inr (inr (inr (inr (inr (inr (inl e)))))))))))) asm list syms dis run trace picture check test explore prove explain = absurd (prove e)
+debug_is_left name (inr (inr (inr (inr (inr (inr (inr (inr (inr (inr (inr (inr (inl e))))))))))))) asm list syms dis run trace picture check test explore prove explain = absurd (explain e)
+debug_is_left name (inr (inr (inr (inr (inr (inr (inr (inr (inr (inr (inr (inr (inr none))))))))))))) asm list syms dis run trace picture check test explore prove explain = absurd none
 
 pub command_is : (arguments : List (List ℕ)) (name : List ℕ) (rows : List Row) → fault_of chipbench arguments ≡ [] → subcommand_of chipbench arguments ≡ Some (name, rows)
     → IsOneOf name command_names

@@ -13,11 +13,8 @@ use Rattle.clap.specs.declared.error.Error.{Error}
 use Rattle.clap.specs.declared.error.kind.ErrorKind.{ErrorKind}
 use Rattle.clap.specs.declared.error.kind.ErrorKind.TheVariants as kind
 use Rattle.clap.specs.declared.parser.matches.Found.{Found}
-use Rattle.chip_machine.specs.Profile.{profile_name}
-use Rattle.chip_machine.specs.declared.profile.Profile.{Profile}
-use Rattle.chip_machine.specs.declared.profile.Profile.TheVariants as profile
 use Rattle.chip_arguments.specs.CommandLine.{chipbench}
-use Rattle.chip_arguments.specs.CommandArguments.{Asks, AsksBy, AsksFlag, AsksFor, ReadsNumber, ReadsOr, clash_fault, faults_below, value_faults, argument_faults, needed, profile_fault}
+use Rattle.chip_arguments.specs.CommandArguments.{Asks, AsksBy, AsksFlag, AsksFor, ReadsNumber, ReadsOr, both_fault, clash_fault, faults_below, value_faults, argument_faults, needed}
 use Rattle.chip_arguments.specs.SettingArguments.{default_arguments}
 use Rattle.chip_arguments.specs.inner.Built.{JudgesAsAll}
 use Rattle.chip_arguments.specs.declared.command_line.CommandLine.{CommandLine}
@@ -33,6 +30,11 @@ first_is found id text e = e ∙ first_value-rows found id
 pub clash_is : (found : Found) (flag other : List ℕ) (set given : Option (List ℕ)) → set ≡ first_value found flag → given ≡ first_value found other →
     clash_fault set given ≡ clash_fault (first_of flag (rows_of found)) (first_of other (rows_of found))
 clash_is found flag other set given is_set is_given = ap₂ clash_fault (first_is found flag set is_set) (first_is found other given is_given)
+
+-- two arguments that are read
+pub both_is : (found : Found) (one other : List ℕ) (first second : Option (List ℕ)) → first ≡ first_value found one → second ≡ first_value found other →
+    both_fault first second ≡ both_fault (first_of one (rows_of found)) (first_of other (rows_of found))
+both_is found one other first second is_first is_second = ap₂ both_fault (first_is found one first is_first) (first_is found other second is_second)
 
 -- a number that is read, or one in its place
 pub reads_first : (found : Found) (bits : ℕ) (id : List ℕ) (text : Option (List ℕ)) (read : Option ℕ) → text ≡ first_value found id →
@@ -52,22 +54,6 @@ pub flag_is : (found : Found) (id : List ℕ) (is_set : Bool) → (one_text foun
 flag_is found id is_set set unset none =
     subst (λ (text : Option (List ℕ)). AsksFlag text is_set) (one_text-rows found id)
     (record { set = set; unset = unset; none = none })
-
--- a name that is known
-pub known_profile : (name : List ℕ) (p : Profile) → name ≡ profile_name p → profile_fault (Some name) ≡ []
-known_profile name profile.Schip e = ap (λ (n : List ℕ). profile_fault (Some n)) e
-known_profile name profile.Vip e = ap (λ (n : List ℕ). profile_fault (Some n)) e
-
--- a name that no profile has
-pub unknown_profile : (name : List ℕ) → ((p : Profile) → name ≡ profile_name p → ⊥) → profile_fault (Some name) ≡ kind.InvalidValue ∷ []
-unknown_profile name none =
-    by_tests (bytes_eq (profile_name profile.Schip) name) (bytes_eq (profile_name profile.Vip) name) refl refl
-  where
-    by_tests : (a b : Bool) → bytes_eq (profile_name profile.Schip) name ≡ a → bytes_eq (profile_name profile.Vip) name ≡ b →
-        profile_fault (Some name) ≡ kind.InvalidValue ∷ []
-    by_tests true b e f = absurd (none profile.Schip (sym ((bytes_eq-Decides (profile_name profile.Schip) name).0 e)))
-    by_tests false true e f = absurd (none profile.Vip (sym ((bytes_eq-Decides (profile_name profile.Vip) name).0 f)))
-    by_tests false false e f = rw (e, f) refl
 
 still_among : (k : ErrorKind) (kinds next : Kinds) → IsAmong k kinds → IsAmong k (or_else kinds next)
 still_among k [] next h = absurd h

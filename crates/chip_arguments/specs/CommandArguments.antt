@@ -1,15 +1,14 @@
 -- What the arguments ask for, by the values that `clap` finds in them (own).
-use Rattle.std.specs.Prelude.{◌≡◌, ℕ, ◌<◌, ◌^◌, Bool, true, false, List, [], ◌∷◌, codes, map, Option, Some, None, option_copied, unwrap_or, if◌then◌else◌}
+use Rattle.std.specs.Prelude.{◌≡◌, ℕ, ◌<◌, ◌^◌, Bool, true, false, List, [], ◌∷◌, codes, map, Option, Some, None, option_copied, is_some, unwrap_or, if◌then◌else◌}
 use Rattle.std.specs.Char.{is_ascii_digit}
-use Rattle.std.specs.List.{list_all, list_any}
+use Rattle.std.specs.List.{list_all}
 use Rattle.std.specs.Str.{bytes_eq}
 use Rattle.std.specs.Str.Parse.{IsNumeral, digits_value}
 use Rattle.clap.specs.Kinds.{Kinds, or_else}
 use Rattle.clap.specs.Words.{Row, all_of, fault_of, first_of, one_of, subcommand_of}
 use Rattle.clap.specs.declared.error.kind.ErrorKind.TheVariants as kind
-use Rattle.chip_machine.specs.Profile.{profile_name, profile_names}
-use Rattle.chip_machine.specs.declared.profile.Profile.{Profile}
-use Rattle.chip_machine.specs.declared.profile.Profile.TheVariants.{Schip}
+use Rattle.chip_machine.specs.QuirkList.{quirks_asked}
+use Rattle.chip_machine.specs.declared.quirks.Quirks.{Quirks}
 use Rattle.chip_replay.specs.declared.limits.TheConstants.{LEAST_SPACING}
 use Rattle.chip_arguments.specs.CommandLine.{chipbench}
 use Rattle.chip_arguments.specs.SettingArguments.{default_arguments}
@@ -21,7 +20,9 @@ use Rattle.chip_arguments.specs.declared.command_line.ColorChoice.{ColorChoice}
 use Rattle.chip_arguments.specs.declared.command_line.ColorChoice.TheVariants.{Always, Auto, Never}
 use Rattle.chip_arguments.specs.declared.command_line.ExploreArguments.{ExploreArguments}
 use Rattle.chip_arguments.specs.declared.command_line.PictureArguments.{PictureArguments}
+use Rattle.chip_arguments.specs.declared.command_line.ProveArguments.{ProveArguments}
 use Rattle.chip_arguments.specs.declared.command_line.RunArguments.{RunArguments}
+use Rattle.chip_arguments.specs.declared.command_line.SearchArguments.{SearchArguments}
 use Rattle.chip_arguments.specs.declared.command_line.SettingArguments.{SettingArguments}
 use Rattle.chip_arguments.specs.declared.command_line.TestArguments.{TestArguments}
 use Rattle.chip_arguments.specs.declared.command_line.TraceArguments.{TraceArguments}
@@ -29,7 +30,8 @@ use Rattle.chip_arguments.specs.declared.command_line.TraceArguments.{TraceArgum
 -- the arguments that are numbers
 abbrev pub numbers : List (List ℕ)
 numbers =
-    codes "steps" ∷ codes "states" ∷ codes "from" ∷ codes "rate" ∷ codes "seed" ∷ codes "every" ∷ []
+    codes "steps" ∷ codes "states" ∷ codes "from" ∷ codes "rate" ∷ codes "seed" ∷ codes "every"
+    ∷ codes "only" ∷ codes "seconds" ∷ []
 
 -- a number with anything but decimal digits, such as a sign
 abbrev pub number_fault : Option (List ℕ) → Kinds
@@ -53,18 +55,23 @@ clash_fault (Some value) (Some text) =
     if bytes_eq value (codes "true") then kind.ArgumentConflict ∷ [] else []
 clash_fault flag other = []
 
--- the same of JSON and another trace, and of ASCII and a file for the picture
+-- two arguments that don't go together
+abbrev pub both_fault : (first second : Option (List ℕ)) → Kinds
+both_fault (Some one) (Some other) = kind.ArgumentConflict ∷ []
+both_fault first second = []
+
+-- JSON and another trace, ASCII and a file for the picture, and two properties don't go together
 abbrev pub clash_faults : List Row → Kinds
 clash_faults rows =
     or_else (clash_fault (first_of (codes "json") rows) (first_of (codes "against") rows))
     (or_else (clash_fault (first_of (codes "ascii") rows) (first_of (codes "pbm") rows))
-    (clash_fault (first_of (codes "ascii") rows) (first_of (codes "png") rows)))
+    (or_else (clash_fault (first_of (codes "ascii") rows) (first_of (codes "png") rows))
+    (both_fault (first_of (codes "never") rows) (first_of (codes "always") rows))))
 
--- the name of a profile that there is not
-abbrev pub profile_fault : Option (List ℕ) → Kinds
-profile_fault None = []
-profile_fault (Some name) =
-    if list_any (λ known. bytes_eq known name) profile_names then [] else kind.InvalidValue ∷ []
+-- the name of a profile that there is not, or a list of what are no choices of quirks
+abbrev pub quirks_fault : (name list : Option (List ℕ)) → Kinds
+quirks_fault name list =
+    if is_some (quirks_asked name list) then [] else kind.InvalidValue ∷ []
 
 -- a word for when there are colours that there is not
 abbrev pub color_fault : Option (List ℕ) → Kinds
@@ -86,7 +93,7 @@ value_faults rows =
     (or_else (first_value_fault new_file_fault new_files rows)
     (or_else (clash_faults rows)
     (or_else (color_fault (first_of (codes "color") rows))
-    (profile_fault (first_of (codes "profile") rows)))))
+    (quirks_fault (first_of (codes "profile") rows) (first_of (codes "quirks") rows)))))
 
 -- the same, of the arguments of a command
 abbrev pub faults_below : Option (List ℕ × List Row) → Kinds
@@ -115,17 +122,17 @@ pub record ReadsOr (bits : ℕ) (text : Option (List ℕ)) (default number : ℕ
   pub reads : ReadsNumber bits text read
   pub number_is : number ≡ unwrap_or read default
 
--- the profile of a name; without one it is SUPER-CHIP
-abbrev pub IsProfile : Option (List ℕ) → Profile → Type 0
-IsProfile None profile = profile ≡ Schip
-IsProfile (Some name) profile = name ≡ profile_name profile
+-- the quirks that they ask for
+abbrev pub AsksQuirks : List Row → Quirks → Type 0
+AsksQuirks rows quirks =
+    quirks_asked (first_of (codes "profile") rows) (first_of (codes "quirks") rows) ≡ Some quirks
 
 -- the settings that the values of a command ask for
 pub record AsksSettings (rows : List Row) (arguments : SettingArguments) : Type 0 where
   pub rate : ReadsOr 32 (first_of (codes "rate") rows) 10 arguments.rate
   pub tape : option_copied arguments.tape ≡ first_of (codes "tape") rows
   pub seed : ReadsNumber 64 (first_of (codes "seed") rows) arguments.seed
-  pub profile : IsProfile (first_of (codes "profile") rows) arguments.profile
+  pub quirks : AsksQuirks rows arguments.quirks
   pub spacing : ReadsOr 32 (first_of (codes "every") rows) LEAST_SPACING arguments.spacing
 
 -- the text of a value that the arguments can't lack
@@ -160,7 +167,7 @@ pub record AsksCheck (rows : List Row) (arguments : CheckArguments) : Type 0 whe
   pub is_json : AsksFlag (one_of (codes "json") rows) arguments.is_json
   pub allowed : option_copied arguments.allowed ≡ first_of (codes "allow") rows
   pub color : arguments.color ≡ color_asked (first_of (codes "color") rows)
-  pub profile : IsProfile (first_of (codes "profile") rows) arguments.profile
+  pub quirks : AsksQuirks rows arguments.quirks
   pub is_covering : AsksFlag (one_of (codes "cover") rows) arguments.is_covering
 
 -- the trace that they ask for
@@ -184,21 +191,34 @@ pub record AsksTest (rows : List Row) (arguments : TestArguments) : Type 0 where
   pub is_update : AsksFlag (one_of (codes "update") rows) arguments.is_update
   pub is_tap : AsksFlag (one_of (codes "tap") rows) arguments.is_tap
 
--- the search that they ask for
-pub record AsksExplore (rows : List Row) (arguments : ExploreArguments) : Type 0 where
+-- how the search goes that they ask for
+pub record AsksSearch (rows : List Row) (arguments : SearchArguments) : Type 0 where
   pub source : arguments.source.now ≡ needed (codes "source") rows
-  pub is_image : AsksFlag (one_of (codes "image") rows) arguments.is_image
   pub steps : ReadsNumber 32 (first_of (codes "steps") rows) arguments.steps
   pub states : ReadsOr 32 (first_of (codes "states") rows) USUAL_STATES arguments.states
-  pub causes : option_copied arguments.causes ≡ first_of (codes "want") rows
-  pub place : option_copied arguments.place ≡ first_of (codes "reach") rows
-  pub allowed_keys : option_copied arguments.allowed_keys ≡ first_of (codes "keys-allowed") rows
-  pub keys_to : option_copied arguments.keys_to ≡ first_of (codes "keys-to") rows
   pub is_deep : AsksFlag (one_of (codes "deep") rows) arguments.is_deep
   pub is_any_speed : AsksFlag (one_of (codes "any-speed") rows) arguments.is_any_speed
-  pub is_covering : AsksFlag (one_of (codes "cover") rows) arguments.is_covering
+  pub allowed_keys : option_copied arguments.allowed_keys ≡ first_of (codes "keys-allowed") rows
+  pub keys_to : option_copied arguments.keys_to ≡ first_of (codes "keys-to") rows
   pub is_progress_shown : AsksFlag (one_of (codes "progress") rows) arguments.is_progress_shown
   pub settings : AsksSettings rows arguments.settings
+
+-- what they have searched for
+pub record AsksExplore (rows : List Row) (arguments : ExploreArguments) : Type 0 where
+  pub search : AsksSearch rows arguments.search
+  pub is_image : AsksFlag (one_of (codes "image") rows) arguments.is_image
+  pub causes : option_copied arguments.causes ≡ first_of (codes "want") rows
+  pub place : option_copied arguments.place ≡ first_of (codes "reach") rows
+  pub never : option_copied arguments.never ≡ first_of (codes "never") rows
+  pub always : option_copied arguments.always ≡ first_of (codes "always") rows
+  pub is_covering : AsksFlag (one_of (codes "cover") rows) arguments.is_covering
+
+-- which properties they have answered, and how
+pub record AsksProve (rows : List Row) (arguments : ProveArguments) : Type 0 where
+  pub search : AsksSearch rows arguments.search
+  pub only : ReadsNumber 32 (first_of (codes "only") rows) arguments.only
+  pub seconds : ReadsNumber 32 (first_of (codes "seconds") rows) arguments.seconds
+  pub is_json : AsksFlag (one_of (codes "json") rows) arguments.is_json
 
 -- What the values of a command of that name ask for.
 abbrev pub Asks : List ℕ → List Row → CommandLine → Type 0
@@ -218,6 +238,7 @@ Asks name rows (line.Trace arguments) = (name ≡ codes "trace") × AsksTrace ro
 Asks name rows (line.Picture arguments) = (name ≡ codes "picture") × AsksPicture rows arguments
 Asks name rows (line.Test arguments) = (name ≡ codes "test") × AsksTest rows arguments
 Asks name rows (line.Explore arguments) = (name ≡ codes "explore") × AsksExplore rows arguments
+Asks name rows (line.Prove arguments) = (name ≡ codes "prove") × AsksProve rows arguments
 Asks name rows (line.Explain code) =
     (name ≡ codes "explain") × (option_copied code ≡ first_of (codes "code") rows)
 Asks name rows (line.Debug source is_image is_quiet settings) =

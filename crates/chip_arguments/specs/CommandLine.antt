@@ -3,7 +3,7 @@
 use Rattle.std.specs.Prelude.{List, [], ◌∷◌, Some, codes, true, pos}
 use Rattle.clap.specs.Words.{App, Rule, new_app, new_rule, with_rule, with_subcommand}
 use Rattle.chip_replay.specs.declared.limits.TheConstants.{LAST_STEP, LEAST_SPACING, MOST_RATE, MOST_SPACING}
-use Rattle.chip_arguments.specs.declared.limits.TheConstants.{MOST_STATES}
+use Rattle.chip_arguments.specs.declared.limits.TheConstants.{MOST_LINE, MOST_SECONDS, MOST_STATES}
 use Rattle.clap.specs.declared.builder.action.ArgAction.TheVariants.{Append, Set, SetTrue}
 use Rattle.clap.specs.declared.builder.value_parser.ValueParser.TheVariants as vp
 
@@ -55,6 +55,10 @@ seed = record (new_rule (codes "seed")) {
 unfoldable pub profile : Rule
 profile = record (new_rule (codes "profile")) { long = Some (codes "profile"); value_names = 1 }
 
+-- any text: the choices of quirks are not part of what `clap` judges
+unfoldable pub quirks : Rule
+quirks = record (new_rule (codes "quirks")) { long = Some (codes "quirks"); value_names = 1 }
+
 unfoldable pub every : Rule
 every = record (new_rule (codes "every")) {
   long = Some (codes "every");
@@ -67,7 +71,8 @@ unfoldable pub as_image : Rule
 as_image = record (new_rule (codes "image")) { long = Some (codes "image"); action = Some SetTrue }
 
 unfoldable pub with_settings : App → App
-with_settings app = with_rule (with_rule (with_rule (with_rule app rate) tape) seed) profile
+with_settings app =
+    with_rule (with_rule (with_rule (with_rule (with_rule app rate) tape) seed) profile) quirks
 
 -- nothing is said at a terminal beside the answers
 unfoldable pub quiet : Rule
@@ -117,8 +122,8 @@ cover = record (new_rule (codes "cover")) { long = Some (codes "cover"); action 
 
 unfoldable pub check : App
 check =
-    with_rule (with_rule (with_rule (with_rule (with_rule (with_rule (new_app (codes "check")) sources)
-    json) allow) cover) color) profile
+    with_rule (with_rule (with_rule (with_rule (with_rule (with_rule (with_rule (new_app (codes "check")) sources)
+    json) allow) cover) color) profile) quirks
 
 unfoldable pub dis : App
 dis = with_rule (new_app (codes "dis")) image
@@ -218,6 +223,29 @@ keys_to = record (new_rule (codes "keys-to")) { long = Some (codes "keys-to"); v
 unfoldable pub reach : Rule
 reach = record (new_rule (codes "reach")) { long = Some (codes "reach"); value_names = 1 }
 
+-- a property that is looked for: where it holds, and where it doesn't
+unfoldable pub never : Rule
+never = record (new_rule (codes "never")) { long = Some (codes "never"); value_names = 1 }
+
+unfoldable pub always : Rule
+always = record (new_rule (codes "always")) { long = Some (codes "always"); value_names = 1 }
+
+-- the line of the one property that is answered
+unfoldable pub only : Rule
+only = record (new_rule (codes "only")) {
+  long = Some (codes "only");
+  value_names = 1;
+  parser = Some (vp.Signed (pos 1) (pos MOST_LINE));
+}
+
+-- after how many seconds a search ends
+unfoldable pub seconds : Rule
+seconds = record (new_rule (codes "seconds")) {
+  long = Some (codes "seconds");
+  value_names = 1;
+  parser = Some (vp.Signed (pos 1) (pos MOST_SECONDS));
+}
+
 -- a second search, of the deepest states first
 unfoldable pub deep : Rule
 deep = record (new_rule (codes "deep")) { long = Some (codes "deep"); action = Some SetTrue }
@@ -235,15 +263,21 @@ progress = record (new_rule (codes "progress")) {
   action = Some SetTrue;
 }
 
--- the arguments that say which search it is
+-- the arguments that say how a search goes
 unfoldable pub with_search : App → App
 with_search app =
-    with_rule (with_rule (with_rule (with_rule (with_rule (with_rule (with_rule (with_rule (with_rule
-    (with_rule (with_rule app needed_source) search_steps) states) deep) any_speed) want) reach)
-    allowed_keys) keys_to) cover) progress
+    with_rule (with_rule (with_rule (with_rule (with_rule (with_rule (with_rule (with_rule app
+    needed_source) search_steps) states) deep) any_speed) allowed_keys) keys_to) progress
 
 unfoldable pub explore : App
-explore = with_rule (with_settings (with_search (new_app (codes "explore")))) as_image
+explore =
+    with_rule (with_rule (with_rule (with_rule (with_rule (with_rule (with_settings (with_search
+    (new_app (codes "explore")))) as_image) want) reach) never) always) cover
+
+unfoldable pub prove : App
+prove =
+    with_rule (with_rule (with_rule (with_settings (with_search (new_app (codes "prove")))) only)
+    seconds) json
 
 unfoldable pub explain : App
 explain = with_rule (new_app (codes "explain")) code
@@ -264,4 +298,4 @@ unfoldable pub chipbench : App
 chipbench =
     with_commands (without_name (with_version (new_app (codes "chipbench"))))
     (debug ∷ asm ∷ list ∷ syms ∷ dis ∷ run ∷ trace ∷ picture ∷ check ∷ test ∷ explore
-    ∷ explain ∷ [])
+    ∷ prove ∷ explain ∷ [])

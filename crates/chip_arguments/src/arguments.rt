@@ -4,14 +4,20 @@ ghost use Rattle.clap.specs.Words.{new_rule, rule_of};
 ghost use Rattle.chip_arguments.specs.CommandLine as line;
 ghost use Rattle.chip_arguments.specs.inner.Built.{rule_by};
 
-use crate::limits::MOST_STATES;
+use crate::limits::{MOST_LINE, MOST_SECONDS, MOST_STATES};
 use chip_replay::{LAST_STEP, LEAST_SPACING, MOST_RATE, MOST_SPACING};
 use clap::{Arg, ArgAction, value_parser};
 use std::alloc::Global;
 
 const PROFILE_HELP: &str = "\
 Which machine: `schip` is SUPER-CHIP 1.1, `vip` the COSMAC VIP, without the instructions that SUPER-CHIP added, and with \
-other results of shifts, of FX55 and FX65, of BNNN, of OR, AND and XOR, and of the height 0 [default: schip]";
+other results of shifts, of FX55 and FX65, of BNNN, of OR, AND and XOR, and of the height 0; `chip48`, `schip10`, \
+`schip-modern` and `octo` are machines between and after them [default: schip]";
+
+const QUIRKS_HELP: &str = "\
+What differs from the profile, choices with commas between them, each of another quirk: shift=vx|vy, memory=keep|x|x+1, \
+jump=vx|v0, logic=keep|clear, edges=clip|wrap, dxy0=none|8x16|16x16, scroll=stored|whole, size=keep|clear, fx1e=keep|flag, \
+instructions=super|base";
 
 const EVERY_HELP: &str = "\
 How many steps lie between two checkpoints of the run, 1000 to 100000: more take less memory, fewer make edits and \
@@ -44,6 +50,7 @@ pub(crate) enum Argument {
     Tape,
     Seed,
     Profile,
+    Quirks,
     Every,
     AsImage,
     SearchSteps,
@@ -51,8 +58,13 @@ pub(crate) enum Argument {
     Deep,
     AnySpeed,
     Want,
+    Never,
+    Always,
     AllowedKeys,
     KeysTo,
+    KeysToPath,
+    Only,
+    Seconds,
     Sources,
     Color,
     Json,
@@ -92,6 +104,7 @@ impl Argument {
             Argument::Tape => tape_argument(alloc),
             Argument::Seed => seed_argument(alloc),
             Argument::Profile => profile_argument(alloc),
+            Argument::Quirks => quirks_argument(alloc),
             Argument::Every => every_argument(alloc),
             Argument::AsImage => as_image_argument(alloc),
             Argument::SearchSteps => search_steps_argument(alloc),
@@ -99,8 +112,13 @@ impl Argument {
             Argument::Deep => deep_argument(alloc),
             Argument::AnySpeed => any_speed_argument(alloc),
             Argument::Want => want_argument(alloc),
+            Argument::Never => never_argument(alloc),
+            Argument::Always => always_argument(alloc),
             Argument::AllowedKeys => allowed_keys_argument(alloc),
             Argument::KeysTo => keys_to_argument(alloc),
+            Argument::KeysToPath => keys_to_path_argument(alloc),
+            Argument::Only => only_argument(alloc),
+            Argument::Seconds => seconds_argument(alloc),
             Argument::Sources => sources_argument(alloc),
             Argument::Color => color_argument(alloc),
             Argument::Json => json_argument(alloc),
@@ -259,7 +277,7 @@ fn code_argument<'a>(alloc: Global) -> Arg<'a>
         alloc,
         "code",
         "CODE",
-        "F1 to F17, W1 to W8, N1 to N10, Q1 to Q4, C1, C2, E1 to E4, O1 to O3, S1 to S7, or a command of `debug` such as regs [default: all, a line each]",
+        "F1 to F17, W1 to W8, P1 to P6, N1 to N10, Q1 to Q4, C1, C2, E1 to E4, O1 to O3, S1 to S7, or a command of `debug` such as regs [default: all, a line each]",
     )
 }
 
@@ -347,6 +365,14 @@ fn profile_argument<'a>(alloc: Global) -> Arg<'a>
     option(alloc, "profile", "NAME", PROFILE_HELP)
 }
 
+#[tactic(auto, unfolding(crate::specs::CommandLine::quirks))]
+fn quirks_argument<'a>(alloc: Global) -> Arg<'a>
+    ensures rule { rule_of result ≡ line.quirks }
+    ensures local { result.global ≡ false }
+{
+    option(alloc, "quirks", "LIST", QUIRKS_HELP)
+}
+
 #[tactic(auto, unfolding(crate::specs::CommandLine::every))]
 fn every_argument<'a>(alloc: Global) -> Arg<'a>
     ensures rule { rule_of result ≡ line.every }
@@ -431,7 +457,7 @@ fn want_argument<'a>(alloc: Global) -> Arg<'a>
         alloc,
         "want",
         "CAUSES",
-        "The stop causes that are looked for, S1 to S7 with commas between them [default: S2,S3,S4,S5,S6,S7, or none with --reach]",
+        "The stop causes that are looked for, S1 to S7 with commas between them [default: S2,S3,S4,S5,S6,S7, or none with --reach, --never or --always]",
     )
 }
 
@@ -459,6 +485,74 @@ fn keys_to_argument<'a>(alloc: Global) -> Arg<'a>
         "FILE",
         "Writes the key events of the script that was found to a file, as `run --keys` takes them",
     )
+}
+
+#[tactic(auto, unfolding(crate::specs::CommandLine::never))]
+fn never_argument<'a>(alloc: Global) -> Arg<'a>
+    ensures rule { rule_of result ≡ line.never }
+    ensures local { result.global ≡ false }
+{
+    option(
+        alloc,
+        "never",
+        "TEXT",
+        "Also looks for a step before which this holds, such as 'V3 > 63 at LOOP'",
+    )
+}
+
+#[tactic(auto, unfolding(crate::specs::CommandLine::always))]
+fn always_argument<'a>(alloc: Global) -> Arg<'a>
+    ensures rule { rule_of result ≡ line.always }
+    ensures local { result.global ≡ false }
+{
+    option(
+        alloc,
+        "always",
+        "TEXT",
+        "Also looks for a step before which this doesn't hold, such as '[LIVES] <= 3'",
+    )
+}
+
+#[tactic(auto, unfolding(crate::specs::CommandLine::keys_to))]
+fn keys_to_path_argument<'a>(alloc: Global) -> Arg<'a>
+    ensures rule { rule_of result ≡ line.keys_to }
+    ensures local { result.global ≡ false }
+{
+    option(
+        alloc,
+        "keys-to",
+        "PATH",
+        "Writes the key events of the first script that was found to a file, as `run --keys` takes them; \
+         where PATH ends with `/`, those of each script to a file in that folder, 4.keys for line 4",
+    )
+}
+
+#[tactic(auto, unfolding(crate::specs::CommandLine::only))]
+fn only_argument<'a>(alloc: Global) -> Arg<'a>
+    ensures rule { rule_of result ≡ line.only }
+    ensures local { result.global ≡ false }
+{
+    option(
+        alloc,
+        "only",
+        "LINE",
+        "Answers the property of this line alone",
+    )
+    .value_parser(value_parser!(u32).range(1..=i64::from(MOST_LINE)))
+}
+
+#[tactic(auto, unfolding(crate::specs::CommandLine::seconds))]
+fn seconds_argument<'a>(alloc: Global) -> Arg<'a>
+    ensures rule { rule_of result ≡ line.seconds }
+    ensures local { result.global ≡ false }
+{
+    option(
+        alloc,
+        "seconds",
+        "N",
+        "Ends the search after so many seconds, 1 to 1000000, and tells what it has covered",
+    )
+    .value_parser(value_parser!(u32).range(1..=i64::from(MOST_SECONDS)))
 }
 
 #[tactic(auto, unfolding(crate::specs::CommandLine::sources))]

@@ -1,17 +1,19 @@
 //! What the arguments ask for.
-ghost use Rattle.std.specs.Prelude.{◌≡◌, [], Ok, None, false, IfOk, map, option_copied, codes};
+ghost use Rattle.std.specs.Prelude.{◌≡◌, [], Ok, None, Some, false, IfOk, map, option_copied, codes};
 ghost use Rattle.std.specs.Char.{is_ascii_digit};
 ghost use Rattle.std.specs.List.{list_all};
 ghost use Rattle.clap.specs.Matches.{found_of};
 ghost use Rattle.clap.specs.Words.{FailsBy, first_of, kind_of, one_of, rows_of};
 ghost use Rattle.chip_arguments.specs.SettingArguments.{default_arguments};
-ghost use Rattle.chip_arguments.specs.CommandArguments.{Asks, AsksFor, AsksSettings, IsProfile, ReadsNumber, AsksCheck, color_asked, AsksExplore, AsksPicture, AsksRun, AsksTest, AsksTrace, clash_fault, clash_faults, color_fault, first_value_fault, new_file_fault, new_files, number_fault, numbers, value_faults, argument_faults, needed, profile_fault};
+ghost use Rattle.chip_machine.specs.QuirkList.{quirks_asked};
+ghost use Rattle.chip_arguments.specs.CommandArguments.{Asks, AsksFor, AsksQuirks, AsksSettings, ReadsNumber, AsksCheck, color_asked, AsksExplore, AsksPicture, AsksProve, AsksRun, AsksSearch, AsksTest, AsksTrace, both_fault, clash_fault, clash_faults, color_fault, first_value_fault, new_file_fault, new_files, number_fault, numbers, value_faults, argument_faults, needed, quirks_fault};
 ghost use Rattle.chip_arguments.specs.inner.Built.{IsOneOf, command_names};
 
 use crate::commands::{chipbench, chipbench_for};
 use crate::limits::USUAL_STATES;
-use chip_machine::Profile;
 use chip_machine::profile::PROFILES;
+use chip_machine::quirks::QUIRKS;
+use chip_machine::{Profile, Quirks};
 use chip_replay::LEAST_SPACING;
 use clap::error::ErrorKind;
 use clap::{ArgMatches, Error};
@@ -21,13 +23,15 @@ use std::convert::AsStr;
 const DEFAULT_RATE: u32 = 10;
 
 // The arguments that are numbers, each as `clap` shows it in a fault.
-const NUMBERS: [(&str, &str); 6] = [
+const NUMBERS: [(&str, &str); 8] = [
     ("steps", "--steps <N>"),
     ("states", "--states <M>"),
     ("from", "--from <M>"),
     ("rate", "--rate <N>"),
     ("seed", "--seed <N>"),
     ("every", "--every <P>"),
+    ("only", "--only <LINE>"),
+    ("seconds", "--seconds <N>"),
 ];
 
 // The arguments that name a file to write, each as a fault shows it.
@@ -83,6 +87,8 @@ pub enum CommandLine<'a> {
     Test(TestArguments<'a>),
     /// To search all key scripts for one that makes a source's image stop, or reach a place.
     Explore(ExploreArguments<'a>),
+    /// To answer the properties that a source states.
+    Prove(ProveArguments<'a>),
     /// To print the page on a code, or the codes.
     Explain {
         code: Option<&'a str>,
@@ -100,8 +106,8 @@ pub struct CheckArguments<'a> {
     pub allowed: Option<&'a str>,
     /// When the text has colours.
     pub color: ColorChoice,
-    /// For which machine the sources are written.
-    pub profile: Profile,
+    /// The quirks of the machine for which the sources are written.
+    pub quirks: Quirks,
     /// Whether each source is searched for instructions that no key script executes.
     pub is_covering: bool,
 }
@@ -166,12 +172,10 @@ pub struct TestArguments<'a> {
     pub is_tap: bool,
 }
 
-/// A search, as the arguments ask for it.
+/// A search over all key scripts, as the arguments ask for it.
 #[derive(Clone, Copy)]
-pub struct ExploreArguments<'a> {
+pub struct SearchArguments<'a> {
     pub source: &'a str,
-    /// Whether the source is given as an image.
-    pub is_image: bool,
     /// The step to which the search goes, 0 to 1000000.
     pub steps: Option<u32>,
     /// How many states it keeps at most.
@@ -180,19 +184,43 @@ pub struct ExploreArguments<'a> {
     pub is_deep: bool,
     /// Whether it is told where the answer is `never` at any speed, for which all states serve.
     pub is_any_speed: bool,
+    /// The keys that a player has, with commas between them.
+    pub allowed_keys: Option<&'a str>,
+    /// The file for the key events of a script that was found.
+    pub keys_to: Option<&'a str>,
+    /// Whether standard error says how far the search is.
+    pub is_progress_shown: bool,
+    pub settings: SettingArguments<'a>,
+}
+
+/// What `explore` searches for, as the arguments ask for it.
+#[derive(Clone, Copy)]
+pub struct ExploreArguments<'a> {
+    pub search: SearchArguments<'a>,
+    /// Whether the source is given as an image.
+    pub is_image: bool,
     /// The stop causes that are looked for, with commas between them.
     pub causes: Option<&'a str>,
     /// The place that is looked for: a name of the source, or an address after `#`.
     pub place: Option<&'a str>,
-    /// The keys that a player has, with commas between them.
-    pub allowed_keys: Option<&'a str>,
-    /// The file for the key events of the script that was found.
-    pub keys_to: Option<&'a str>,
+    /// What is never to hold, with its place.
+    pub never: Option<&'a str>,
+    /// What is always to hold, with its place.
+    pub always: Option<&'a str>,
     /// Whether the listing is printed with what is executed.
     pub is_covering: bool,
-    /// Whether standard error says how far the search is.
-    pub is_progress_shown: bool,
-    pub settings: SettingArguments<'a>,
+}
+
+/// What `prove` answers, as the arguments ask for it.
+#[derive(Clone, Copy)]
+pub struct ProveArguments<'a> {
+    pub search: SearchArguments<'a>,
+    /// The line of the one property that is answered, 1 to 1000000.
+    pub only: Option<u32>,
+    /// After how many seconds the search ends, 1 to 1000000.
+    pub seconds: Option<u32>,
+    /// Whether JSON objects are printed, and not text.
+    pub is_json: bool,
 }
 
 /// The settings, as the arguments give them.
@@ -204,8 +232,8 @@ pub struct SettingArguments<'a> {
     pub tape: Option<&'a str>,
     /// The seed of the tape.
     pub seed: Option<u64>,
-    /// Which machine it is.
-    pub profile: Profile,
+    /// The quirks of the machine.
+    pub quirks: Quirks,
     /// How many steps lie between two checkpoints of a session's run.
     pub spacing: u32,
 }
@@ -216,7 +244,7 @@ impl<'a> SettingArguments<'a> {
         rate: DEFAULT_RATE,
         tape: None,
         seed: None,
-        profile: Profile::Schip,
+        quirks: Quirks::SCHIP,
         spacing: LEAST_SPACING,
     };
 }
@@ -264,7 +292,7 @@ fn command_asked<'a>(
     ensures asked { IfOk result (Asks name.now (rows_of (found_of found.now))) }
     ensures fault { FailsBy (value_faults (rows_of (found_of found.now))) result }
 {
-    let profile = judged(alloc, found)?;
+    let quirks = judged(alloc, found)?;
     Ok(match name {
         "asm" => CommandLine::Asm {
             source: required_text(found, "source"),
@@ -278,15 +306,16 @@ fn command_asked<'a>(
             source: required_text(found, "source"),
             is_hex: found.get_flag("hex"),
         },
-        "check" => CommandLine::Check(check_arguments(alloc, found, profile)?),
+        "check" => CommandLine::Check(check_arguments(alloc, found, quirks)?),
         "dis" => CommandLine::Dis {
             image: required_text(found, "image"),
         },
-        "run" => CommandLine::Run(run_arguments(found, profile)),
-        "trace" => CommandLine::Trace(trace_arguments(found, profile)),
-        "picture" => CommandLine::Picture(picture_arguments(found, profile)),
+        "run" => CommandLine::Run(run_arguments(found, quirks)),
+        "trace" => CommandLine::Trace(trace_arguments(found, quirks)),
+        "picture" => CommandLine::Picture(picture_arguments(found, quirks)),
         "test" => CommandLine::Test(test_arguments(alloc, found)?),
-        "explore" => CommandLine::Explore(explore_arguments(found, profile)),
+        "explore" => CommandLine::Explore(explore_arguments(found, quirks)),
+        "prove" => CommandLine::Prove(prove_arguments(found, quirks)),
         "explain" => CommandLine::Explain {
             code: found.get_str("code"),
         },
@@ -294,23 +323,21 @@ fn command_asked<'a>(
             source: found.get_str("source"),
             is_image: found.get_flag("image"),
             is_quiet: found.get_flag("quiet"),
-            settings: setting_arguments(found, profile),
+            settings: setting_arguments(found, quirks),
         },
     })
 }
 
-// Judges the values that `clap` takes and the program doesn't, and gives the profile that they
-// name.
-fn judged(alloc: Global, found: &ArgMatches<'_>) -> Result<Profile, Error>
-    ensures profile { IfOk result (IsProfile
-        (first_of (codes "profile") (rows_of (found_of found.now)))) }
+// Judges the values that `clap` takes and the program doesn't, and gives the quirks that they name.
+fn judged(alloc: Global, found: &ArgMatches<'_>) -> Result<Quirks, Error>
+    ensures quirks { IfOk result (AsksQuirks (rows_of (found_of found.now))) }
     ensures fault { FailsBy (value_faults (rows_of (found_of found.now))) result }
 {
     check_numbers(alloc, found, &NUMBERS)?;
     check_new_files(alloc, found, &NEW_FILES)?;
     check_clashes(alloc, found)?;
     check_color(alloc, found.get_str("color"))?;
-    profile_asked(alloc, found.get_str("profile"))
+    quirks_asked(alloc, found.get_str("profile"), found.get_str("quirks"))
 }
 
 // `clap` takes a sign before the digits of a number.
@@ -343,7 +370,7 @@ fn check_new_files(
     Ok(())
 }
 
-// A flag and an argument that do not go together.
+// Arguments that do not go together.
 fn check_clashes(alloc: Global, found: &ArgMatches<'_>) -> Result<(), Error>
     ensures { FailsBy (clash_faults (rows_of (found_of found.now))) result }
 {
@@ -353,7 +380,8 @@ fn check_clashes(alloc: Global, found: &ArgMatches<'_>) -> Result<(), Error>
     let message = "the argument '--ascii' cannot be used with '--pbm <FILE>'";
     check_clash(alloc, ascii, found.get_str("pbm"), message)?;
     let message = "the argument '--ascii' cannot be used with '--png <FILE>'";
-    check_clash(alloc, ascii, found.get_str("png"), message)
+    check_clash(alloc, ascii, found.get_str("png"), message)?;
+    check_both(alloc, found.get_str("never"), found.get_str("always"))
 }
 
 fn check_clash(
@@ -366,6 +394,19 @@ fn check_clash(
 {
     match (flag, other) {
         (Some("true"), Some(_)) => {
+            Err(usage_error(alloc, ErrorKind::ArgumentConflict, message)?)
+        }
+        _ => Ok(()),
+    }
+}
+
+// Two properties, of which a search takes one.
+fn check_both(alloc: Global, never: Option<&str>, always: Option<&str>) -> Result<(), Error>
+    ensures { FailsBy (both_fault (option_copied never.entry) (option_copied always.entry)) result }
+{
+    match (never, always) {
+        (Some(_), Some(_)) => {
+            let message = "the argument '--never <TEXT>' cannot be used with '--always <TEXT>'";
             Err(usage_error(alloc, ErrorKind::ArgumentConflict, message)?)
         }
         _ => Ok(()),
@@ -449,17 +490,19 @@ fn usage_error(alloc: Global, kind: ErrorKind, message: &str) -> Result<Error, A
     chipbench(alloc)?.error(kind, message)
 }
 
-// The profile of a name, which is SUPER-CHIP where there is no name.
-fn profile_asked(alloc: Global, name: Option<&str>) -> Result<Profile, Error>
-    ensures asked { IfOk result (IsProfile (option_copied name.entry)) }
-    ensures fault { FailsBy (profile_fault (option_copied name.entry)) result }
+// The quirks of a profile, which is SUPER-CHIP where there is no name, but for those of a list.
+fn quirks_asked(alloc: Global, name: Option<&str>, list: Option<&str>) -> Result<Quirks, Error>
+    ensures asked { IfOk result (λ quirks.
+        quirks_asked (option_copied name.entry) (option_copied list.entry) ≡ Some quirks) }
+    ensures fault { FailsBy (quirks_fault (option_copied name.entry) (option_copied list.entry))
+        result }
 {
-    let Some(name) = name else {
-        return Ok(Profile::Schip);
+    let Some(profile) = Profile::asked(name) else {
+        return Err(no_such_profile(alloc, name.unwrap_or(""))?);
     };
-    match Profile::from_name(name) {
-        Some(profile) => Ok(profile),
-        None => Err(no_such_profile(alloc, name)?),
+    match profile.quirks().asked(list) {
+        Some(quirks) => Ok(quirks),
+        None => Err(no_such_quirks(alloc, list.unwrap_or(""))?),
     }
 }
 
@@ -469,6 +512,16 @@ fn no_such_profile(alloc: Global, name: &str) -> Result<Error, AllocError>
     let names = PROFILES.join(alloc, ", ")?;
     let message = format!(in alloc;
         "invalid value '{name}' for '--profile <NAME>'\n  [possible values: {names}]"
+    )?;
+    usage_error(alloc, ErrorKind::InvalidValue, message.as_str())
+}
+
+fn no_such_quirks(alloc: Global, list: &str) -> Result<Error, AllocError>
+    ensures { IfOk result (λ error. kind_of error ≡ ErrorKind.InvalidValue) }
+{
+    let choices = QUIRKS.join(alloc, ", ")?;
+    let message = format!(in alloc;
+        "invalid value '{list}' for '--quirks <LIST>'\n  [each quirk once at most: {choices}]"
     )?;
     usage_error(alloc, ErrorKind::InvalidValue, message.as_str())
 }
@@ -504,8 +557,8 @@ pub fn seed(text: Option<&str>) -> Option<u64>
     }
 }
 
-fn run_arguments<'a>(found: &ArgMatches<'a>, profile: Profile) -> RunArguments<'a>
-    ensures { IsProfile (first_of (codes "profile") (rows_of (found_of found.now))) profile
+fn run_arguments<'a>(found: &ArgMatches<'a>, quirks: Quirks) -> RunArguments<'a>
+    ensures { AsksQuirks (rows_of (found_of found.now)) quirks
         → AsksRun (rows_of (found_of found.now)) result }
 {
     RunArguments {
@@ -513,16 +566,16 @@ fn run_arguments<'a>(found: &ArgMatches<'a>, profile: Profile) -> RunArguments<'
         is_image: found.get_flag("image"),
         steps: number(found.get_str("steps")).unwrap_or(0),
         keys: found.get_str("keys"),
-        settings: setting_arguments(found, profile),
+        settings: setting_arguments(found, quirks),
     }
 }
 
 fn check_arguments<'a>(
     alloc: Global,
     found: &ArgMatches<'a>,
-    profile: Profile,
+    quirks: Quirks,
 ) -> Result<CheckArguments<'a>, AllocError>
-    ensures { IsProfile (first_of (codes "profile") (rows_of (found_of found.now))) profile
+    ensures { AsksQuirks (rows_of (found_of found.now)) quirks
         → IfOk result (AsksCheck (rows_of (found_of found.now))) }
 {
     Ok(CheckArguments {
@@ -530,7 +583,7 @@ fn check_arguments<'a>(
         is_json: found.get_flag("json"),
         allowed: found.get_str("allow"),
         color: color_asked(found.get_str("color")),
-        profile,
+        quirks,
         is_covering: found.get_flag("cover"),
     })
 }
@@ -546,12 +599,12 @@ fn color_asked(word: Option<&str>) -> ColorChoice
     }
 }
 
-fn trace_arguments<'a>(found: &ArgMatches<'a>, profile: Profile) -> TraceArguments<'a>
-    ensures { IsProfile (first_of (codes "profile") (rows_of (found_of found.now))) profile
+fn trace_arguments<'a>(found: &ArgMatches<'a>, quirks: Quirks) -> TraceArguments<'a>
+    ensures { AsksQuirks (rows_of (found_of found.now)) quirks
         → AsksTrace (rows_of (found_of found.now)) result }
 {
     TraceArguments {
-        run: run_arguments(found, profile),
+        run: run_arguments(found, quirks),
         from: number(found.get_str("from")).unwrap_or(0),
         sums: found.get_flag("hash"),
         is_json: found.get_flag("json"),
@@ -559,12 +612,12 @@ fn trace_arguments<'a>(found: &ArgMatches<'a>, profile: Profile) -> TraceArgumen
     }
 }
 
-fn picture_arguments<'a>(found: &ArgMatches<'a>, profile: Profile) -> PictureArguments<'a>
-    ensures { IsProfile (first_of (codes "profile") (rows_of (found_of found.now))) profile
+fn picture_arguments<'a>(found: &ArgMatches<'a>, quirks: Quirks) -> PictureArguments<'a>
+    ensures { AsksQuirks (rows_of (found_of found.now)) quirks
         → AsksPicture (rows_of (found_of found.now)) result }
 {
     PictureArguments {
-        run: run_arguments(found, profile),
+        run: run_arguments(found, quirks),
         ascii: found.get_flag("ascii"),
         bitmap: found.get_str("pbm"),
         png: found.get_str("png"),
@@ -584,36 +637,59 @@ fn test_arguments<'a>(
     })
 }
 
-fn explore_arguments<'a>(found: &ArgMatches<'a>, profile: Profile) -> ExploreArguments<'a>
-    ensures { IsProfile (first_of (codes "profile") (rows_of (found_of found.now))) profile
-        → AsksExplore (rows_of (found_of found.now)) result }
+fn search_arguments<'a>(found: &ArgMatches<'a>, quirks: Quirks) -> SearchArguments<'a>
+    ensures { AsksQuirks (rows_of (found_of found.now)) quirks
+        → AsksSearch (rows_of (found_of found.now)) result }
 {
-    ExploreArguments {
+    SearchArguments {
         source: required_text(found, "source"),
-        is_image: found.get_flag("image"),
         steps: number(found.get_str("steps")),
         states: number(found.get_str("states")).unwrap_or(USUAL_STATES),
         is_deep: found.get_flag("deep"),
         is_any_speed: found.get_flag("any-speed"),
-        causes: found.get_str("want"),
-        place: found.get_str("reach"),
         allowed_keys: found.get_str("keys-allowed"),
         keys_to: found.get_str("keys-to"),
-        is_covering: found.get_flag("cover"),
         is_progress_shown: found.get_flag("progress"),
-        settings: setting_arguments(found, profile),
+        settings: setting_arguments(found, quirks),
     }
 }
 
-fn setting_arguments<'a>(found: &ArgMatches<'a>, profile: Profile) -> SettingArguments<'a>
-    ensures { IsProfile (first_of (codes "profile") (rows_of (found_of found.now))) profile
+fn explore_arguments<'a>(found: &ArgMatches<'a>, quirks: Quirks) -> ExploreArguments<'a>
+    ensures { AsksQuirks (rows_of (found_of found.now)) quirks
+        → AsksExplore (rows_of (found_of found.now)) result }
+{
+    ExploreArguments {
+        search: search_arguments(found, quirks),
+        is_image: found.get_flag("image"),
+        causes: found.get_str("want"),
+        place: found.get_str("reach"),
+        never: found.get_str("never"),
+        always: found.get_str("always"),
+        is_covering: found.get_flag("cover"),
+    }
+}
+
+fn prove_arguments<'a>(found: &ArgMatches<'a>, quirks: Quirks) -> ProveArguments<'a>
+    ensures { AsksQuirks (rows_of (found_of found.now)) quirks
+        → AsksProve (rows_of (found_of found.now)) result }
+{
+    ProveArguments {
+        search: search_arguments(found, quirks),
+        only: number(found.get_str("only")),
+        seconds: number(found.get_str("seconds")),
+        is_json: found.get_flag("json"),
+    }
+}
+
+fn setting_arguments<'a>(found: &ArgMatches<'a>, quirks: Quirks) -> SettingArguments<'a>
+    ensures { AsksQuirks (rows_of (found_of found.now)) quirks
         → AsksSettings (rows_of (found_of found.now)) result }
 {
     SettingArguments {
         rate: number(found.get_str("rate")).unwrap_or(DEFAULT_RATE),
         tape: found.get_str("tape"),
         seed: seed(found.get_str("seed")),
-        profile,
+        quirks,
         spacing: number(found.get_str("every")).unwrap_or(LEAST_SPACING),
     }
 }

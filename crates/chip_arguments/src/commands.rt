@@ -53,7 +53,7 @@ A file of cases, line by line:
   source NAME          the source is a file, named from the test's folder
   image NAME           the source is what `dis` prints of that file
   keys NAME            the key events, a file of lines `S K down` and `S K up`
-  profile, rate, tape, seed, every     the settings, as `run` and `debug` take them
+  profile, quirks, rate, tape, seed, every  the settings, as `run` and `debug` take them
   > COMMAND            a command of `debug`; the lines below it are its answer
   ! COMMAND            a command that is refused; the line below it is `no CODE`
   ...                  in an answer: any lines, also none
@@ -71,6 +71,7 @@ Answers `found`, `within` or `never`, each with what it rests on:
                        up to step M
   within N             no key script makes it stop for a wanted cause, or reach the place, at a step up to N
   never                no key script does at any step below 2^64 - 1
+  broken T             of the property that --never or --always states: some script breaks it at step T
   never at any speed   with --any-speed alone: nor at any rate, nor whenever else the timers tick
 Then a line `Sj T` for each other cause that was met, with the least step that was, and `states N`.
 With --cover the listing follows, with `+ ` before each line at whose address some script makes a step:
@@ -81,6 +82,26 @@ Status: 0 for `within` and `never`, 1 for a script that was found or a source wi
 ran out: what was covered until then is printed.
 
 Example: chipbench explore game.asm --keys-to crash.keys";
+
+const PROVE_NOTES: &str = "\
+A property is a line that begins with `;!`, which other assemblers take for a comment:
+  ;! V0 + V4 <= 8 here         holds whenever pc is at the address of the next statement
+  ;! always [LIVES] <= 3       holds before each step
+  ;! never VF = 1 at ADDED     never holds at this label
+  ;! ever at WIN               some player comes there
+Answers, each after the line's place and before its text:
+  broken at step T             some key script breaks it at step T, and none does so earlier
+  broken at step T, unbroken up to step M    with --deep alone: some may do so earlier, but none up to M
+  unbroken up to step N        no key script breaks it at a step up to N
+  never broken                 no key script does at any step below 2^64 - 1
+  never broken at any speed    with --any-speed alone: nor whenever else the timers tick
+  reached at step T, not reached up to step N, never reached    the same of `ever`
+Then `states N`. A key script is any choice of the allowed keys at each step. Tape and profile are fixed,
+and so is the rate, but for the answers at any speed. The language of properties: docs/LANGUAGE.md.
+Status: 0 where nothing is broken and each `ever` is reached, 1 where not, for a property that can't be
+read, and for a source with faults, 4 where memory ran out: what was covered until then is printed.
+
+Example: chipbench prove game.asm --keys-to break.keys";
 
 /// A command of the program.
 pub(crate) struct CommandRow {
@@ -93,7 +114,7 @@ pub(crate) struct CommandRow {
 }
 
 // The commands, in the order of the help.
-const COMMANDS: [CommandRow; 12] = [
+const COMMANDS: [CommandRow; 13] = [
     CommandRow {
         name: "debug",
         about: "Answers the edits and questions on standard input, one a line",
@@ -104,6 +125,7 @@ const COMMANDS: [CommandRow; 12] = [
             Argument::Tape,
             Argument::Seed,
             Argument::Profile,
+            Argument::Quirks,
             Argument::Every,
             Argument::AsImage,
             Argument::Quiet,
@@ -144,6 +166,7 @@ const COMMANDS: [CommandRow; 12] = [
             Argument::Tape,
             Argument::Seed,
             Argument::Profile,
+            Argument::Quirks,
             Argument::Keys,
             Argument::AsImage,
         ],
@@ -159,6 +182,7 @@ const COMMANDS: [CommandRow; 12] = [
             Argument::Tape,
             Argument::Seed,
             Argument::Profile,
+            Argument::Quirks,
             Argument::Keys,
             Argument::AsImage,
             Argument::From,
@@ -178,6 +202,7 @@ const COMMANDS: [CommandRow; 12] = [
             Argument::Tape,
             Argument::Seed,
             Argument::Profile,
+            Argument::Quirks,
             Argument::Keys,
             Argument::AsImage,
             Argument::Ascii,
@@ -196,6 +221,7 @@ const COMMANDS: [CommandRow; 12] = [
             Argument::CheckCover,
             Argument::Color,
             Argument::Profile,
+            Argument::Quirks,
         ],
     },
     CommandRow {
@@ -214,17 +240,43 @@ const COMMANDS: [CommandRow; 12] = [
             Argument::States,
             Argument::Deep,
             Argument::AnySpeed,
-            Argument::Want,
-            Argument::Reach,
             Argument::AllowedKeys,
             Argument::KeysTo,
-            Argument::Cover,
             Argument::Progress,
             Argument::Rate,
             Argument::Tape,
             Argument::Seed,
             Argument::Profile,
+            Argument::Quirks,
             Argument::AsImage,
+            Argument::Want,
+            Argument::Reach,
+            Argument::Never,
+            Argument::Always,
+            Argument::Cover,
+        ],
+    },
+    CommandRow {
+        name: "prove",
+        about: "Answers each property that a source states of its game, `;! always V3 <= 9`",
+        notes: PROVE_NOTES,
+        arguments: &[
+            Argument::NeededSource,
+            Argument::SearchSteps,
+            Argument::States,
+            Argument::Deep,
+            Argument::AnySpeed,
+            Argument::AllowedKeys,
+            Argument::KeysToPath,
+            Argument::Progress,
+            Argument::Rate,
+            Argument::Tape,
+            Argument::Seed,
+            Argument::Profile,
+            Argument::Quirks,
+            Argument::Only,
+            Argument::Seconds,
+            Argument::Json,
         ],
     },
     CommandRow {

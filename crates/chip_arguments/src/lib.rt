@@ -7,8 +7,9 @@ mod commands;
 mod limits;
 
 pub use command_line::{
-    CheckArguments, ColorChoice, CommandLine, ExploreArguments, PictureArguments, RunArguments,
-    SettingArguments, TestArguments, TraceArguments, not_text, number, parse_arguments, seed,
+    CheckArguments, ColorChoice, CommandLine, ExploreArguments, PictureArguments, ProveArguments,
+    RunArguments, SearchArguments, SettingArguments, TestArguments, TraceArguments, not_text,
+    number, parse_arguments, seed,
 };
 pub use commands::VERSION;
 pub use limits::USUAL_STATES;

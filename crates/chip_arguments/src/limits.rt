@@ -5,3 +5,9 @@ pub const USUAL_STATES: u32 = 1_000_000;
 
 /// The most states that a search may be asked to keep.
 pub const MOST_STATES: u32 = 100_000_000;
+
+/// The greatest number of a line that the arguments may name: no source has so many.
+pub const MOST_LINE: u32 = 1_000_000;
+
+/// The most seconds that a search may be given.
+pub const MOST_SECONDS: u32 = 1_000_000;

@@ -33,6 +33,7 @@ pub mod FoundLines
 pub mod WholeImage
 pub mod EditTexts
 pub mod Views
+pub mod FactsFound
 pub mod ListingSteps
 pub mod KeptSteps
 pub mod KeptRoom

@@ -1,25 +1,14 @@
 -- The listing, line by line.
-use Rattle.std.proofs.Common.{◌≡◌, ℕ, suc, zero, ◌+◌, ◌-◌, ◌*◌, ◌/◌, ◌%◌, ◌<◌, ◌≤◌, ℤ, Bool, true, false, List, [], ◌∷◌, ◌++◌, map, reverse, length, take, set, get_or, slice_get, zip, replicate, append_assoc, length-append, refl, ap, sym, ◌∙◌, arith, add-one, Option, Some, None, option_map}
-use Rattle.std.specs.Prelude.{min}
+use Rattle.std.proofs.Common.{◌≡◌, ℕ, suc, zero, ◌+◌, ◌-◌, ◌*◌, ◌/◌, ◌%◌, ◌<◌, ◌≤◌, List, [], ◌∷◌, ◌++◌, map, length, take, set, get_or, slice_get, replicate, append_assoc, length-append, refl, ap, sym, ◌∙◌, arith, add-one, Some, None}
 use Rattle.std.specs.Fmt.{decimal}
 use Rattle.std.specs.List.{flat_map, range_with_len}
-use Rattle.std.proofs.Math.Nat.{min-le_right}
 use Rattle.std.proofs.lemmas.Fmt.{decimal_digit, decimal_step}
-use Rattle.std.proofs.lemmas.List.{map-append, append-nil, set-append_right, take_all, length-map}
+use Rattle.std.proofs.lemmas.List.{map-append, append-nil, set-append_right, take_more}
+use Rattle.std.proofs.lemmas.Option.{get_or_from_slice_get, slice_get_within}
 use Rattle.std.proofs.lemmas.Grind.{flat_map-append}
-use Rattle.std.proofs.lemmas.Option.{slice_get-get_or, slice_get-map}
-use Rattle.chip_lang.specs.declared.fault.Fault.{Fault}
 use Rattle.chip_lang.specs.Show.{two_hex_digits}
-use Rattle.chip_lang.specs.Line.{Body}
-use Rattle.chip_asm.specs.inner.KeptLine.{KeptLine}
-use Rattle.chip_asm.specs.inner.Placements.{Found}
-use Rattle.chip_asm.specs.Layout.{Placed, body_of}
-use Rattle.chip_asm.specs.computed.Walk.{placed}
-use Rattle.chip_asm.specs.Listing.{bytes_shown, field_shown, more_shown, shown, line_shown, lines_shown}
-use Rattle.chip_asm.specs.Program.{fault_of, code_under, bytes_in_code}
-use Rattle.chip_asm.specs.inner.Records.{reading_in, readings_in, texts_in}
-use Rattle.chip_asm.proofs.LinesByPlace.{AtPlace}
-use Rattle.chip_asm.proofs.UnclosedByPlace.{number-at}
+use Rattle.chip_asm.specs.Listing.{bytes_shown}
+use Rattle.chip_asm.specs.LineViews.{LineFacts}
 
 one-byte : (b : ℕ) → flat_map two_hex_digits (b ∷ []) ≡ two_hex_digits b
 one-byte b = append-nil (two_hex_digits b)
@@ -80,70 +69,14 @@ three-digits n h k = decimal_step n (omega arith) (omega arith) ∙ ap (λ l. l 
 pub four-digits : (n : ℕ) → 1 ≤ n / 10 / 10 / 10 → n / 10 / 10 / 10 < 10 → decimal n ≡ (48 + n / 10 / 10 / 10) ∷ (48 + n / 10 / 10 % 10) ∷ (48 + n / 10 % 10) ∷ (48 + n % 10) ∷ []
 four-digits n h k = decimal_step n (omega arith) (omega arith) ∙ ap (λ l. l ++ (48 + n % 10) ∷ []) (three-digits (n / 10) h k)
 
--- the same bytes are shown the same
-shown-same : (n : ℕ) (a b : List ℕ) → ((k : ℕ) → k < n → get_or a k 0 ≡ get_or b k 0) → bytes_shown n a ≡ bytes_shown n b
-shown-same zero a b h = refl
-shown-same (suc n) a b h =
-    ap (λ m. bytes_shown m a) (sym (add-one n))
-    ∙ bytes-more n a
-    ∙ ap (λ l. l ++ two_hex_digits (get_or a n 0)) (shown-same n a b (λ k less. h k (omega arith)))
-    ∙ ap (λ c. bytes_shown n b ++ two_hex_digits c) (h n (omega arith))
-    ∙ sym (bytes-more n b)
-    ∙ ap (λ m. bytes_shown m b) (add-one n)
+-- the rows of one line more
+pub rows-more : (row : LineFacts → List ℕ) (lines : List LineFacts) (i : ℕ) (f : LineFacts) → slice_get lines i ≡ Some f → flat_map row (take (i + 1) lines) ≡ flat_map row (take i lines) ++ row f
+rows-more row lines i f e =
+    ap (flat_map row) (take_more lines i f (slice_get_within lines i f e))
+    ∙ flat_map-append row (take i lines) (get_or lines i f ∷ [])
+    ∙ ap (λ l. flat_map row (take i lines) ++ l) (append-nil (row (get_or lines i f)) ∙ ap row (get_or_from_slice_get lines i f f e))
 
-field-by : (fault : Option Fault) (active : Bool) (body : Body) (here : ℕ) (value : ℤ) (size : ℕ) (kept own : List ℕ) → ((k : ℕ) → k < size → get_or kept k 0 ≡ get_or own k 0)
-    → field_shown fault active body here value size kept ≡ field_shown fault active body here value size own
-field-by (Some f) active body here value size kept own k = refl
-field-by None false body here value size kept own k = refl
-field-by None true body here value size kept own k =
-    let same : bytes_shown (min 6 size) kept ≡ bytes_shown (min 6 size) own = shown-same (min 6 size) kept own (λ i h. k i (let few = min-le_right 6 size in omega (arith, few, h))) in
-    rw same refl
-
--- what is kept of a line gives its line of the listing
-same-line : (lines : List KeptLine) (q : Found) (kept : KeptLine) (i : ℕ) (a : AtPlace (readings_in lines) i q) (fault : Option Fault) (bytes : List ℕ) → fault ≡ fault_of (placed (readings_in lines)) a.x
-    → ((k : ℕ) → k < a.x.size → get_or bytes k 0 ≡ get_or (bytes_in_code (code_under (placed (readings_in lines)) a.x)) k 0)
-    → reading_in kept ≡ a.x.line → shown (i + 1) q.active q.here (field_shown fault q.active (body_of (reading_in kept)) q.here q.value q.size bytes) (more_shown fault q.size) kept.text
-    ≡ line_shown (placed (readings_in lines)) a.x kept.text
-same-line lines q kept i a fault bytes f own read =
-    ap (λ (p : Found). shown (i + 1) p.active p.here (field_shown fault p.active (body_of (reading_in kept)) p.here p.value p.size bytes) (more_shown fault p.size) kept.text) a.placement
-    ∙ ap (λ n. shown n a.x.active a.x.here (field_shown fault a.x.active (body_of (reading_in kept)) a.x.here a.x.value a.x.size bytes) (more_shown fault a.x.size) kept.text) (sym (number-at (readings_in lines) i a.x a.at))
-    ∙ ap (λ g. shown a.x.number a.x.active a.x.here (field_shown g a.x.active (body_of (reading_in kept)) a.x.here a.x.value a.x.size bytes) (more_shown g a.x.size) kept.text) f
-    ∙ ap (λ r. shown a.x.number a.x.active a.x.here (field_shown (fault_of (placed (readings_in lines)) a.x) a.x.active (body_of r) a.x.here a.x.value a.x.size bytes) (more_shown (fault_of (placed (readings_in lines)) a.x) a.x.size) kept.text) read
-    ∙ ap (λ g. shown a.x.number a.x.active a.x.here g (more_shown (fault_of (placed (readings_in lines)) a.x) a.x.size) kept.text)
-    (field-by (fault_of (placed (readings_in lines)) a.x) a.x.active (body_of a.x.line) a.x.here a.x.value a.x.size bytes (bytes_in_code (code_under (placed (readings_in lines)) a.x)) own)
-
-some-is : {X : Type 0} (x y : X) → Some x ≡ Some y → x ≡ y
-some-is x y e = cc
-
-zip-more : (xs : List Placed) (ys : List (List ℕ)) (i : ℕ) (x : Placed) (y : List ℕ) → slice_get xs i ≡ Some x → slice_get ys i ≡ Some y → take (suc i) (zip xs ys) ≡ take i (zip xs ys) ++ (x, y) ∷ []
-zip-more [] ys i x y a b = cc
-zip-more (p ∷ xs) [] i x y a b = cc
-zip-more (p ∷ xs) (t ∷ ys) zero x y a b = rw (some-is p x a, some-is t y b) refl
-zip-more (p ∷ xs) (t ∷ ys) (suc i) x y a b = ap (λ l. (p, t) ∷ l) (zip-more xs ys i x y a b)
-
--- the lines of the listing so far
-abbrev pub listed : List KeptLine → ℕ → List ℕ
-listed lines n = flat_map (λ e. line_shown (placed (readings_in lines)) e.0 e.1) (take n (zip (reverse (placed (readings_in lines))) (texts_in lines)))
-
-pub listed-more : (lines : List KeptLine) (q : Found) (kept : KeptLine) (i : ℕ) (a : AtPlace (readings_in lines) i q) (fault : Option Fault) (bytes : List ℕ) → i < length lines → kept ≡ get_or lines i kept
-    → fault ≡ fault_of (placed (readings_in lines)) a.x
-    → ((k : ℕ) → k < a.x.size → get_or bytes k 0 ≡ get_or (bytes_in_code (code_under (placed (readings_in lines)) a.x)) k 0)
-    → reading_in kept ≡ a.x.line → listed lines (i + 1)
-    ≡ listed lines i ++ shown (i + 1) q.active q.here (field_shown fault q.active (body_of (reading_in kept)) q.here q.value q.size bytes) (more_shown fault q.size) kept.text
-listed-more lines q kept i a fault bytes inside is f own read =
-    let text : slice_get (texts_in lines) i ≡ Some kept.text
-    = slice_get-map (λ (k : KeptLine). k.text) lines i ∙ ap (option_map (λ (k : KeptLine). k.text)) (slice_get-get_or lines i kept inside ∙ ap Some (sym is)) in
-    ap (listed lines) (add-one i)
-    ∙ ap (flat_map (λ e. line_shown (placed (readings_in lines)) e.0 e.1)) (zip-more (reverse (placed (readings_in lines))) (texts_in lines) i a.x kept.text a.at text)
-    ∙ flat_map-append (λ e. line_shown (placed (readings_in lines)) e.0 e.1) (take i (zip (reverse (placed (readings_in lines))) (texts_in lines))) ((a.x, kept.text) ∷ [])
-    ∙ ap (λ l. listed lines i ++ l) (append-nil (line_shown (placed (readings_in lines)) a.x kept.text) ∙ sym (same-line lines q kept i a fault bytes f own read))
-
-length-zip-le : (xs : List Placed) (ys : List (List ℕ)) → length (zip xs ys) ≤ length ys
-length-zip-le [] ys = omega arith
-length-zip-le (x ∷ xs) [] = omega arith
-length-zip-le (x ∷ xs) (y ∷ ys) = let k = length-zip-le xs ys in omega arith
-
-pub listed-all : (lines : List KeptLine) (n : ℕ) → length lines ≤ n → listed lines n ≡ lines_shown (placed (readings_in lines)) (texts_in lines)
-listed-all lines n h =
-    ap (flat_map (λ e. line_shown (placed (readings_in lines)) e.0 e.1))
-    (take_all n (zip (reverse (placed (readings_in lines))) (texts_in lines)) (omega (arith, length-zip-le (reverse (placed (readings_in lines))) (texts_in lines), length-map lines (λ (k : KeptLine). k.text))))
+pub past-rows : (lines : List LineFacts) (i : ℕ) → slice_get lines i ≡ None → length lines ≤ i
+past-rows [] i e = omega arith
+past-rows (f ∷ lines) zero e = cc
+past-rows (f ∷ lines) (suc i) e = let k = past-rows lines i e in omega arith

@@ -6,8 +6,6 @@ use Rattle.chip_asm.specs.inner.Kept.{IsKept}
 use Rattle.chip_asm.specs.inner.KeptLine.{KeptLine}
 use Rattle.chip_asm.specs.inner.Layouts.{IsLayoutOf}
 use Rattle.chip_asm.specs.Program.{names_of_lines, symbols_of}
-use Rattle.chip_asm.specs.computed.Walk.{placed}
-use Rattle.chip_asm.specs.Listing.{lines_shown, listing_of}
 use Rattle.chip_asm.specs.inner.Records.{readings_in, texts_in}
 use Rattle.chip_asm.specs.Work.{needs_count, lines_to_encode, accepted_lines, accepted_of}
 
@@ -25,7 +23,3 @@ needs-view old new before after origin a b = ap (λ rs. needs_count rs new origi
 pub accepted-view : (lines : List Reading) (texts : List (List ℕ)) → lines ≡ map reading_of texts → accepted_lines lines ≡ accepted_of texts
 unfolding accepted_of
 accepted-view lines texts e = ap accepted_lines e
-
-pub listing-view : (lines : List KeptLine) (texts : List (List ℕ)) → readings_in lines ≡ map reading_of (texts_in lines) → texts_in lines ≡ texts → lines_shown (placed (readings_in lines)) (texts_in lines) ≡ listing_of texts
-unfolding listing_of
-listing-view lines texts e t = ap (λ rs. lines_shown (placed rs) (texts_in lines)) e ∙ ap (λ ts. lines_shown (placed (map reading_of ts)) ts) t

@@ -6,6 +6,7 @@
 --     Places       what holds of each line: whether it is active, where it stands, what is wrong with
 --                  it
 --     Program      names, faults and image of a source
+--     LineViews    what a source tells of each line
 --     Listing      the listing
 --     Work         which lines an edit makes encode anew
 --     Sources      what contracts see of a source
@@ -15,6 +16,7 @@
 --                  a reader may skip it
 pub mod Edits
 pub mod Layout
+pub mod LineViews
 pub mod Lines
 pub mod Listing
 pub mod Names

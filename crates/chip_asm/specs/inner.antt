@@ -1,9 +1,10 @@
 -- What the functions inside say: of the first pass in Turns, Follows, Placements, Marks, Layouts and
--- Resume; of symbols in ValueLists and Tables; of kept lines in HeldText, HeldLine, KeptLine,
+-- Resume; of symbols in ValueLists and Tables; of kept lines in HeldText, HeldLine, KeptLine, Facts,
 -- PackedUses, Infos, Records and Effect; of their codes in Recode and Codes; of both passes in
 -- Passes; of all of it in Kept.
 pub mod Codes
 pub mod Effect
+pub mod Facts
 pub mod Follows
 pub mod HeldLine
 pub mod HeldText

@@ -24,12 +24,13 @@ pub(crate) fn places_of(placement: &Placement) -> Range<usize>
     first..first + placement.size as usize
 }
 
-/// The bytes of a line that stand in the listing.
+/// The bytes of a line in the image.
 pub(crate) fn bytes_at<'a>(image: &'a [u8], placement: &Placement) -> &'a [u8]
     requires low { IMAGE_START ≤ placement.now.here }
     requires high { placement.now.here + placement.now.size ≤ MEMORY_BYTES }
-    requires long { length image.now ≡ IMAGE_BYTES }
-    ensures { (k : ℕ) → k < placement.now.size → slice_index result.now k
+    requires whole { length image.now ≡ IMAGE_BYTES }
+    ensures long { length result.now ≡ placement.now.size }
+    ensures each { (k : ℕ) → k < placement.now.size → slice_index result.now k
         ≡ slice_index image.now (placement.now.here - IMAGE_START + k) }
 {
     &image[places_of(placement)]

@@ -14,6 +14,7 @@ mod layout;
 pub mod limits;
 mod line_info;
 mod line_text;
+mod line_view;
 mod listing;
 mod name_hasher;
 mod pass;
@@ -23,6 +24,7 @@ mod source;
 mod table;
 mod values;
 
+pub use line_view::LineView;
 pub use name_hasher::NameHasher;
 pub use refusal::{OpenError, Refusal};
 pub use source::Source;

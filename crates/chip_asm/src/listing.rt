@@ -1,23 +1,15 @@
-//! The listing of a source.
-ghost use Rattle.std.specs.Prelude.{◌≡◌, ◌+◌, ◌<◌, ◌≤◌, ◌++◌, ◌∷◌, [], ℕ, true, OnOk, IfOk, codes, length};
-ghost use Rattle.chip_lang.specs.SeenLine.{seen_line};
+//! The lines of a listing.
+ghost use Rattle.std.specs.Prelude.{◌≡◌, ◌+◌, ◌<◌, ◌≤◌, ◌++◌, ◌∷◌, [], OnOk, length};
 ghost use Rattle.std.specs.Fmt.{decimal, signed_decimal};
-ghost use Rattle.chip_asm.specs.Layout.{value_given, body_of};
-ghost use Rattle.chip_asm.specs.computed.Walk.{placed};
-ghost use Rattle.chip_asm.specs.inner.Layouts.{IsLayoutOf};
-ghost use Rattle.chip_asm.specs.Listing.{at_right, at_left, address_shown, bytes_shown, field_shown, more_shown, is_definition, shown, lines_shown};
-ghost use Rattle.chip_asm.specs.inner.Records.{reading_in, readings_in, texts_in};
-ghost use Rattle.chip_asm.specs.inner.Codes.{IsImageOf};
-ghost use Rattle.chip_asm.specs.inner.Placements.{fault_noted, is_active_status};
+ghost use Rattle.std.specs.Option.{option_copied};
+ghost use Rattle.chip_asm.specs.Listing.{at_right, at_left, address_shown, bytes_shown, field_shown, more_shown, row, row_by};
 
-use crate::codes::{byte_or_zero, bytes_at};
+use crate::codes::byte_or_zero;
 use crate::kept_line::BoxedLine;
-use crate::layout::Layout;
-use crate::limits::MOST_LINES;
-use crate::placement::Placement;
-use chip_lang::{Body, Fault, Line, byte_digits, word_digits};
+use crate::line_view::LineView;
+use chip_lang::{Fault, byte_digits, word_digits};
 use itoa::Buffer;
-use std::alloc::{AllocError, Global};
+use std::alloc::AllocError;
 
 // As many spaces as the field of a listing has places.
 const SPACES: [u8; 12] = [b' '; 12];
@@ -101,71 +93,27 @@ fn push_bytes(out: &mut Vec<u8>, count: usize, bytes: &[u8], more: u8) -> Result
     Ok(())
 }
 
-/// Whether the line gives its name a value of its own.
-fn is_definition(line: &Line) -> bool
-    ensures { result ≡ is_definition (body_of (seen_line line.now)) }
-{
-    matches!(
-        line,
-        Line::Read {
-            body: Body::Equ(_) | Body::Define,
-            ..
-        }
-    )
-}
-
-/// The value that a definition gives: that of EQU, and 0 of DEFINE.
-fn value_given(line: &Line, value: i32) -> i32
-    requires { is_definition (body_of (seen_line line.now)) ≡ true }
-    ensures { (here : ℕ) → result ≡ value_given here value (body_of (seen_line line.now)) }
-{
-    match line {
-        Line::Read {
-            body: Body::Define,
-            ..
-        } => 0,
-        _ => value,
-    }
-}
-
-/// Appends the value that a definition gives, at the left of the field, the sign after it, and a
-/// space.
-fn push_value(out: &mut Vec<u8>, value: i32, more: u8) -> Result<(), AllocError>
-    ensures { OnOk result (out.new.items
-        ≡ out.old.items ++ (at_left 12 (codes "=" ++ signed_decimal value) ++ more ∷ 32 ∷ [])) }
-{
-    let mut digits = Buffer::new();
-    push_left(out, b'=', digits.format(value).as_bytes(), more)
-}
-
-/// Appends the field of a line, the sign after it, and a space.
+/// Appends the field of a line, the sign after it, and a space. The text of a value, if there is one,
+/// stands for its bytes.
 fn push_field(
     out: &mut Vec<u8>,
-    placement: &Placement,
-    line: &Line,
+    fault: Option<Fault>,
+    value: Option<&[u8]>,
     bytes: &[u8],
 ) -> Result<(), AllocError>
     ensures { OnOk result (out.new.items
-        ≡ out.old.items ++ (at_left 12 (field_shown (fault_noted placement.now.status)
-        (is_active_status placement.now.status) (body_of (seen_line line.now)) placement.now.here
-        placement.now.value placement.now.size bytes.now)
-        ++ more_shown (fault_noted placement.now.status) placement.now.size ∷ 32 ∷ [])) }
+        ≡ out.old.items ++ (at_left 12 (field_shown fault (option_copied value.entry) bytes.now)
+        ++ more_shown fault (length bytes.now) ∷ 32 ∷ [])) }
 {
-    let fault = placement.status.fault();
-    let more = more_sign(fault, placement.size as usize);
+    let more = more_sign(fault, bytes.len());
     if let Some(fault) = fault {
         let mut digits = Buffer::new();
         return push_left(out, b'F', digits.format(fault.number()).as_bytes(), more);
     }
-    if !placement.is_active() {
-        return push_bytes(out, 0, bytes, more);
+    match value {
+        Some(text) => push_left(out, b'=', text, more),
+        None => push_bytes(out, bytes.len().min(6), bytes, more),
     }
-    if is_definition(line) {
-        let value = value_given(line, placement.value);
-        push_value(out, value, more)?;
-        return Ok(());
-    }
-    push_bytes(out, (placement.size as usize).min(6), bytes, more)
 }
 
 /// The sign of a line with more than six bytes.
@@ -179,31 +127,34 @@ fn more_sign(fault: Option<Fault>, size: usize) -> u8
     }
 }
 
-/// Appends one line of the listing.
-#[tactic(auto, unfolding(crate::specs::Listing::shown))]
-fn push_line(
-    out: &mut Vec<u8>,
-    number: usize,
-    placement: &Placement,
-    kept: &BoxedLine,
-    bytes: &[u8],
-) -> Result<(), AllocError>
-    requires { number < 10000 }
-    ensures { OnOk result (out.new.items
-        ≡ out.old.items
-        ++ shown number (is_active_status placement.now.status) placement.now.here
-        (field_shown (fault_noted placement.now.status) (is_active_status placement.now.status)
-        (body_of (reading_in kept.now)) placement.now.here placement.now.value placement.now.size
-        bytes.now)
-        (more_shown (fault_noted placement.now.status) placement.now.size) kept.now.text) }
-{
-    let [a, b, c, d] = number_text(number);
-    let [e, f, g, h] = address_text(placement.is_active(), placement.here);
-    out.extend_from_slice(&[a, b, c, d, b' ', e, f, g, h, b' '])?;
-    push_field(out, placement, kept.line(), bytes)?;
-    out.extend_from_slice(kept.text())?;
-    out.push(b'\n')?;
-    Ok(())
+impl<'a> LineView<'a> {
+    /// Appends the line's line of the listing. The text of a value, if there is one, stands for the
+    /// bytes of a line without a fault.
+    #[tactic(auto, unfolding(crate::specs::Listing::row))]
+    pub fn push_row(&self, out: &mut Vec<u8>, value: Option<&[u8]>) -> Result<(), AllocError>
+        ensures { OnOk result (out.new.items ≡ out.old.items ++ row (option_copied value.entry) self.now) }
+    {
+        let [a, b, c, d] = number_text(self.number);
+        let [e, f, g, h] = address_text(self.placement.is_active(), self.placement.here);
+        out.extend_from_slice(&[a, b, c, d, b' ', e, f, g, h, b' '])?;
+        push_field(out, self.placement.status.fault(), value, self.bytes)?;
+        out.extend_from_slice(self.text)?;
+        out.push(b'\n')?;
+        Ok(())
+    }
+
+    /// Appends the line's line of the listing, with the value of a definition in decimal.
+    pub fn push_decimal_row(&self, out: &mut Vec<u8>) -> Result<(), AllocError>
+        ensures { OnOk result (out.new.items ≡ out.old.items ++ row_by signed_decimal self.now) }
+    {
+        match self.definition() {
+            Some(value) => {
+                let mut digits = Buffer::new();
+                self.push_row(out, Some(digits.format(value).as_bytes()))
+            }
+            None => self.push_row(out, None),
+        }
+    }
 }
 
 // How many bytes a line of the listing has beside its text, where its number has four digits at
@@ -211,32 +162,10 @@ fn push_line(
 const BESIDE_TEXT: usize = 25;
 
 /// How many bytes the listing of some lines has, at least.
-fn listing_bytes(lines: &[BoxedLine]) -> usize {
+pub(crate) fn listing_bytes(lines: &[BoxedLine]) -> usize {
     let mut bytes = lines.len().saturating_mul(BESIDE_TEXT);
     for kept in lines {
         bytes = bytes.saturating_add(kept.text().len());
     }
     bytes
-}
-
-/// The listing of all lines.
-pub(crate) fn listing_in(
-    alloc: Global,
-    lines: &[BoxedLine],
-    layout: &Layout,
-    image: &[u8],
-) -> Result<Vec<u8>, AllocError>
-    requires few { length lines.now ≤ MOST_LINES }
-    requires laid_out { IsLayoutOf layout.now (readings_in lines.now) }
-    requires image { IsImageOf image.now (readings_in lines.now) }
-    ensures { IfOk result (λ listing. listing.items
-        ≡ lines_shown (placed (readings_in lines.now)) (texts_in lines.now)) }
-{
-    let mut listing = Vec::with_capacity(alloc, listing_bytes(lines))?;
-    for place in 0..lines.len() {
-        let placement = layout.placements[place];
-        let bytes = bytes_at(image, &placement);
-        push_line(&mut listing, place + 1, &placement, &lines[place], bytes)?;
-    }
-    Ok(listing)
 }

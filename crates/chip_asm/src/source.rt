@@ -5,20 +5,23 @@ ghost use Rattle.chip_lang.specs.Line.{upper};
 ghost use Rattle.chip_lang.specs.Meter.{one_more};
 ghost use Rattle.chip_asm.specs.Edits.{insert_refusal, replace_refusal, delete_refusal, before_insert, before_replace, before_delete};
 ghost use Rattle.chip_asm.specs.Work.{lines_to_encode, accepted_of};
-ghost use Rattle.chip_asm.specs.Names.{lookup_name};
+ghost use Rattle.chip_asm.specs.Names.{lookup_name, values_of};
+ghost use Rattle.chip_asm.specs.LineViews.{line_at, line_facts};
 ghost use Rattle.chip_asm.specs.Listing.{listing_of};
 ghost use Rattle.chip_asm.specs.Program.{AgreesOutside, symbols_of, fault_at, faults_of, image_of};
 
+use crate::codes::bytes_at;
 use crate::cut::read_lines;
 use crate::edit::Edit;
 use crate::kept::Kept;
 use crate::kept_line::read_kept;
-use crate::listing::listing_in;
+use crate::line_view::LineView;
+use crate::listing::listing_bytes;
 use crate::name_hasher::NameHasher;
 use crate::refusal::{OpenError, Refusal, delete_refusal, insert_refusal, replace_refusal};
-use crate::table::{Symbol, Table};
+use crate::table::{Scope, Symbol, Table};
 use chip_lang::limits::{IMAGE_BYTES, IMAGE_START};
-use chip_lang::{Bytes, Fault, Meter};
+use chip_lang::{Bytes, Fault, Meter, Names};
 use std::alloc::{AllocError, Global};
 use std::marker::Model;
 use std::ops::Range;
@@ -116,9 +119,10 @@ impl Source {
         Ok(Source { kept, meter })
     }
 
-    /// How many lines there are.
+    /// How many lines there are. The source tells of each.
     pub fn lines(&self) -> usize
-        ensures { result ≡ length self.now.lines }
+        ensures value { result ≡ length self.now.lines }
+        ensures told { length (line_facts self.now.lines) ≡ result }
     {
         self.kept.lines.len()
     }
@@ -148,6 +152,23 @@ impl Source {
         ensures { result ≡ lookup_name (symbols_of self.now.lines) (map upper name.now) }
     {
         self.kept.names.symbol_in_any_case(name)
+    }
+
+    /// The line of this number, counted from 1, with all that holds of it; none where there is no
+    /// such line.
+    pub fn line(&self, number: usize) -> Option<LineView<'_>>
+        ensures value { result ≡ line_at self.now.lines number }
+        ensures number { IfSome result (λ line. line.number ≡ number) }
+        ensures text { IfSome result
+            (λ line. slice_get self.now.lines (number - 1) ≡ Some line.text) }
+    {
+        if number == 0 {
+            return None;
+        }
+        let kept = self.kept.lines.get(number - 1)?;
+        let placement = &self.kept.layout.placements[number - 1];
+        let bytes = bytes_at(&self.kept.image, placement);
+        Some(LineView::of(number, kept, placement, bytes))
     }
 
     /// The fault of the line of this number, counted from 1; none where the line has none or there
@@ -207,7 +228,13 @@ impl Source {
     pub fn listing(&self, alloc: Global) -> Result<Vec<u8>, AllocError>
         ensures { IfOk result (λ listing. listing.items ≡ listing_of self.now.lines) }
     {
-        listing_in(alloc, &self.kept.lines, &self.kept.layout, &self.kept.image)
+        let mut listing = Vec::with_capacity(alloc, listing_bytes(&self.kept.lines))?;
+        for place in 0..self.lines() {
+            if let Some(line) = self.line(place + 1) {
+                line.push_decimal_row(&mut listing)?;
+            }
+        }
+        Ok(listing)
     }
 
     /// Puts a line before line `number`, counted from 1, or after the last one. A refused edit
@@ -301,5 +328,14 @@ impl Source {
         self.kept
             .edit(alloc, &mut self.meter, Edit::Delete(number - 1))?;
         Ok(())
+    }
+}
+
+/// The names that the source gives, with their values.
+impl Names for Source {
+    ghost symbols = { λ s. values_of (symbols_of s.lines) };
+
+    fn value(&self, name: &[u8]) -> Option<i32> {
+        Scope::new(&self.kept.names, &[]).value(name)
     }
 }

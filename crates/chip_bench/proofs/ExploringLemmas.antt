@@ -7,6 +7,7 @@ use Rattle.chip_asm.specs.Lines.{lines_of, open_fault}
 use Rattle.chip_asm.specs.Program.{image_of, symbols_of}
 use Rattle.chip_explore.specs.Answers.{Answers, AreExecuted}
 use Rattle.chip_explore.specs.Speeds.{NeverAtAnySpeed}
+use Rattle.chip_explore.specs.declared.property.Property.{Property}
 use Rattle.chip_explore.specs.declared.question.Explored.{Explored}
 use Rattle.chip_explore.specs.declared.question.Outcome.{Outcome as SearchOutcome}
 use Rattle.chip_explore.specs.declared.question.Outcome.TheVariants.{Found, Later, Within, Never}
@@ -15,8 +16,8 @@ use Rattle.chip_machine.specs.Start.{start_of}
 use Rattle.chip_machine.specs.State.{State}
 use Rattle.chip_session.specs.Settings.{SessionSettings}
 use Rattle.chip_session.specs.Tally.{Tally}
-use Rattle.chip_bench.specs.Doing.{Declined, Explores, Fails, FromGiven, IfSets, IfSettled, IsBadPlace, IsBadSet, IsShort, Outcome, Searches, SearchesFor, SearchesFrom, WithSets, image_in}
-use Rattle.chip_bench.specs.Exploring.{AsksCauses, AsksKeys, answer_lines, covering_text, search_ending, target_asked}
+use Rattle.chip_bench.specs.Doing.{Declined, Explores, Fails, FromGiven, IfSets, IfSettled, IsBadPlace, IsBadProperty, IsBadSet, Outcome, Searches, SearchesFor, SearchesFrom, WithSets, image_in}
+use Rattle.chip_bench.specs.Exploring.{AsksCauses, AsksKeys, AsksProperty, answer_lines, covering_text, search_ending, target_asked}
 use Rattle.chip_bench.specs.Printing.{Prints, printed, printed_faults}
 use Rattle.chip_bench.specs.SettingArguments.{settings_asked}
 use Rattle.chip_bench.specs.declared.ending.Ending.{Ending}
@@ -43,14 +44,14 @@ found_written wrote Never false name faulty written = cc
 module _ {W : Type 0} (contents : W → Option (List ℕ)) (out_old out_new : Tally W) where
   -- what is printed of a search
   pub search_printed : (arguments : ExploreArguments) (lines : List (List ℕ)) (rate keys : ℕ) (target : Target) (start : State) (explored : Explored)
-      (text others : List ℕ) (ending : Ending) (ended : Outcome) → Answers rate keys target start explored.outcome →
+      (text place others : List ℕ) (ending : Ending) (ended : Outcome) → Answers rate keys target start explored.outcome →
       AreExecuted rate keys explored.executed start explored.outcome →
       (explored.is_at_any_speed ≡ true → NeverAtAnySpeed keys target start) →
-      text ≡ answer_lines arguments.is_any_speed explored ++ others ++ covering_text arguments.is_covering explored.executed lines →
+      text ≡ answer_lines arguments.search.is_any_speed place explored ++ others ++ covering_text arguments.is_covering explored.executed lines →
       ending ≡ search_ending explored.outcome explored.is_short → Prints contents out_old out_new (printed text ending) ended →
       SearchesFrom contents out_old out_new arguments lines rate keys target start ended
-  search_printed arguments lines rate keys target start explored text others ending ended answers executed speed is end prints =
-      inl (explored, answers, executed, speed, inl (printed text ending, record { others = others; text = is; ending = end }, prints))
+  search_printed arguments lines rate keys target start explored text place others ending ended answers executed speed is end prints =
+      inl (explored, answers, executed, speed, inl (printed text ending, record { place = place; others = others; text = is; ending = end }, prints))
 
   module _ (arguments : ExploreArguments) (settings : SessionSettings) (causes keys : ℕ) (source : List ℕ) (ended : Outcome) where
     abbrev Searched : Option (List ℕ) → Type 0
@@ -60,13 +61,15 @@ module _ {W : Type 0} (contents : W → Option (List ℕ)) (out_old out_new : Ta
     abbrev ByTarget : List (List ℕ) → List ℕ → Option Target → Type 0
     ByTarget lines image target =
         MatchOption target (Fails contents out_old out_new IsBadPlace ended)
-        (λ found. SearchesFrom contents out_old out_new arguments lines settings.rate keys found (start_of image settings.tape settings.profile) ended)
+        (λ found. SearchesFrom contents out_old out_new arguments lines settings.rate keys found (start_of image settings.tape settings.quirks) ended)
 
     -- the same for the image, if such a source has one
     abbrev ByImage : List (List ℕ) → Option (List ℕ) → Type 0
     ByImage lines image =
         MatchOption image (Prints contents out_old out_new (printed_faults lines) ended)
-        (λ found. ByTarget lines found (target_asked causes (option_copied arguments.place) (symbols_of lines)) ⊎ Fails contents out_old out_new IsShort ended)
+        (λ found. ((properties : Bor (List Property)) × AsksProperty arguments lines properties.now
+        × ByTarget lines found (target_asked causes (option_copied arguments.place) properties (symbols_of lines)))
+        ⊎ Fails contents out_old out_new IsBadProperty ended)
 
     -- the source opens
     pub searches_opened : (lines : List (List ℕ)) → open_fault source ≡ None → lines ≡ lines_of source → ByImage lines (image_of lines) →
@@ -82,30 +85,31 @@ module _ {W : Type 0} (contents : W → Option (List ℕ)) (out_old out_new : Ta
 
         by_image : (image : Option (List ℕ)) → ByImage (lines_of source) image → Searched image
         by_image None did = rw opens did
-        by_image (Some image) (inl did) = inl (by_target image (target_asked causes (option_copied arguments.place) (symbols_of (lines_of source))) did)
-        by_image (Some image) (inr short) = inr short
+        by_image (Some image) (inl (properties, asks, did)) =
+            inl (properties, asks, by_target image (target_asked causes (option_copied arguments.place) properties (symbols_of (lines_of source))) did)
+        by_image (Some image) (inr bad) = inr bad
 
 module _ {R W : Type 0} (remaining : R → Option (List ℕ)) (contents : W → Option (List ℕ)) (in_old in_new : Tally R) (out_old out_new : Tally W)
     (arguments : ExploreArguments) (ended : Outcome) where
   abbrev Did : SessionSettings → ℕ → ℕ → Outcome → Type 0
   Did settings causes keys =
-      FromGiven remaining in_old in_new (out_new ≡ out_old) arguments.is_image arguments.source (λ source.
+      FromGiven remaining in_old in_new (out_new ≡ out_old) arguments.is_image arguments.search.source (λ source.
       Searches contents out_old out_new arguments settings causes keys (image_in source) source)
 
   abbrev WithIts : SessionSettings → Outcome → Type 0
   WithIts settings = WithSets remaining in_old in_new (out_new ≡ out_old) arguments (Did settings)
 
   -- there are no settings
-  pub explores_unsettled : (why : Failure) → ended ≡ Err why → in_new ≡ in_old → out_new ≡ out_old → Unsettles (settings_asked arguments.settings) why →
+  pub explores_unsettled : (why : Failure) → ended ≡ Err why → in_new ≡ in_old → out_new ≡ out_old → Unsettles (settings_asked arguments.search.settings) why →
       Explores remaining contents in_old in_new out_old out_new arguments ended
   explores_unsettled why e same quiet u =
-      unsettles remaining in_old in_new (out_new ≡ out_old) quiet (settings_asked arguments.settings) WithIts ended why e same u
+      unsettles remaining in_old in_new (out_new ≡ out_old) quiet (settings_asked arguments.search.settings) WithIts ended why e same u
 
   -- a set is bad
-  pub explores_bad : (settings : SessionSettings) (why : Failure) → settings_asked arguments.settings ≡ Some settings → ended ≡ Err why → in_new ≡ in_old →
+  pub explores_bad : (settings : SessionSettings) (why : Failure) → settings_asked arguments.search.settings ≡ Some settings → ended ≡ Err why → in_new ≡ in_old →
       out_new ≡ out_old → IsBadSets arguments why → Explores remaining contents in_old in_new out_old out_new arguments ended
   explores_bad settings why settled e same quiet bad =
-      settles remaining in_old in_new (out_new ≡ out_old) quiet (settings_asked arguments.settings) settings WithIts ended settled
+      settles remaining in_old in_new (out_new ≡ out_old) quiet (settings_asked arguments.search.settings) settings WithIts ended settled
       (bad.causes, bad.asks_causes, bad.keys, bad.asks_keys, by_sets bad.causes bad.keys bad.none)
     where
       refuses : Declined remaining in_old in_new (out_new ≡ out_old) IsBadSet ended
@@ -117,7 +121,7 @@ module _ {R W : Type 0} (remaining : R → Option (List ℕ)) (contents : W → 
       by_sets (Some causes) (Some keys) (inl none) = absurd (some_is_none none)
       by_sets (Some causes) (Some keys) (inr none) = absurd (some_is_none none)
 
-  module _ (settings : SessionSettings) (causes keys : ℕ) (settled : settings_asked arguments.settings ≡ Some settings)
+  module _ (settings : SessionSettings) (causes keys : ℕ) (settled : settings_asked arguments.search.settings ≡ Some settings)
       (asks_causes : AsksCauses arguments (Some causes)) (asks_keys : AsksKeys arguments (Some keys)) where
     with_sets : Did settings causes keys ended → Explores remaining contents in_old in_new out_old out_new arguments ended
     with_sets did =
@@ -125,22 +129,22 @@ module _ {R W : Type 0} (remaining : R → Option (List ℕ)) (contents : W → 
         (inl (Some causes, asks_causes, Some keys, asks_keys, did))
 
     -- the source can't be read
-    pub explores_unread : (why : Failure) → ended ≡ Err why → out_new ≡ out_old → IsNotGiven remaining in_old in_new arguments.is_image arguments.source why →
+    pub explores_unread : (why : Failure) → ended ≡ Err why → out_new ≡ out_old → IsNotGiven remaining in_old in_new arguments.is_image arguments.search.source why →
         Explores remaining contents in_old in_new out_old out_new arguments ended
     explores_unread why e quiet unread =
         with_sets
         (given_next remaining in_old in_new (Unit {0}) (out_new ≡ out_old) (Err why) ended (λ Why h. (fails Why ended why e h, quiet))
-        arguments.is_image arguments.source (λ source done. ⊥)
+        arguments.is_image arguments.search.source (λ source done. ⊥)
         (λ source. Searches contents out_old out_new arguments settings causes keys (image_in source) source)
         (λ source none. absurd none) unread)
 
     -- it was searched
-    pub explores_done : (bytes : List ℕ) → IsGiven remaining in_old in_new arguments.is_image arguments.source bytes →
+    pub explores_done : (bytes : List ℕ) → IsGiven remaining in_old in_new arguments.is_image arguments.search.source bytes →
         Searches contents out_old out_new arguments settings causes keys (image_in bytes) bytes ended →
         Explores remaining contents in_old in_new out_old out_new arguments ended
     explores_done bytes given did =
         with_sets
         (given_next remaining in_old in_new (Unit {0}) (out_new ≡ out_old) (Ok Done) ended (λ Why h. absurd h)
-        arguments.is_image arguments.source (λ taken done. taken ≡ bytes)
+        arguments.is_image arguments.search.source (λ taken done. taken ≡ bytes)
         (λ source. Searches contents out_old out_new arguments settings causes keys (image_in source) source)
         (λ source e. rw e did) given)

@@ -7,3 +7,8 @@ pub mod DoingLemmas
 pub mod SetLemmas
 pub mod ExploringLemmas
 pub mod PictureLemmas
+pub mod ProvingLemmas
+pub mod ProveLemmas
+pub mod SearchedLemmas
+pub mod AnswerLemmas
+pub mod PropertiesLemmas

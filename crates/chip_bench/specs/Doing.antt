@@ -8,14 +8,15 @@
 --     worse, with_ending              how a list of sources ends
 --     paints                         whether what `check` prints has colours
 --     ChecksOne, ChecksEach          what `check` did with a source, and with each of some
---     Debugs, Assembles, Tells, Checks, Disassembles, Runs, Traces, Pictures, Explores, Explains
+--     Debugs, Assembles, Tells, Checks, Disassembles, Runs, Traces, Pictures, Explores, Proves,
+--     Explains
 --                                    what each command did
 --     Does                           the same, by what was asked
 --     Performs, ShowsHelp, ShowsVersion   the same, for the arguments
 --     Ends                           how the program ended after that
 -- No contract says what bytes a file gives or takes: of a file's bytes these definitions say that
 -- there are some.
-use Rattle.std.specs.Prelude.{◌≡◌, ◌≢◌, ◌⊎◌, ℕ, ◌<◌, ◌≤◌, ◌==◌, min, Bool, true, false, List, [], ◌∷◌, codes, length, take, Option, Some, None, option_copied, IfSome, Result, Ok, Err, IsErrAnd, if◌then◌else◌}
+use Rattle.std.specs.Prelude.{◌≡◌, ◌≢◌, ◌⊎◌, ℕ, ◌<◌, ◌≤◌, ◌==◌, min, Bool, true, false, List, [], ◌∷◌, codes, length, take, Option, Some, None, option_copied, IfSome, Result, Ok, Err, IsErrAnd, IfOk, if◌then◌else◌}
 use Rattle.std.specs.Borrow.{Bor}
 use Rattle.std.specs.Io.KnownBytes.{Keeps}
 use Rattle.std.specs.declared.io.Error.{Error as IoError}
@@ -41,14 +42,19 @@ use Rattle.chip_bench.specs.Tracing.{IsCompared, header_of, lines_after, printed
 use Rattle.chip_bench.specs.declared.tracing.Shown.{Shown}
 use Rattle.chip_pages.specs.Pages.{IsContents, IsExplained}
 use Rattle.chip_arguments.specs.Version.{version_text}
-use Rattle.chip_bench.specs.Printing.{IsPrintedCheckOf, Printed, PrintsSuch, PrintsSuchUnder, PrintsUnder, Prints, RefusesKeys, StreamsUnder, fault_under, printed_faults, printed_listing, printed_picture, printed, printed_of, printed_run, printed_symbols}
+use Rattle.chip_bench.specs.Printing.{IsPrintedCheckOf, Printed, Streams, WritesFront, PrintsSuch, PrintsSuchUnder, PrintsUnder, Prints, RefusesKeys, StreamsUnder, fault_under, printed_faults, printed_listing, printed_picture, printed, printed_of, printed_run, printed_symbols}
 use Rattle.chip_bench.specs.Running.{AnswersIfAsked, AnswersScript, IsUnread, IsUnreadWithin, source_bytes_read, status_of}
 use Rattle.chip_bench.specs.declared.limits.TheConstants.{KEY_FILE_BYTES, TRACE_FILE_BYTES}
 use Rattle.chip_bench.specs.SettingArguments.{settings_asked}
 use Rattle.chip_session.specs.Settings.{SessionSettings}
 use Rattle.chip_session.specs.Tally.{Tally, failures_after_flush}
 use Rattle.chip_bench.specs.Testing.{Tests}
-use Rattle.chip_bench.specs.Exploring.{AsksCauses, AsksKeys, AsksSet, IsSearchPrinted, target_asked, warning_named}
+use Rattle.chip_bench.specs.Exploring.{AsksCauses, AsksKeys, AsksProperty, AsksSet, IsSearchPrinted, key_named, target_asked, usual_keys, warning_named}
+use Rattle.chip_bench.specs.Proving.{Answered, AreAnswered, IsProofPrinted, asked_of, has_faults, is_missing}
+use Rattle.chip_properties.specs.Properties.{AreProperties}
+use Rattle.chip_properties.specs.declared.properties.Properties.{Properties}
+use Rattle.chip_properties.specs.declared.stated.Stated.{Stated}
+use Rattle.chip_explore.specs.declared.property.Property.{Property}
 use Rattle.chip_explore.specs.Answers.{Answers, AreExecuted}
 use Rattle.chip_explore.specs.Speeds.{NeverAtAnySpeed}
 use Rattle.chip_explore.specs.declared.question.Explored.{Explored}
@@ -62,6 +68,7 @@ use Rattle.chip_arguments.specs.declared.command_line.ColorChoice.{ColorChoice}
 use Rattle.chip_arguments.specs.declared.command_line.ColorChoice.TheVariants as color
 use Rattle.chip_arguments.specs.declared.command_line.ExploreArguments.{ExploreArguments}
 use Rattle.chip_arguments.specs.declared.command_line.PictureArguments.{PictureArguments}
+use Rattle.chip_arguments.specs.declared.command_line.ProveArguments.{ProveArguments}
 use Rattle.chip_arguments.specs.declared.command_line.RunArguments.{RunArguments}
 use Rattle.chip_arguments.specs.declared.command_line.SettingArguments.{SettingArguments}
 use Rattle.chip_arguments.specs.declared.command_line.TraceArguments.{TraceArguments}
@@ -69,6 +76,7 @@ use Rattle.chip_bench.specs.declared.ending.Ending.{Ending}
 use Rattle.chip_bench.specs.declared.ending.Ending.TheVariants.{Done}
 use Rattle.chip_bench.specs.declared.ending.Failure.{Failure}
 use Rattle.chip_bench.specs.declared.ending.Failure.TheVariants as failure
+use Rattle.chip_bench.specs.declared.ending.Report.{Report}
 use Rattle.chip_session.specs.declared.question.PictureForm.{PictureForm}
 use Rattle.chip_session.specs.declared.question.PictureForm.TheVariants as form
 
@@ -111,9 +119,18 @@ IsBadSet why =
     ⊎ ((text : Bor (List ℕ)) × (why ≡ failure.BadPlayerKeys text))
     ⊎ ((text : Bor (List ℕ)) × (why ≡ failure.BadWarnings text))
 
+-- no property stands in the line that the arguments name
+abbrev pub IsNoProperty : Failure → Type 0
+IsNoProperty why = (line : ℕ) × (why ≡ failure.NoProperty line)
+
 -- a place that the source doesn't have
 abbrev pub IsBadPlace : Failure → Type 0
 IsBadPlace why = (text : Bor (List ℕ)) × (why ≡ failure.BadPlace text)
+
+-- a property that can't be read, or that memory ran out
+abbrev pub IsBadProperty : Failure → Type 0
+IsBadProperty why =
+    (why ≡ failure.OutOfMemory) ⊎ ((report : Report) × (why ≡ failure.BadProperty report))
 
 -- what hinders writing a file of that name
 abbrev pub IsUnwritten : Bor (List ℕ) → Failure → Type 0
@@ -360,26 +377,89 @@ module _ {W : Type 0} (contents : W → Option (List ℕ)) (out_old out_new : Ta
       × AreExecuted rate keys explored.executed start explored.outcome
       × (explored.is_at_any_speed ≡ true → NeverAtAnySpeed keys target start)
       × PrintsSuch contents out_old out_new (IsSearchPrinted arguments lines explored) ended)
-      ⊎ Fails (IsScriptUnwritten arguments.keys_to) ended
+      ⊎ Fails (IsScriptUnwritten arguments.search.keys_to) ended
 
   -- if the source has the place that is looked for
   abbrev pub SearchesFor : ExploreArguments → SessionSettings → (keys : ℕ) → Option Target
       → (image source : List ℕ) → Outcome → Type 0
   SearchesFor arguments settings keys (Some target) image source ended =
       SearchesFrom arguments (lines_of source) settings.rate keys target
-      (start_of image settings.tape settings.profile) ended
+      (start_of image settings.tape settings.quirks) ended
   SearchesFor arguments settings keys None image source ended = Fails IsBadPlace ended
+
+  -- with the property that the arguments state, if one
+  abbrev pub SearchesWith : ExploreArguments → SessionSettings → (causes keys : ℕ)
+      → (image source : List ℕ) → Outcome → Type 0
+  SearchesWith arguments settings causes keys image source ended =
+      (properties : Bor (List Property))
+      × AsksProperty arguments (lines_of source) properties.now
+      × SearchesFor arguments settings keys
+      (target_asked causes (option_copied arguments.place) properties (symbols_of (lines_of source)))
+      image source ended
 
   -- `explore`: where the source has an image, that of its machine; else the faults
   abbrev pub Searches : ExploreArguments → SessionSettings → (causes keys : ℕ) → Option (List ℕ)
       → (source : List ℕ) → Outcome → Type 0
   Searches arguments settings causes keys (Some image) source ended =
-      SearchesFor arguments settings keys
-      (target_asked causes (option_copied arguments.place) (symbols_of (lines_of source))) image source
-      ended ⊎ Fails IsShort ended
+      SearchesWith arguments settings causes keys image source ended ⊎ Fails IsBadProperty ended
   Searches arguments settings causes keys None source ended =
       Prints contents out_old out_new
       (printed_of (open_fault source) (printed_faults (lines_of source))) ended
+
+  -- This was printed part by part: all of it, or a front where a write failed, memory ran out or that
+  -- hindered the rest.
+  abbrev pub StreamsUpTo : (Why : Failure → Type 0) → Printed → Outcome → Type 0
+  StreamsUpTo Why wanted ended =
+      Streams contents out_old out_new wanted ended
+      ⊎ (IsErrAnd ended Why × WritesFront contents out_old out_new wanted.text)
+
+  -- the answers to these properties were printed, each as soon as it was found: to all of them, where
+  -- nothing hindered that
+  abbrev pub ProvesFrom : ProveArguments → (lines : List (List ℕ)) → (rate keys : ℕ) → State
+      → (asked : List Stated) → (is_faulty : Bool) → Outcome → Type 0
+  ProvesFrom arguments lines rate keys start asked is_faulty ended =
+      (given : List Answered) × (left : List Stated) × (wanted : Printed)
+      × AreAnswered rate keys start asked given left
+      × IfOk ended (λ ending. left ≡ [])
+      × IsProofPrinted arguments lines is_faulty given wanted
+      × StreamsUpTo (IsScriptUnwritten arguments.search.keys_to) wanted ended
+
+  -- unless there is none in the line that the arguments name
+  abbrev pub ProvesUnless : (is_missing : Bool) → ProveArguments → (lines : List (List ℕ))
+      → (rate keys : ℕ) → State → (asked : List Stated) → (is_faulty : Bool) → Outcome → Type 0
+  ProvesUnless true arguments lines rate keys start asked is_faulty ended =
+      Fails IsNoProperty ended
+  ProvesUnless false arguments lines rate keys start asked is_faulty ended =
+      ProvesFrom arguments lines rate keys start asked is_faulty ended
+
+  -- those of a source's properties that are asked for
+  abbrev pub ProvesWith : ProveArguments → (lines : List (List ℕ)) → (rate keys : ℕ) → State
+      → Properties → Outcome → Type 0
+  ProvesWith arguments lines rate keys start properties ended =
+      ProvesUnless
+      (is_missing arguments.only (asked_of arguments.only properties.stated.items)
+      (has_faults arguments.only properties.faults.items))
+      arguments lines rate keys start (asked_of arguments.only properties.stated.items)
+      (has_faults arguments.only properties.faults.items) ended
+
+  -- of the machine of an image
+  abbrev pub ProvesAsked : ProveArguments → SessionSettings → (keys : ℕ) → (image : List ℕ)
+      → (lines : List (List ℕ)) → Properties → Outcome → Type 0
+  ProvesAsked arguments settings keys image lines properties ended =
+      ProvesWith arguments lines settings.rate keys
+      (start_of image settings.tape settings.quirks) properties ended
+
+  -- `prove`: where the source has an image, its properties are answered of its machine; else its faults
+  -- are printed as `check` prints them
+  abbrev pub ProvesBy : ProveArguments → SessionSettings → (keys : ℕ) → Option (List ℕ)
+      → (source : List ℕ) → Outcome → Type 0
+  ProvesBy arguments settings keys (Some image) source ended =
+      ((properties : Properties) × AreProperties (lines_of source) properties
+      × ProvesAsked arguments settings keys image (lines_of source) properties ended)
+      ⊎ Fails IsShort ended
+  ProvesBy arguments settings keys None source ended =
+      PrintsSuch contents out_old out_new (IsPrintedCheckOf arguments.is_json false true
+      arguments.search.source.now (open_fault source) (lines_of source)) ended
 
   -- a text, whatever it is, was printed
   abbrev pub PrintsText : Outcome → Type 0
@@ -493,10 +573,21 @@ module _ {R W : Type 0} (remaining : R → Option (List ℕ)) (contents : W → 
   -- `explore`
   abbrev pub Explores : ExploreArguments → Outcome → Type 0
   Explores arguments ended =
-      IfSettled remaining in_old in_new (out_new ≡ out_old) (settings_asked arguments.settings)
+      IfSettled remaining in_old in_new (out_new ≡ out_old) (settings_asked arguments.search.settings)
       (λ settings. WithSets remaining in_old in_new (out_new ≡ out_old) arguments (λ causes keys.
-      FromGiven remaining in_old in_new (out_new ≡ out_old) arguments.is_image arguments.source (λ source.
-      Searches contents out_old out_new arguments settings causes keys (image_in source) source))) ended
+      FromGiven remaining in_old in_new (out_new ≡ out_old) arguments.is_image arguments.search.source
+      (λ source. Searches contents out_old out_new arguments settings causes keys (image_in source)
+      source))) ended
+
+  -- `prove`
+  abbrev pub Proves : ProveArguments → Outcome → Type 0
+  Proves arguments ended =
+      IfSettled remaining in_old in_new (out_new ≡ out_old) (settings_asked arguments.search.settings)
+      (λ settings ended. (keys : Option ℕ)
+      × AsksSet key_named usual_keys (option_copied arguments.search.allowed_keys) keys
+      × IfSet remaining in_old in_new (out_new ≡ out_old) keys (λ set.
+      FromSource remaining in_old in_new (out_new ≡ out_old) arguments.search.source (λ source.
+      ProvesBy contents out_old out_new arguments settings set (image_in source) source)) ended) ended
 
   -- what the program did for what it was asked; its output takes colours, or it doesn't
   abbrev pub Does : (takes_color : Bool) → CommandLine → Outcome → Type 0
@@ -511,6 +602,7 @@ module _ {R W : Type 0} (remaining : R → Option (List ℕ)) (contents : W → 
   Does takes_color (line.Picture arguments) ended = Pictures arguments ended
   Does takes_color (line.Test arguments) ended = Tests arguments ended × (in_new ≡ in_old)
   Does takes_color (line.Explore arguments) ended = Explores arguments ended
+  Does takes_color (line.Prove arguments) ended = Proves arguments ended
   Does takes_color (line.Explain code) ended =
       Explains contents out_old out_new code ended × (in_new ≡ in_old)
 

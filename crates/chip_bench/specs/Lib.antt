@@ -6,6 +6,7 @@
 --     Tracing      what `trace` prints of a session's run
 --     Testing      what `test` finds of files of cases
 --     Exploring    what `explore` is asked, and what it prints
+--     Proving      what `prove` prints of the properties that a source states
 --     Doing        what the program does for each thing that its arguments can ask for
 --     inner        for private contracts: what was read, and what `explore` tells
 pub mod Running
@@ -15,5 +16,6 @@ pub mod Printing
 pub mod Tracing
 pub mod Testing
 pub mod Exploring
+pub mod Proving
 pub mod Doing
 pub mod inner

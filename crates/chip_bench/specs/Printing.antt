@@ -67,7 +67,7 @@ ending_with None = Faulty
 -- the answer of `list`, with values in decimal or in hexadecimal
 abbrev pub listing_shown : (is_hex : Bool) → List (List ℕ) → List ℕ
 listing_shown false lines = listing_text (listing_of lines)
-listing_shown true lines = listing_text (hex_listing (symbols_of lines) (listing_of lines))
+listing_shown true lines = listing_text (hex_listing lines)
 
 -- `list`
 abbrev pub printed_listing : (is_hex : Bool) → List (List ℕ) → Printed

@@ -32,7 +32,7 @@ abbrev pub settings_with : SettingArguments → List ℕ → Option SessionSetti
 settings_with arguments tape =
     option_and_then (if_faultless (spacing_fault arguments.spacing))
     (if_faultless (settings_fault arguments.rate tape)
-    (record { rate = arguments.rate; tape = tape; profile = arguments.profile; spacing = arguments.spacing }))
+    (record { rate = arguments.rate; tape = tape; quirks = arguments.quirks; spacing = arguments.spacing }))
 
 -- the settings that the arguments ask for, or none where their tape is bad
 abbrev pub settings_asked : SettingArguments → Option SessionSettings

@@ -5,7 +5,8 @@
 --     Tests                  how the program ends
 use Rattle.std.specs.Prelude.{◌≡◌, ◌⊎◌, ℕ, ◌≤◌, ◌==◌, ◌&&◌, Bool, true, false, IsTrue, ◌↔◌, List, [], ◌∷◌, length, map, Option, Some, None, option_copied, Result, Ok, Err, if◌then◌else◌}
 use Rattle.std.specs.Borrow.{Bor}
-use Rattle.chip_arguments.specs.CommandArguments.{IsProfile, ReadsNumber, ReadsOr}
+use Rattle.chip_arguments.specs.CommandArguments.{ReadsNumber, ReadsOr}
+use Rattle.chip_machine.specs.QuirkList.{quirks_asked}
 use Rattle.chip_arguments.specs.declared.command_line.SettingArguments.{SettingArguments}
 use Rattle.chip_arguments.specs.declared.command_line.TestArguments.{TestArguments}
 use Rattle.chip_asm.specs.Lines.{open_fault}
@@ -68,7 +69,7 @@ pub record SetBy (setup : Setup) (arguments : SettingArguments) : Type 0 where
   pub rate : ReadsOr 32 (text_of setup.rate) 10 arguments.rate
   pub tape : option_copied arguments.tape ≡ text_of setup.tape
   pub seed : ReadsNumber 64 (text_of setup.seed) arguments.seed
-  pub profile : IsProfile (text_of setup.profile) arguments.profile
+  pub quirks : quirks_asked (text_of setup.profile) (text_of setup.quirks) ≡ Some arguments.quirks
   pub spacing : ReadsOr 32 (text_of setup.every) LEAST_SPACING arguments.spacing
 
 -- what `dis` prints of some image, of whose bytes no contract speaks

@@ -1,6 +1,7 @@
 //! The settings, the source and the key events that the lines of a case ask for.
 ghost use Rattle.std.specs.Prelude.{◌≡◌, ◌≤◌, IfOk, IfErr, Some, length, option_copied};
-ghost use Rattle.chip_arguments.specs.CommandArguments.{IsProfile, ReadsNumber, ReadsOr};
+ghost use Rattle.chip_arguments.specs.CommandArguments.{ReadsNumber, ReadsOr};
+ghost use Rattle.chip_machine.specs.QuirkList.{quirks_asked};
 ghost use Rattle.chip_bench.specs.SettingArguments.{settings_asked};
 ghost use Rattle.chip_bench.specs.Testing.{IsCaseKeys, IsCaseSource, IsHindrance, IsSourceOfImage, SetBy, text_of};
 
@@ -10,8 +11,8 @@ use crate::limits::KEY_FILE_BYTES;
 use crate::reading::{MOST_SOURCE, settings_of};
 use chip_arguments::{SettingArguments, number, seed};
 use chip_cases::{CaseSource, Placed, Setup};
-use chip_machine::Profile;
 use chip_machine::limits::IMAGE_BYTES;
+use chip_machine::{Profile, Quirks};
 use chip_replay::{LEAST_SPACING, MOST_RATE, MOST_SPACING};
 use chip_session::Settings;
 use chip_views::source_of_image;
@@ -57,7 +58,7 @@ fn setting_arguments<'t>(setup: &Setup<'t>) -> Result<SettingArguments<'t>, BadL
         rate: number_of(setup.rate, SettingArguments::DEFAULT.rate, 1, MOST_RATE)?,
         tape: text_of(setup.tape)?,
         seed: seed_of(setup.seed)?,
-        profile: profile_of(setup.profile)?,
+        quirks: quirks_of(setup)?,
         spacing: number_of(setup.every, LEAST_SPACING, LEAST_SPACING, MOST_SPACING)?,
     })
 }
@@ -114,17 +115,23 @@ fn seed_of(placed: Option<Placed<'_>>) -> Result<Option<u64>, BadLine>
     }
 }
 
-fn profile_of(placed: Option<Placed<'_>>) -> Result<Profile, BadLine>
-    ensures { IfOk result (IsProfile (text_of placed.entry)) }
+fn quirks_of(setup: &Setup<'_>) -> Result<Quirks, BadLine>
+    ensures { IfOk result (λ quirks. quirks_asked (text_of setup.now.profile)
+        (text_of setup.now.quirks) ≡ Some quirks) }
 {
-    let (Some(name), Some(placed)) = (text_of(placed)?, placed) else {
-        return Ok(Profile::Schip);
-    };
-    match Profile::from_name(name) {
-        Some(profile) => Ok(profile),
-        None => Err(BadLine {
-            line: placed.line,
+    let name = text_of(setup.profile)?;
+    let list = text_of(setup.quirks)?;
+    let Some(profile) = Profile::asked(name) else {
+        return Err(BadLine {
+            line: setup.profile.map_or(1, |placed| placed.line),
             why: TestFault::Profile,
+        });
+    };
+    match profile.quirks().asked(list) {
+        Some(quirks) => Ok(quirks),
+        None => Err(BadLine {
+            line: setup.quirks.map_or(1, |placed| placed.line),
+            why: TestFault::Quirks,
         }),
     }
 }

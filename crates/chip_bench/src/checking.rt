@@ -1,6 +1,5 @@
 //! `check`: the faults of sources with their places, and their warnings.
-ghost use Rattle.std.specs.Prelude.{◌≡◌, Err, IfOk};
-ghost use Rattle.chip_asm.specs.Lines.{lines_of};
+ghost use Rattle.std.specs.Prelude.{◌≡◌, Err, IfOk, false, true};
 ghost use Rattle.chip_asm.specs.Program.{image_of};
 ghost use Rattle.chip_bench.specs.Doing.{Checks, ChecksEach, ChecksOne, paints, worse};
 ghost use Rattle.chip_bench.specs.inner.Covering.{IsCovered};
@@ -14,11 +13,11 @@ use crate::output::{print, unopened_text};
 use crate::progress::Progress;
 use crate::reading::read_source;
 use crate::sets::warnings_of;
-use chip_arguments::{CheckArguments, ColorChoice};
+use chip_arguments::{CheckArguments, ColorChoice, SettingArguments};
 use chip_asm::{OpenError, Source};
 use chip_check::{check_json, check_text, unopened_json};
 use chip_explore::Watcher;
-use chip_machine::Profile;
+use chip_machine::Quirks;
 use chip_session::Counted;
 use chip_warnings::{Warning, warnings};
 use std::alloc::{AllocError, Global};
@@ -29,7 +28,7 @@ use std::io::{Read, Write};
 pub(crate) struct Checker {
     /// The warnings that are not printed, Wk at bit k.
     allowed: u16,
-    profile: Profile,
+    quirks: Quirks,
     /// Whether JSON objects are printed, and not text.
     is_json: bool,
     /// Whether the text has colours.
@@ -58,7 +57,7 @@ pub(crate) fn check<'a, F: FileAccess, I: Read, O: Write, E: Write>(
     let names: &[&'a str] = &arguments.sources;
     let checker = Checker {
         allowed,
-        profile: arguments.profile,
+        quirks: arguments.quirks,
         is_json: arguments.is_json,
         is_painted: paints(arguments.color, host.takes_color),
         is_alone: names.len() == 1,
@@ -93,6 +92,22 @@ fn worse(ending: Ending, later: Ending) -> Ending
 }
 
 impl Checker {
+    /// A checker of one source that prints faults alone.
+    pub(crate) fn for_faults(is_json: bool) -> Checker
+        ensures json { result.is_json ≡ is_json }
+        ensures painted { result.is_painted ≡ false }
+        ensures alone { result.is_alone ≡ true }
+    {
+        Checker {
+            allowed: 0,
+            quirks: SettingArguments::DEFAULT.quirks,
+            is_json,
+            is_painted: false,
+            is_alone: true,
+            is_covering: false,
+        }
+    }
+
     fn check_each<'a, F: FileAccess, I: Read, O: Write, W: Watcher>(
         self,
         alloc: Global,
@@ -128,14 +143,7 @@ impl Checker {
         let bytes = read_source(alloc, files, name, input)?;
         match Source::open(alloc, &bytes) {
             Ok(source) => {
-                let ended = self.print_found(
-                    alloc,
-                    name.as_bytes(),
-                    &bytes,
-                    &source,
-                    output,
-                    watcher,
-                );
+                let ended = self.print_found(alloc, name.as_bytes(), &source, output, watcher);
                 // A source goes before the next one is read.
                 drop(source);
                 ended
@@ -144,42 +152,39 @@ impl Checker {
         }
     }
 
-    // Prints what is found in a source that was opened from these bytes.
+    // Prints what is found in a source.
     fn print_found<'a, O: Write, W: Watcher>(
         self,
         alloc: Global,
         name: &[u8],
-        bytes: &[u8],
         source: &Source,
         output: &mut Counted<O>,
         watcher: &mut W,
     ) -> Result<Ending, Failure<'a>>
-        requires { source.now.lines ≡ lines_of bytes.now }
         ensures { PrintsSuch O.contents output.old output.new
             (IsPrintedCheck self.is_json self.is_painted name.now source.now.lines) result }
     {
-        let warnings = self.warnings(alloc, bytes, source, watcher)?;
-        let text = self.text_of(alloc, name, bytes, source, &warnings)?;
+        let warnings = self.warnings(alloc, source, watcher)?;
+        let text = self.text_of(alloc, name, source, &warnings)?;
         match source.image() {
             Some(_) => print(&text, Ending::Done, output),
             None => print(&text, Ending::Faulty, output),
         }
     }
 
-    // The warnings of a source that was opened from these bytes.
+    // The warnings of a source.
     fn warnings<W: Watcher>(
         self,
         alloc: Global,
-        bytes: &[u8],
         source: &Source,
         watcher: &mut W,
     ) -> Result<Vec<Warning>, AllocError> {
         match self.covered(alloc, source, watcher)? {
             Some(covered) => {
                 let coverage = Some(covered.coverage());
-                warnings(alloc, bytes, source, self.profile, self.allowed, coverage)
+                warnings(alloc, source, self.quirks, self.allowed, coverage)
             }
-            None => warnings(alloc, bytes, source, self.profile, self.allowed, None),
+            None => warnings(alloc, source, self.quirks, self.allowed, None),
         }
     }
 
@@ -190,7 +195,7 @@ impl Checker {
         source: &Source,
         watcher: &mut W,
     ) -> Result<Option<Covered>, AllocError>
-        ensures { IfOk result (IsCovered self.is_covering self.profile
+        ensures { IfOk result (IsCovered self.is_covering self.quirks
             (image_of source.now.lines)) }
     {
         if !self.is_covering {
@@ -199,31 +204,29 @@ impl Checker {
         let Some(image) = source.image() else {
             return Ok(None);
         };
-        Ok(Some(Covered::of(alloc, image, self.profile, watcher)?))
+        Ok(Some(Covered::of(alloc, image, self.quirks, watcher)?))
     }
 
     // What is printed of a source and its warnings.
-    fn text_of(
+    pub(crate) fn text_of(
         self,
         alloc: Global,
         name: &[u8],
-        bytes: &[u8],
         source: &Source,
         warnings: &[Warning],
     ) -> Result<Vec<u8>, AllocError>
-        requires { source.now.lines ≡ lines_of bytes.now }
         ensures { IfOk result (λ text. IsCheckText self.is_json self.is_painted name.now
             source.now.lines text.items) }
     {
         if self.is_json {
-            check_json(alloc, name, bytes, source, warnings)
+            check_json(alloc, name, source, warnings)
         } else {
-            check_text(alloc, self.is_painted, name, bytes, source, warnings)
+            check_text(alloc, self.is_painted, name, source, warnings)
         }
     }
 
     // Prints why a source doesn't open.
-    fn refuse<'a, O: Write>(
+    pub(crate) fn refuse<'a, O: Write>(
         self,
         alloc: Global,
         name: &[u8],

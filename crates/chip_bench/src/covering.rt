@@ -11,7 +11,7 @@ use chip_arguments::{SettingArguments, USUAL_STATES};
 use chip_explore::{
     Bounds, Causes, END, Executed, Explored, Outcome, Question, Target, Ticks, Watcher, explore,
 };
-use chip_machine::Profile;
+use chip_machine::Quirks;
 use chip_warnings::Coverage;
 use std::alloc::{AllocError, Global};
 
@@ -32,19 +32,20 @@ impl Covered {
     pub(crate) fn of<W: Watcher>(
         alloc: Global,
         image: &[u8],
-        profile: Profile,
+        quirks: Quirks,
         watcher: &mut W,
     ) -> Result<Covered, AllocError>
         ensures { IfOk result (λ covered. IsCoverage default_arguments.rate usual_keys covered.executed
-            (start_of image.now (0 ∷ []) profile) covered.within) }
+            (start_of image.now (0 ∷ []) quirks) covered.within) }
     {
-        let start = machine_of(alloc, image, USUAL_TAPE, profile)?;
+        let start = machine_of(alloc, image, USUAL_TAPE, quirks)?;
         let question = Question {
             rate: SettingArguments::DEFAULT.rate,
             allowed: ALL_KEYS,
             target: Target {
                 causes: Causes::none(),
                 address: None,
+                properties: &[],
             },
         };
         let bounds = Bounds {

@@ -31,6 +31,16 @@ impl fmt::Display for Code {
     }
 }
 
+/// Why a text states no property.
+#[derive(Debug, Drop)]
+pub(crate) struct Report(pub(crate) Vec<u8>);
+
+impl fmt::Display for Report {
+    fn fmt<W: fmt::Write>(&self, f: &mut fmt::Formatter<W>) -> fmt::Result {
+        f.write_str(str::from_utf8(&self.0).unwrap_or("?"))
+    }
+}
+
 /// Why a line of a file of cases can't be taken.
 #[derive(Clone, Copy, Debug, Error)]
 pub(crate) enum TestFault {
@@ -42,6 +52,8 @@ pub(crate) enum TestFault {
     Number,
     #[error("there is no such profile")]
     Profile,
+    #[error("these are no quirks with commas between them, each once")]
+    Quirks,
     #[error("a tape has 1 to 4096 bytes in hexadecimal, and goes without a seed")]
     Tape,
 }
@@ -65,6 +77,12 @@ pub(crate) enum Failure<'a> {
     /// The source has no such place.
     #[error("chipbench: --reach takes a label of the source or an address such as #2A0, not {0}\n")]
     BadPlace(&'a str),
+    /// The text states no property.
+    #[error("{0}")]
+    BadProperty(Report),
+    /// The line of that number states no property.
+    #[error("chipbench: no property in line {0}\n")]
+    NoProperty(u32),
     /// The line of that number of a key file is refused.
     #[error("chipbench: keys {0} line {1}: {2}\n")]
     BadKeys(&'a str, usize, Code),
@@ -119,6 +137,8 @@ impl<'a> Failure<'a> {
             | Failure::BadPlayerKeys(_)
             | Failure::BadWarnings(_)
             | Failure::BadPlace(_)
+            | Failure::BadProperty(_)
+            | Failure::NoProperty(_)
             | Failure::BadKeys(_, _, _)
             | Failure::BadTrace(_, _)
             | Failure::NoPage(_) => 2,

@@ -8,7 +8,7 @@ ghost use Rattle.chip_session.specs.Settings.{default_settings};
 ghost use Rattle.chip_bench.specs.Running.{AnswersScript, RunsSession, status_of, failure_status, AreFaulty, IsWithoutArguments};
 ghost use Rattle.chip_bench.specs.inner.Reads.{IsUsage};
 ghost use Rattle.chip_bench.specs.inner.Written.{IsImageWritten};
-ghost use Rattle.chip_bench.specs.Doing.{Assembles, Debugs, Disassembles, Does, Ends, IsFileWritten, Performs, PrintsText, Runs, ShowsHelp, ShowsVersion, Tells, Traces, TracesAlone, TracesBeside, first_shown, form_of};
+ghost use Rattle.chip_bench.specs.Doing.{Assembles, Debugs, Disassembles, Does, Ends, IsFileWritten, Performs, PrintsText, Proves, Runs, ShowsHelp, ShowsVersion, Tells, Traces, TracesAlone, TracesBeside, first_shown, form_of};
 ghost use Rattle.chip_arguments.specs.CommandArguments.{argument_faults};
 ghost use Rattle.std.specs.Io.KnownBytes.{Keeps};
 ghost use Rattle.std.specs.IoError.{error_kind};
@@ -23,6 +23,8 @@ use crate::output::{
     run_source,
 };
 use crate::picturing::picture;
+use crate::progress::{Progress, Timed};
+use crate::proving::prove;
 use crate::reading::{
     Asked, MOST_SOURCE, as_source, file_name, read_asked, read_bounded, read_file, read_source,
     settings_of,
@@ -31,7 +33,8 @@ use crate::terminal::{Begun, answer_begun};
 use crate::testing::test_files;
 use crate::tracing::{Shown, compare_source, trace_source};
 use chip_arguments::{
-    CommandLine, RunArguments, SettingArguments, TraceArguments, not_text, parse_arguments,
+    CommandLine, ProveArguments, RunArguments, SettingArguments, TraceArguments, not_text,
+    parse_arguments,
 };
 use chip_files::first_line;
 use chip_machine::limits::IMAGE_BYTES;
@@ -41,7 +44,7 @@ use clap::error::ErrorKind;
 use std::alloc::Global;
 use std::convert::AsStr;
 use std::io::{Read, Write};
-use std::rt::Files;
+use std::rt::{Clock, Files};
 use std::{io, mem};
 
 /// What the program is told of the system that it runs on.
@@ -73,7 +76,7 @@ impl Host {
 ///
 /// Without arguments it carries out the script that `input` gives, on the empty source, and writes
 /// the answers to `output`. What hinders it is said on `errors`; a failure there is ignored.
-pub fn program<F: Files, S: AsStr, I: Read, O: Write, E: Write>(
+pub fn program<F: Files + Clock, S: AsStr, I: Read, O: Write, E: Write>(
     alloc: Global,
     files: &F,
     host: Host,
@@ -142,7 +145,7 @@ fn report<E: Write>(failure: Failure<'_>, errors: &mut E) -> u8
     failure.status()
 }
 
-fn carry_out<'a, F: FileAccess, S: AsStr, I: Read, O: Write, E: Write>(
+fn carry_out<'a, F: FileAccess + Clock, S: AsStr, I: Read, O: Write, E: Write>(
     alloc: Global,
     files: &F,
     host: Host,
@@ -178,7 +181,7 @@ fn carry_out<'a, F: FileAccess, S: AsStr, I: Read, O: Write, E: Write>(
 
 // The arguments are looked at behind a reference, since the arms would else each let go of what
 // they took.
-fn perform<'a, F: FileAccess, I: Read, O: Write, E: Write>(
+fn perform<'a, F: FileAccess + Clock, I: Read, O: Write, E: Write>(
     alloc: Global,
     files: &F,
     host: Host,
@@ -231,8 +234,40 @@ fn perform<'a, F: FileAccess, I: Read, O: Write, E: Write>(
                 errors,
             )
         }
+        CommandLine::Prove(arguments) => {
+            prove_in_time(
+                alloc,
+                files,
+                host.has_reader,
+                arguments,
+                input,
+                output,
+                errors,
+            )
+        }
         CommandLine::Explain { code } => explain(alloc, *code, output),
     }
+}
+
+// `prove`, with its progress, up to the time that the arguments give.
+fn prove_in_time<'a, F: FileAccess + Clock, I: Read, O: Write, E: Write>(
+    alloc: Global,
+    files: &F,
+    has_reader: bool,
+    arguments: &ProveArguments<'a>,
+    input: &mut Counted<I>,
+    output: &mut Counted<O>,
+    errors: &mut E,
+) -> Result<Ending, Failure<'a>>
+    ensures { Proves I.remaining O.contents input.old input.new output.old output.new
+        arguments.entry.now result }
+{
+    let progress = Progress {
+        errors,
+        is_shown: has_reader || arguments.search.is_progress_shown,
+    };
+    let mut timed = Timed::new(progress, files, arguments.seconds);
+    prove(alloc, files, arguments, input, output, &mut timed)
 }
 
 // Prints help or the version, of which only the version's text is known to contracts.

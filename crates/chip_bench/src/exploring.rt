@@ -1,27 +1,32 @@
 //! `explore`: what a search over all key scripts answers of a source's image.
-ghost use Rattle.std.specs.Prelude.{◌≡◌, ◌⊎◌, ◌<◌, ◌++◌, ℕ, List, Ok, IfOk, IfErr, MatchOption, OnOk, option_copied};
+ghost use Rattle.std.specs.Prelude.{◌≡◌, ◌⊎◌, ◌<◌, ◌∷◌, [], ◌++◌, ℕ, List, Ok, IfOk, IfErr, MatchOption, OnOk, option_copied};
+ghost use Rattle.std.specs.Borrow.{Bor};
 ghost use Rattle.chip_asm.specs.Program.{image_of, symbols_of};
+ghost use Rattle.chip_explore.specs.declared.property.Property.{Property as Wanted};
 ghost use Rattle.chip_machine.specs.Start.{start_of};
-ghost use Rattle.chip_bench.specs.Doing.{Explores, Fails, IsBadPlace, IsScriptUnwritten, IsShort, Searches, SearchesFrom, image_in};
+ghost use Rattle.chip_bench.specs.Doing.{Explores, Fails, IsBadPlace, IsBadProperty, IsScriptUnwritten, Searches, SearchesFrom, image_in};
 ghost use Rattle.chip_bench.specs.inner.Written.{IsNamedWritten, IsScriptWritten};
 ghost use Rattle.chip_bench.specs.Printing.{Prints, printed_faults};
-ghost use Rattle.chip_bench.specs.Exploring.{address_of, answer_lines, cause_word, covering_text, first_lines, in_memory, met_word, number_line, search_ending, target_asked};
+ghost use Rattle.chip_bench.specs.Exploring.{AsksProperty, StatesOne, address_of, answer_lines, cause_word, covering_text, first_lines, in_memory, met_line, met_word, number_line, search_ending, target_asked};
 
-use crate::ending::{Ending, Failure};
+use crate::ending::{Ending, Failure, Report};
 use crate::entry::write_image;
 use crate::file_access::FileAccess;
 use crate::output::{print, print_faults, refuse_source};
-use crate::progress::Progress;
+use crate::progress::{Progress, Teller};
 use crate::reading::{file_name, read_given, settings_of};
 use crate::sets::{Sets, sets_of};
-use chip_arguments::ExploreArguments;
+use crate::stop_place::place_text;
+use chip_arguments::{ExploreArguments, SearchArguments};
 use chip_asm::Source;
+use chip_check::push_property_fault;
 use chip_cover::marked_listing;
 use chip_explore::{
-    Bounds, Causes, END, Explored, KeyEvent, Met, Outcome, Question, STOPS, Target, Ticks, Watcher,
+    Bounds, Causes, END, Explored, KeyEvent, Met, Outcome, Property, Question, STOPS, Target, Ticks,
 };
 use chip_machine::limits::MEMORY_BYTES;
-use chip_machine::{Machine, Profile, Stop};
+use chip_machine::{Machine, Quirks, Stop};
+use chip_properties::{Kind, property_of_text};
 use chip_session::{Counted, Settings, number_of};
 use chip_trace::push_decimal;
 use std::alloc::{AllocError, Global};
@@ -42,19 +47,19 @@ pub(crate) fn explore<'a, F: FileAccess, I: Read, O: Write, E: Write>(
     ensures { Explores I.remaining O.contents input.old input.new output.old output.new
         arguments.entry.now result }
 {
-    let settings = settings_of(alloc, &arguments.settings)?;
+    let settings = settings_of(alloc, &arguments.search.settings)?;
     let sets = sets_of(arguments)?;
     let source = read_given(
         alloc,
         files,
-        arguments.source,
+        arguments.search.source,
         arguments.is_image,
         input,
         errors,
     )?;
     let mut progress = Progress {
         errors,
-        is_shown: has_reader || arguments.is_progress_shown,
+        is_shown: has_reader || arguments.search.is_progress_shown,
     };
     search_source(
         alloc,
@@ -68,7 +73,7 @@ pub(crate) fn explore<'a, F: FileAccess, I: Read, O: Write, E: Write>(
     )
 }
 
-fn search_source<'a, F: FileAccess, O: Write, W: Watcher>(
+fn search_source<'a, F: FileAccess, O: Write, T: Teller>(
     alloc: Global,
     files: &F,
     arguments: &ExploreArguments<'a>,
@@ -76,7 +81,7 @@ fn search_source<'a, F: FileAccess, O: Write, W: Watcher>(
     settings: &Settings,
     sets: Sets,
     output: &mut Counted<O>,
-    watcher: &mut W,
+    teller: &mut T,
 ) -> Result<Ending, Failure<'a>>
     ensures { Searches O.contents output.old output.new arguments.entry.now settings.now sets.causes
         sets.keys (image_in source.items) source.items result }
@@ -84,7 +89,7 @@ fn search_source<'a, F: FileAccess, O: Write, W: Watcher>(
     match Source::open_bytes(alloc, source) {
         Ok(opened) => {
             let ended = search_opened(
-                alloc, files, arguments, &opened, settings, sets, output, watcher,
+                alloc, files, arguments, &opened, settings, sets, output, teller,
             );
             // The program ends here, and its memory goes back at once.
             mem::forget(opened);
@@ -94,7 +99,7 @@ fn search_source<'a, F: FileAccess, O: Write, W: Watcher>(
     }
 }
 
-fn search_opened<'a, F: FileAccess, O: Write, W: Watcher>(
+fn search_opened<'a, F: FileAccess, O: Write, T: Teller>(
     alloc: Global,
     files: &F,
     arguments: &ExploreArguments<'a>,
@@ -102,31 +107,34 @@ fn search_opened<'a, F: FileAccess, O: Write, W: Watcher>(
     settings: &Settings,
     sets: Sets,
     output: &mut Counted<O>,
-    watcher: &mut W,
+    teller: &mut T,
 ) -> Result<Ending, Failure<'a>>
     ensures { MatchOption (image_of source.now.lines)
         (Prints O.contents output.old output.new (printed_faults source.now.lines) result)
-        (λ image. MatchOption (target_asked sets.causes (option_copied arguments.entry.now.place)
+        (λ image. ((properties : Bor (List Wanted))
+        × AsksProperty arguments.entry.now source.now.lines properties.now
+        × MatchOption (target_asked sets.causes (option_copied arguments.entry.now.place) properties
         (symbols_of source.now.lines)) (Fails O.contents output.old output.new IsBadPlace result)
         (λ target. SearchesFrom O.contents output.old output.new arguments.entry.now source.now.lines
         settings.now.rate sets.keys target
-        (start_of image settings.now.tape settings.now.profile) result)
-        ⊎ Fails O.contents output.old output.new IsShort result) }
+        (start_of image settings.now.tape settings.now.quirks) result))
+        ⊎ Fails O.contents output.old output.new IsBadProperty result) }
 {
     let Some(image) = source.image() else {
         return print_faults(alloc, source, output);
     };
-    let Some(target) = target_of(arguments, sets.causes, source) else {
+    let properties = properties_asked(alloc, arguments, source)?;
+    let Some(target) = target_of(arguments, sets.causes, source, &properties) else {
         return Err(Failure::BadPlace(arguments.place.unwrap_or("")));
     };
-    let start = machine_of(alloc, image, settings.tape(), settings.profile())?;
+    let start = machine_of(alloc, image, settings.tape(), settings.quirks())?;
     let question = Question {
         rate: settings.rate(),
         allowed: sets.keys,
         target,
     };
     search(
-        alloc, files, arguments, source, &start, &question, output, watcher,
+        alloc, files, arguments, source, &start, &question, output, teller,
     )
 }
 
@@ -136,26 +144,82 @@ pub(crate) fn machine_of(
     alloc: Global,
     image: &[u8],
     tape: &[u8],
-    profile: Profile,
+    quirks: Quirks,
 ) -> Result<Machine, AllocError>
-    ensures { IfOk result (λ start. start ≡ start_of image.now tape.now profile) }
+    ensures { IfOk result (λ start. start ≡ start_of image.now tape.now quirks) }
 {
-    match Machine::start(alloc, image, tape, profile) {
+    match Machine::start(alloc, image, tape, quirks) {
         Ok(start) => Ok(start),
         Err(_) => Err(AllocError),
     }
 }
 
+// The property that a search looks for, if there is one.
+fn properties_asked<'a>(
+    alloc: Global,
+    arguments: &ExploreArguments<'a>,
+    source: &Source,
+) -> Result<Vec<Property>, Failure<'a>>
+    ensures ok { IfOk result (λ properties. AsksProperty arguments.entry.now source.now.lines
+        properties.items) }
+    ensures err { IfErr result IsBadProperty }
+{
+    match (arguments.never, arguments.always) {
+        (Some(text), _) => one_property(alloc, b"--never", text, Kind::Never, source),
+        (None, Some(text)) => one_property(alloc, b"--always", text, Kind::Always, source),
+        (None, None) => Ok(Vec::new(alloc)),
+    }
+}
+
+// The property of a kind that the text of an option states.
+fn one_property<'a>(
+    alloc: Global,
+    option: &[u8],
+    text: &str,
+    kind: Kind,
+    source: &Source,
+) -> Result<Vec<Property>, Failure<'a>>
+    ensures ok { IfOk result (λ properties. StatesOne kind text.now source.now.lines
+        properties.items) }
+    ensures err { IfErr result IsBadProperty }
+{
+    match property_of_text(alloc, text.as_bytes(), kind, source)? {
+        Ok(stated) => Ok(alone(alloc, stated.property)?),
+        Err(fault) => {
+            let mut report = Vec::new(alloc);
+            push_property_fault(alloc, &mut report, false, option, text.as_bytes(), &fault)?;
+            Err(Failure::BadProperty(Report(report)))
+        }
+    }
+}
+
+fn alone(alloc: Global, property: Property) -> Result<Vec<Property>, AllocError>
+    ensures { IfOk result (λ properties. properties.items ≡ property ∷ []) }
+{
+    let mut properties = Vec::new(alloc);
+    properties.push(property)?;
+    Ok(properties)
+}
+
 // What a search looks for, if the source has the place.
-fn target_of(arguments: &ExploreArguments<'_>, causes: Causes, source: &Source) -> Option<Target>
-    ensures { result ≡ target_asked causes (option_copied arguments.now.place)
+fn target_of<'p>(
+    arguments: &ExploreArguments<'_>,
+    causes: Causes,
+    source: &Source,
+    properties: &'p [Property],
+) -> Option<Target<'p>>
+    ensures { result ≡ target_asked causes (option_copied arguments.now.place) properties.entry
         (symbols_of source.now.lines) }
 {
     let address = match arguments.place {
         Some(place) => Some(address_of(place.as_bytes(), source)?),
         None => None,
     };
-    Some(Target { causes, address })
+    Some(Target {
+        causes,
+        address,
+        properties,
+    })
 }
 
 // The address of a place: the number that it spells, or else the value of the name.
@@ -179,15 +243,15 @@ fn in_memory(number: i64) -> Option<u16>
     }
 }
 
-fn search<'a, F: FileAccess, O: Write, W: Watcher>(
+fn search<'a, F: FileAccess, O: Write, T: Teller>(
     alloc: Global,
     files: &F,
     arguments: &ExploreArguments<'a>,
     source: &Source,
     start: &Machine,
-    question: &Question,
+    question: &Question<'_>,
     output: &mut Counted<O>,
-    watcher: &mut W,
+    teller: &mut T,
 ) -> Result<Ending, Failure<'a>>
     requires rate { 0 < question.now.rate }
     requires fresh { start.now.core.draws ≡ 0 }
@@ -195,27 +259,31 @@ fn search<'a, F: FileAccess, O: Write, W: Watcher>(
         source.now.lines question.now.rate question.now.allowed question.now.target start.now result }
     // Where a script was found, the program ends so.
     ensures written { result ≡ Ok Ending.Faulty
-        → IsNamedWritten (F.wrote files.now) arguments.entry.now.keys_to }
+        → IsNamedWritten (F.wrote files.now) arguments.entry.now.search.keys_to }
 {
-    let bounds = Bounds {
+    let bounds = bounds_of(&arguments.search, ticks_of(arguments));
+    let explored = chip_explore::explore(alloc, start, question, &bounds, teller);
+    let place = if arguments.is_image {
+        Vec::new(alloc)
+    } else {
+        place_text(alloc, source, start, question.rate, &explored.outcome)?
+    };
+    let text = search_text(alloc, arguments, source, &explored, &place)?;
+    write_script(alloc, files, arguments, &explored.outcome, teller)?;
+    print(&text, search_ending(&explored), output)
+}
+
+/// How far a search goes.
+pub(crate) fn bounds_of(arguments: &SearchArguments<'_>, ticks: Ticks) -> Bounds {
+    Bounds {
         steps: match arguments.steps {
             Some(steps) => u64::from(steps) + 1,
             None => END,
         },
         states: arguments.states as usize,
         is_deep: arguments.is_deep,
-        ticks: ticks_of(arguments),
-    };
-    let explored = chip_explore::explore(alloc, start, question, &bounds, watcher);
-    let text = search_text(
-        alloc,
-        arguments.is_covering,
-        arguments.is_any_speed,
-        source,
-        &explored,
-    )?;
-    write_script(alloc, files, arguments, &explored.outcome)?;
-    print(&text, search_ending(&explored), output)
+        ticks,
+    }
 }
 
 // How a search takes the ticks. Where the listing is asked for they are at the rate alone, so that
@@ -223,7 +291,7 @@ fn search<'a, F: FileAccess, O: Write, W: Watcher>(
 fn ticks_of(arguments: &ExploreArguments<'_>) -> Ticks {
     if arguments.is_covering {
         Ticks::AtRate
-    } else if arguments.is_any_speed {
+    } else if arguments.search.is_any_speed {
         Ticks::FreeWithAll
     } else {
         Ticks::Free
@@ -231,28 +299,32 @@ fn ticks_of(arguments: &ExploreArguments<'_>) -> Ticks {
 }
 
 // Writes the key events of the script that was found, where there is a file for them.
-fn write_script<'a, F: FileAccess>(
+fn write_script<'a, F: FileAccess, T: Teller>(
     alloc: Global,
     files: &F,
     arguments: &ExploreArguments<'a>,
     outcome: &Outcome,
+    teller: &mut T,
 ) -> Result<Ending, Failure<'a>>
     ensures ok { OnOk result (IsScriptWritten (F.wrote files.now) outcome.now
-        arguments.entry.now.keys_to) }
-    ensures err { IfErr result (IsScriptUnwritten arguments.entry.now.keys_to) }
+        arguments.entry.now.search.keys_to) }
+    ensures err { IfErr result (IsScriptUnwritten arguments.entry.now.search.keys_to) }
 {
     let (Outcome::Found { events, .. } | Outcome::Later { events, .. }) = outcome else {
         return Ok(Ending::Done);
     };
-    let Some(name) = arguments.keys_to else {
+    let Some(name) = arguments.search.keys_to else {
         return Ok(Ending::Done);
     };
     let text = script_text(alloc, events)?;
-    write_image(alloc, files, &[file_name(arguments.source)], name, &text)
+    let taken = [file_name(arguments.search.source)];
+    let ending = write_image(alloc, files, &taken, name, &text)?;
+    teller.tell_written(name);
+    Ok(ending)
 }
 
-// Key events as lines of a key file.
-fn script_text(alloc: Global, events: &[KeyEvent]) -> Result<Vec<u8>, AllocError> {
+/// Key events as lines of a key file.
+pub(crate) fn script_text(alloc: Global, events: &[KeyEvent]) -> Result<Vec<u8>, AllocError> {
     let mut text = Vec::new(alloc);
     for event in events {
         push_decimal(&mut text, u64::from(event.step))?;
@@ -266,21 +338,20 @@ fn script_text(alloc: Global, events: &[KeyEvent]) -> Result<Vec<u8>, AllocError
 // What is printed of what a search found.
 fn search_text(
     alloc: Global,
-    is_covering: bool,
-    is_any_speed: bool,
+    arguments: &ExploreArguments<'_>,
     source: &Source,
     explored: &Explored,
+    place: &[u8],
 ) -> Result<Vec<u8>, AllocError>
     ensures { IfOk result (λ text. (others : List ℕ) × (text.items
-        ≡ answer_lines is_any_speed explored.now ++ others
-        ++ covering_text is_covering explored.now.executed source.now.lines)) }
+        ≡ answer_lines arguments.now.search.is_any_speed place.now explored.now ++ others
+        ++ covering_text arguments.now.is_covering explored.now.executed source.now.lines)) }
 {
     let mut text = Vec::new(alloc);
-    push_answer(&mut text, is_any_speed, explored)?;
+    push_answer(&mut text, arguments.search.is_any_speed, explored, place)?;
     text.extend_from_slice(&lines_below(alloc, explored)?)?;
-    if is_covering {
-        let listing = source.listing(alloc)?;
-        text.extend_from_slice(&marked_listing(alloc, &listing, &explored.executed)?)?;
+    if arguments.is_covering {
+        text.extend_from_slice(&marked_listing(alloc, source, &explored.executed)?)?;
     }
     Ok(text)
 }
@@ -301,24 +372,26 @@ fn push_answer(
     text: &mut Vec<u8>,
     is_any_speed: bool,
     explored: &Explored,
+    place: &[u8],
 ) -> Result<(), AllocError>
     ensures { OnOk result (text.new.items
-        ≡ text.old.items ++ answer_lines is_any_speed explored.now) }
+        ≡ text.old.items ++ answer_lines is_any_speed place.now explored.now) }
 {
     if is_any_speed && explored.is_at_any_speed {
         text.extend_from_slice(b"never at any speed\n")
     } else {
-        push_first_lines(text, &explored.outcome)
+        push_first_lines(text, &explored.outcome, place)
     }
 }
 
 // What is printed first of what a search found.
-fn push_first_lines(text: &mut Vec<u8>, outcome: &Outcome) -> Result<(), AllocError>
-    ensures { OnOk result (text.new.items ≡ text.old.items ++ first_lines outcome.now) }
+fn push_first_lines(text: &mut Vec<u8>, outcome: &Outcome, place: &[u8]) -> Result<(), AllocError>
+    ensures { OnOk result (text.new.items
+        ≡ text.old.items ++ first_lines place.now outcome.now) }
 {
     match outcome {
         Outcome::Found { events, step, met } => {
-            push_met(text, *met, u64::from(*step))?;
+            push_met(text, *met, *step, place)?;
             push_line(text, b"keys ", events.len() as u64)
         }
         Outcome::Later {
@@ -327,7 +400,7 @@ fn push_first_lines(text: &mut Vec<u8>, outcome: &Outcome) -> Result<(), AllocEr
             met,
             covered,
         } => {
-            push_met(text, *met, u64::from(*step))?;
+            push_met(text, *met, *step, place)?;
             push_line(text, b"keys ", events.len() as u64)?;
             push_line(text, b"within ", *covered)
         }
@@ -336,13 +409,19 @@ fn push_first_lines(text: &mut Vec<u8>, outcome: &Outcome) -> Result<(), AllocEr
     }
 }
 
-fn push_met(text: &mut Vec<u8>, met: Met, step: u64) -> Result<(), AllocError>
-    ensures { OnOk result (text.new.items ≡ text.old.items ++ number_line (met_word met) step) }
+// What was met, the step, and the place of the source.
+fn push_met(text: &mut Vec<u8>, met: Met, step: u32, place: &[u8]) -> Result<(), AllocError>
+    ensures { OnOk result (text.new.items
+        ≡ text.old.items ++ met_line (met_word met) step place.now) }
 {
     match met {
-        Met::Cause(cause) => push_line(text, &cause_word(cause), step),
-        Met::Address => push_line(text, b"reached ", step),
+        Met::Cause(cause) => text.extend_from_slice(&cause_word(cause))?,
+        Met::Address => text.extend_from_slice(b"reached ")?,
+        Met::Property(_) => text.extend_from_slice(b"broken ")?,
     }
+    push_decimal(text, u64::from(step))?;
+    text.extend_from_slice(place)?;
+    text.extend_from_slice(b"\n")
 }
 
 // The other causes that a search met, and how many states it kept.

@@ -1,6 +1,7 @@
 //! The program over a session: what each command reads and prints, and how the program ends.
 #![tactic(auto)]
 
+mod answer;
 mod case_report;
 mod case_run;
 mod case_setup;
@@ -16,15 +17,17 @@ pub mod limits;
 mod output;
 mod picturing;
 mod progress;
+mod proving;
 mod reading;
 mod sets;
+mod stop_place;
 mod terminal;
 mod testing;
 mod tracing;
 
 pub use chip_arguments::{
-    CommandLine, ExploreArguments, PictureArguments, RunArguments, SettingArguments, TestArguments,
-    TraceArguments, parse_arguments,
+    CommandLine, ExploreArguments, PictureArguments, ProveArguments, RunArguments, SearchArguments,
+    SettingArguments, TestArguments, TraceArguments, parse_arguments,
 };
 pub use chip_session::{
     Bench, Change, Command, CommandFault, Counted, Letters, OpenError, PictureForm, Question,

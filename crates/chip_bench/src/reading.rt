@@ -47,7 +47,7 @@ pub(crate) fn settings_of<'a>(
         ⊎ ((failure ≡ Failure.BadTape) × (settings_asked arguments.now ≡ None))) }
 {
     let tape = tape_bytes(alloc, arguments)?;
-    let settings = Settings::new(alloc, arguments.rate, &tape)?.with_profile(arguments.profile);
+    let settings = Settings::new(alloc, arguments.rate, &tape)?.with_quirks(arguments.quirks);
     Ok(settings.with_spacing(arguments.spacing)?)
 }
 

@@ -1,7 +1,7 @@
 //! Sets that arguments ask for: stop causes, keys and warnings.
 ghost use Rattle.std.specs.Prelude.{◌≡◌, ◌<◌, Some, None, IfOk, IfErr, IfSome, option_copied};
 ghost use Rattle.chip_bench.specs.Doing.{IsBadSet};
-ghost use Rattle.chip_bench.specs.Exploring.{AsksCauses, AsksKeys, AsksSet, IsFirstPart, IsSet, warning_named, with_number};
+ghost use Rattle.chip_bench.specs.Exploring.{AsksCauses, AsksKeys, AsksSet, IsFirstPart, IsSet, key_named, usual_keys, warning_named, with_number};
 ghost use Rattle.chip_bench.specs.inner.Sets.{IsBadSets, number_by};
 
 use crate::ending::Failure;
@@ -81,29 +81,45 @@ pub(crate) struct Sets {
     pub(crate) keys: u16,
 }
 
-/// The sets that the arguments ask for. Where a place is looked for, no stop is unless they name
-/// some.
+/// The sets that the arguments ask for. Where a place or a property is looked for, no stop is unless they
+/// name some.
 pub(crate) fn sets_of<'a>(arguments: &ExploreArguments<'a>) -> Result<Sets, Failure<'a>>
     ensures ok { IfOk result (λ sets. AsksCauses arguments.entry.now (Some sets.causes)
         × AsksKeys arguments.entry.now (Some sets.keys)) }
     ensures err { IfErr result (IsBadSets arguments.entry.now) }
 {
-    let usual = match arguments.place {
-        Some(_) => Causes::none(),
-        None => Causes::faults(),
+    let usual = match (arguments.place, arguments.never, arguments.always) {
+        (None, None, None) => Causes::faults(),
+        _ => Causes::none(),
     };
     let causes = match arguments.causes {
         Some(text) => set_of(Item::Cause, text.as_bytes()).map(Causes::of_mask),
         None => Some(usual),
     };
-    let keys = match arguments.allowed_keys {
+    let keys = match arguments.search.allowed_keys {
         Some(text) => set_of(Item::Key, text.as_bytes()),
         None => Some(ALL_KEYS),
     };
     match (causes, keys) {
         (Some(causes), Some(keys)) => Ok(Sets { causes, keys }),
         (None, _) => Err(Failure::BadCauses(arguments.causes.unwrap_or(""))),
-        (Some(_), None) => Err(Failure::BadPlayerKeys(arguments.allowed_keys.unwrap_or(""))),
+        (Some(_), None) => Err(Failure::BadPlayerKeys(arguments.search.allowed_keys.unwrap_or(""))),
+    }
+}
+
+/// The keys that a player has, key k at bit k: all sixteen without an argument.
+pub(crate) fn keys_of<'a>(text: Option<&'a str>) -> Result<u16, Failure<'a>>
+    ensures ok { IfOk result (λ set. AsksSet key_named usual_keys (option_copied text.entry)
+        (Some set)) }
+    ensures err { IfErr result (λ why. IsBadSet why
+        × AsksSet key_named usual_keys (option_copied text.entry) None) }
+{
+    let Some(text) = text else {
+        return Ok(ALL_KEYS);
+    };
+    match set_of(Item::Key, text.as_bytes()) {
+        Some(set) => Ok(set),
+        None => Err(Failure::BadPlayerKeys(text)),
     }
 }
 

@@ -7,11 +7,13 @@
 //!   and how many of them are not 0.
 //! - `fault N`, `faults`: the fault of a line, or all with their lines. `symbol NAME`, `symbols`: a
 //!   name's value and line, or all names with theirs. `listing`: the listing.
+//! - `line N`: the number, address and size of a line, whether it is active, its bytes, its value, the
+//!   value that it defines, its fault and its text.
 
 use crate::language::push_fault;
 use crate::output::{Refused, Reply};
 use crate::text::{line_bytes, number, split_word};
-use chip_asm::{OpenError, Refusal, Source, Symbol};
+use chip_asm::{LineView, OpenError, Refusal, Source, Symbol};
 use chip_lang::Fault;
 use std::alloc::{AllocError, Global};
 
@@ -82,12 +84,41 @@ pub(crate) fn answer(
         "symbols" => push_symbols(alloc, out, source)?,
         "listing" => out.characters(&source.listing(alloc)?),
         "lines" => out.show(&source.lines()),
+        "line" => push_line(out, source.line(number(rest)? as usize)),
         "parsed" => out.show(&source.work().parsed),
         "work" => push_work(out, source),
         "encoded" => out.show(&(source.work().encoded <= u64::from(number(rest)?))),
         _ => return Err(Refused::BadCommand),
     }
     Ok(())
+}
+
+fn push_line(out: &mut Reply, line: Option<LineView<'_>>) {
+    let Some(line) = line else {
+        out.text("none");
+        return;
+    };
+    out.numbers(&[
+        line.number() as u64,
+        line.address() as u64,
+        line.size() as u64,
+    ]);
+    out.text(if line.is_active() {
+        " active "
+    } else {
+        " skipped "
+    });
+    out.bytes(line.bytes());
+    out.text(" value ");
+    out.show(&line.value());
+    if let Some(value) = line.definition() {
+        out.text(" defines ");
+        out.show(&value);
+    }
+    out.text(" fault ");
+    push_found(out, line.fault());
+    out.text(": ");
+    out.characters(line.text());
 }
 
 fn push_work(out: &mut Reply, source: &Source) {

@@ -1,8 +1,9 @@
 //! Commands about a machine: what chip_machine does and answers. Numbers are hexadecimal, but those
 //! of steps, rows, places and counts.
 //!
-//! - `start PROFILE BYTES`: a machine with this image and the tape a5 5a. `start-zeros IMAGE TAPE`:
-//!   one with so many zeros as its image and as its tape. Both answer `ok` or the error.
+//! - `start MACHINE BYTES`: a machine with this image and the tape a5 5a. MACHINE is a profile, or one
+//!   and choices of quirks, with commas between them. `start-zeros IMAGE TAPE`: a machine with so
+//!   many zeros as its image and as its tape. Both answer `ok` or the error.
 //! - `run COUNT [KEYS]`: so many steps with these keys down, of which each tenth ticks. `step`,
 //!   `step-tick`: one step with no key down, after which `touches` and `touch-count` ask for the
 //!   addresses that it touched. `steps FROM COUNT KEYS`: so many steps at once, of which the first
@@ -20,7 +21,7 @@ use crate::state;
 use crate::text::{bytes_of_hex, hex_number, number, split_word};
 use chip_lang::number::Reg;
 use chip_machine::limits::MEMORY_BYTES;
-use chip_machine::{Forgotten, Machine, Profile, SameKeys, Touch};
+use chip_machine::{Forgotten, Machine, Profile, Quirks, SameKeys, Touch};
 use std::alloc::{AllocError, Global};
 use std::mem;
 
@@ -96,12 +97,12 @@ impl Machines {
     }
 
     fn start(&mut self, alloc: Global, out: &mut Reply, rest: &str) -> Result<(), Refused> {
-        let (profile, image) = split_word(rest);
-        let Some(profile) = Profile::from_name(profile) else {
+        let (machine, image) = split_word(rest);
+        let Some(quirks) = quirks_named(machine) else {
             return Err(Refused::BadCommand);
         };
         let image = bytes_of_hex(alloc, image)?;
-        self.start_with(alloc, out, &image, &[0xa5, 0x5a], profile)?;
+        self.start_with(alloc, out, &image, &[0xa5, 0x5a], quirks)?;
         Ok(())
     }
 
@@ -109,7 +110,7 @@ impl Machines {
         let (image, tape) = split_word(rest);
         let image = vec![in alloc; 0; number(image)? as usize]?;
         let tape = vec![in alloc; 0; number(tape)? as usize]?;
-        self.start_with(alloc, out, &image, &tape, Profile::Schip)?;
+        self.start_with(alloc, out, &image, &tape, Profile::Schip.quirks())?;
         Ok(())
     }
 
@@ -119,9 +120,9 @@ impl Machines {
         out: &mut Reply,
         image: &[u8],
         tape: &[u8],
-        profile: Profile,
+        quirks: Quirks,
     ) -> Result<(), AllocError> {
-        match Machine::start(alloc, image, tape, profile) {
+        match Machine::start(alloc, image, tape, quirks) {
             Ok(machine) => {
                 self.machine = Some(Box::new(alloc, machine)?);
                 self.steps = 0;
@@ -287,5 +288,13 @@ fn push_parts(out: &mut Reply, parts: Forgotten) {
     if parts.has_screen() {
         out.text(blank);
         out.text("screen");
+    }
+}
+
+/// The quirks of a profile, but for the choices that follow its name.
+fn quirks_named(machine: &str) -> Option<Quirks> {
+    match machine.split_once(',') {
+        Some((name, list)) => Profile::from_name(name)?.quirks().with_choices(list),
+        None => Some(Profile::from_name(machine)?.quirks()),
     }
 }

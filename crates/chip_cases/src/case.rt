@@ -28,6 +28,7 @@ pub struct Setup<'a> {
     /// The name of the file of key events.
     pub keys: Option<Placed<'a>>,
     pub profile: Option<Placed<'a>>,
+    pub quirks: Option<Placed<'a>>,
     pub rate: Option<Placed<'a>>,
     pub tape: Option<Placed<'a>>,
     pub seed: Option<Placed<'a>>,
@@ -40,6 +41,7 @@ impl Setup<'static> {
         source: CaseSource::Empty,
         keys: None,
         profile: None,
+        quirks: None,
         rate: None,
         tape: None,
         seed: None,

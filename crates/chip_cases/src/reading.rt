@@ -151,6 +151,8 @@ fn with_line<'a>(setup: Setup<'a>, text: &'a [u8], line: usize) -> Result<Setup<
         with.keys = given;
     } else if word == b"profile".as_slice() {
         with.profile = given;
+    } else if word == b"quirks".as_slice() {
+        with.quirks = given;
     } else if word == b"rate".as_slice() {
         with.rate = given;
     } else if word == b"tape".as_slice() {

@@ -94,8 +94,9 @@ impl Finding {
             push_help(alloc, &mut hints, &[&warning.help])?;
         }
         let sentence = Vec::from_slice(alloc, &warning.sentence)?;
+        let letter = warning.code.letter();
         let warning_number = warning.code.number();
-        let code = format!(in alloc; "W{warning_number}")?.into_bytes();
+        let code = format!(in alloc; "{letter}{warning_number}")?.into_bytes();
         Ok(Finding {
             span: warning.span,
             code,

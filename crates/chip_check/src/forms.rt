@@ -1,8 +1,8 @@
 //! The forms of instructions and directives, as help shows them.
 
 use crate::hint::{Hint, push_help};
-use crate::near::{fewest_edits, most_edits};
 use crate::words::{is_one_of, is_register, is_special, is_word, split_operand, words_of};
+use chip_properties::near::{fewest_edits, most_edits};
 use std::alloc::{AllocError, Global};
 
 /// The instructions and directives with their forms: each is the word and its operands. `Vx` and

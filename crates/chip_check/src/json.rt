@@ -90,9 +90,13 @@ fn hint_prefix(kind: HintKind) -> &'static [u8]
     }
 }
 
-/// Adds some bytes as a string.
+/// Adds some bytes as a string: in it each sequence of bytes that is not UTF-8 is U+FFFD.
+///
+/// # Errors
+///
+/// Out of memory.
 #[tactic(auto, unfolding(crate::specs::Json::quoted))]
-fn push_quoted(alloc: Global, text: &mut Vec<u8>, bytes: &[u8]) -> Result<(), AllocError>
+pub fn push_quoted(alloc: Global, text: &mut Vec<u8>, bytes: &[u8]) -> Result<(), AllocError>
     ensures { OnOk result (text.new.items ≡ text.old.items ++ quoted bytes.now) }
 {
     let content = String::from_utf8_lossy(alloc, bytes)?;

@@ -5,11 +5,10 @@ ghost use Rattle.chip_asm.specs.Names.{lookup_name, values_of};
 ghost use Rattle.chip_asm.specs.Program.{symbols_of};
 ghost use Rattle.chip_check.specs.inner.Known.{Agree, listed};
 
-use crate::near::{fewest_edits, most_edits};
 use crate::words::{is_word, words_of};
 use chip_asm::{NameHasher, Source, Symbol};
-use chip_files::first_line;
 use chip_lang::{Bytes, Names};
+use chip_properties::near::{fewest_edits, most_edits};
 use indexmap::IndexMap;
 use std::alloc::{AllocError, Global};
 
@@ -49,14 +48,14 @@ impl Names for Known {
 }
 
 impl Known {
-    /// The names of a source that was opened from these bytes.
-    pub(crate) fn of(alloc: Global, bytes: &[u8], source: &Source) -> Result<Known, AllocError>
+    /// The names of a source.
+    pub(crate) fn of(alloc: Global, source: &Source) -> Result<Known, AllocError>
         ensures { IfOk result (λ known.
             Agree (listed known.symbols.entries) (symbols_of source.now.lines)) }
     {
         let listed = source.symbols(alloc)?;
         let symbols = by_name(alloc, &listed)?;
-        let lost = lost_names(alloc, bytes, source)?;
+        let lost = lost_names(alloc, source)?;
         Ok(Known { symbols, lost })
     }
 
@@ -139,20 +138,17 @@ fn add_last(
 }
 
 /// The names that begin the lines with a fault, in line order.
-fn lost_names(alloc: Global, bytes: &[u8], source: &Source) -> Result<Vec<Lost>, AllocError> {
+fn lost_names(alloc: Global, source: &Source) -> Result<Vec<Lost>, AllocError> {
     let mut lost = Vec::new(alloc);
     if source.image().is_some() {
         return Ok(lost);
     }
-    let mut number = 1usize;
-    let mut rest = bytes;
-    while !rest.is_empty() {
-        let (line, more) = first_line(rest);
-        if source.fault(number).is_some() {
-            push_front_name(alloc, &mut lost, number, line)?;
+    for place in 0..source.lines() {
+        if let Some(line) = source.line(place + 1)
+            && line.fault().is_some()
+        {
+            push_front_name(alloc, &mut lost, line.number(), line.text())?;
         }
-        number = number.saturating_add(1);
-        rest = more;
     }
     Ok(lost)
 }

@@ -9,15 +9,17 @@ mod forms;
 mod hint;
 mod json;
 mod known;
-mod near;
 mod operand_advice;
 mod other_assemblers;
 mod parts;
 mod place;
 mod printing;
+mod property;
 mod quoted;
 mod report;
 mod words;
 
 pub use check::{check_json, check_text, unopened_json};
+pub use json::push_quoted;
+pub use property::push_property_fault;
 pub use quoted::push_as_shown;

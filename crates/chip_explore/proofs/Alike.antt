@@ -1,5 +1,5 @@
 -- States that are alike in all but what is forgotten.
-use Rattle.std.proofs.Common.{◌≡◌, ◌==◌, ℕ, ◌≤◌, Bool, true, false, is_some, List, length, ap, sym, ◌∙◌, refl, arith}
+use Rattle.std.proofs.Common.{◌≡◌, ◌==◌, ℕ, Bool, true, false, is_some, List, length, ap, sym, ◌∙◌, refl, arith}
 use Rattle.std.proofs.lemmas.Nat.Bits.{bit_at-zero}
 use Rattle.chip_machine.specs.Forgotten.{has_part, register_part, index_part, screen_part}
 use Rattle.chip_machine.specs.Relevant.{Alike}

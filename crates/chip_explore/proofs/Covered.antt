@@ -14,8 +14,9 @@ use Rattle.chip_replay.specs.Run.{run}
 use Rattle.chip_explore.specs.Executed.{StaysAmong, is_among, is_at_one}
 use Rattle.chip_explore.specs.Scripts.{Avoids, IsScript}
 use Rattle.chip_explore.specs.Speeds.{AvoidsAtAnySpeed, run_ticking}
-use Rattle.chip_explore.specs.Target.{met_by, met_in}
-use Rattle.chip_explore.proofs.Alike.{alike_same, alike_through, alike_within, same_stop, through_member, ticks_same}
+use Rattle.chip_explore.specs.Target.{met_in}
+use Rattle.chip_explore.proofs.Asked.{met_same}
+use Rattle.chip_explore.proofs.Alike.{same_stop, through_member, ticks_same}
 use Rattle.chip_explore.proofs.Delays.{Delayed, alike_silent, delayed_step, read_step, ticked_step, timed_reads, within_bound, with_timers}
 use Rattle.chip_explore.specs.declared.setting.Setting.{Setting}
 use Rattle.chip_explore.specs.inner.Cover.{phase, tick_at, View, IsFine, forgotten_at, Joins, SafeFor, Safe, GoesBy, GoesTo, IsTaken}
@@ -129,9 +130,9 @@ module _ (alike : AlikeSteps) (grow : DrawsGrow) where
         (subst (λ (b : State). IsForgottenAfter f a b.core.pc after) same is_after))
 
   module _ (p : Setting) (v : View) where
-    fine_of : (moves f : ℕ) (a : State) (u : ℕ) → SafeFor p v moves f a u → u < v.limit → IsFine p v.executed a
+    fine_of : (moves f : ℕ) (a : State) (u : ℕ) → SafeFor p v moves f a u → u < v.limit → IsFine p v.executed f a
     fine_of zero f a u safe below =
-        ⊎_elim (λ (past : v.limit ≤ u). absurd (omega arith)) (λ (kept : IsFine p v.executed a × ((is_some a.core.stopped ≡ true) ⊎ Joins p v f a u)). kept.0) safe
+        ⊎_elim (λ (past : v.limit ≤ u). absurd (omega arith)) (λ (kept : IsFine p v.executed f a × ((is_some a.core.stopped ≡ true) ⊎ Joins p v f a u)). kept.0) safe
     fine_of (suc k) f a u safe below = safe.0.fine
 
     -- a state of a run is like one from which all is safe
@@ -192,7 +193,7 @@ module _ (alike : AlikeSteps) (grow : DrawsGrow) where
         next_by zero f a u early phased same safe =
             ⊎_elim
             (λ (past : v.limit ≤ u). absurd (omega arith))
-            (λ (kept : IsFine p v.executed a × ((is_some a.core.stopped ≡ true) ⊎ Joins p v f a u)).
+            (λ (kept : IsFine p v.executed f a × ((is_some a.core.stopped ≡ true) ⊎ Joins p v f a u)).
             ⊎_elim
             (λ (halted : is_some a.core.stopped ≡ true).
             let stopped = sym (same_stop f (with_delay same.delay a) s same.alike) ∙ halted in
@@ -244,8 +245,8 @@ module _ (alike : AlikeSteps) (grow : DrawsGrow) where
         avoided t within_n =
             let near = near_run t within_n in
             let early = near.early in
-            ap (λ (c : Core). met_by p.target c.stopped c.pc) (sym near.same.alike.others)
-            ∙ (fine_of near.moves near.forgotten near.state near.at near.safe (omega arith)).avoided
+            let fine = fine_of near.moves near.forgotten near.state near.at near.safe (omega arith) in
+            sym (met_same p near.forgotten near.state (run_ticking ticking held start t) near.same fine.known) ∙ fine.avoided
 
         noted : (t : ℕ) → t ≤ n → is_at_one v.executed (run_ticking ticking held start t) ≡ true
         noted t within_n =

@@ -6,16 +6,15 @@ use Rattle.std.specs.FinSet as set
 use Rattle.chip_lang.specs.Decoding.{decode_of}
 use Rattle.chip_lang.specs.declared.instr.Instr.{Instr}
 use Rattle.chip_lang.specs.declared.instr.Instr.TheVariants as row
-use Rattle.chip_machine.specs.declared.limits.TheConstants.{FRAMES, LAST_WORD}
+use Rattle.chip_machine.specs.declared.limits.TheConstants.{LAST_WORD}
 use Rattle.chip_machine.specs.declared.stop.Stop.{Stop}
 use Rattle.chip_machine.specs.declared.stop.Stop.TheVariants as cause
 use Rattle.chip_machine.specs.Forgotten.{next_instr}
-use Rattle.chip_machine.specs.Profile.{quirks}
-use Rattle.chip_machine.specs.Relevant.{Alike, others}
+use Rattle.chip_machine.specs.Relevant.{Alike}
 use Rattle.chip_machine.specs.Scroll.{scrolled_down, scrolled_right, scrolled_left}
 use Rattle.chip_machine.specs.Sprite.{sprite_bytes}
 use Rattle.chip_machine.specs.State.{Core, State, overwrite}
-use Rattle.chip_machine.specs.Step.{Effect, Stops, Changes, Keyed, Loads, Stores, call, effect, effect_at, effect_of_word, is_key_down, is_past, load_flags, next, perform, reg, return, settle, step_of, store_flags, super_only, take_key, with_flag, with_lit, with_reg, with_size, with_sprite, word_at}
+use Rattle.chip_machine.specs.Step.{Effect, Stops, Changes, Keyed, Loads, Stores, bit_of, call, draws_nothing, effect, effect_at, effect_of_word, has_wide_sixteen, is_key_down, is_past, load_flags, next, perform, reg, resized, return, scrolled_by, settle, step_of, store_flags, super_only, take_key, with_flag, with_index, with_lit, with_reg, with_size, with_sprite, word_at}
 use Rattle.chip_explore.specs.declared.setting.Setting.{Setting}
 use Rattle.chip_explore.specs.inner.Delays.{bound_after, delay_register, read_as, register_read, timed_register, with_delay}
 
@@ -46,32 +45,45 @@ module _ (c : Core) (d : ℕ) (low : d ≤ c.delay) where
   super_by false f h = refl
 
   super : (f : Core → Effect) → Slow (f c) (f e) → Slow (super_only c (f c)) (super_only e (f e))
-  super f h = super_by (quirks c.profile).has_super_instructions f h
+  super f h = super_by c.quirks.has_super_instructions f h
 
   logic : (clears : Bool) (x v : ℕ) → Slower (next (if clears then with_flag x v 0 c else with_reg x v c)) (next (if clears then with_flag x v 0 e else with_reg x v e))
   logic true x v = (d, low, refl)
   logic false x v = (d, low, refl)
 
+  resize : (clears high : Bool) → Slower (next (with_size high (if clears then with_lit set.empty c else c))) (next (with_size high (if clears then with_lit set.empty e else e)))
+  resize true high = (d, low, refl)
+  resize false high = (d, low, refl)
+
+  abbrev summed : Bool → ℕ → Core → Core
+  summed flags n k =
+      let moved = with_index ((k.index + n) % 65536) k in
+      if flags then with_reg 15 (bit_of (nat_lt 4095 (k.index + n))) moved else moved
+
+  add : (flags : Bool) (n : ℕ) → Slower (next (summed flags n c)) (next (summed flags n e))
+  add true n = (d, low, refl)
+  add false n = (d, low, refl)
+
   waits : (key : Option ℕ) (x : ℕ) → Slower (take_key key x c) (take_key key x e)
   waits None x = (d, low, refl)
   waits (Some k) x = (d, low, refl)
 
-  draws : (draws_nothing : Bool) (x y n : ℕ)
-      → Slow (if draws_nothing then Changes (next (with_reg 15 0 c)) else Loads (sprite_bytes c.high n) (λ sprite. next (with_sprite (reg c x) (reg c y) n sprite c)))
-      (if draws_nothing then Changes (next (with_reg 15 0 e)) else Loads (sprite_bytes e.high n) (λ sprite. next (with_sprite (reg e x) (reg e y) n sprite e)))
+  draws : (nothing : Bool) (x y n : ℕ)
+      → Slow (if nothing then Changes (next (with_reg 15 0 c)) else Loads (sprite_bytes (has_wide_sixteen c) n) (λ sprite. next (with_sprite (reg c x) (reg c y) n sprite c)))
+      (if nothing then Changes (next (with_reg 15 0 e)) else Loads (sprite_bytes (has_wide_sixteen e) n) (λ sprite. next (with_sprite (reg e x) (reg e y) n sprite e)))
   draws true x y n = (d, low, refl)
   draws false x y n = (refl, λ sprite. (d, low, refl))
 
   row_slow : (instr : Instr) → register_read (Some instr) ≡ None → Slow (effect instr c) (effect instr e)
   unfolding effect
-  row_slow (row.ScrollDown n) u = super (λ k. Changes (next (with_lit (scrolled_down n k.lit) k))) (d, low, refl)
+  row_slow (row.ScrollDown n) u = super (λ k. Changes (next (with_lit (scrolled_down (scrolled_by n k) k.lit) k))) (d, low, refl)
   row_slow row.ClearScreen u = (d, low, refl)
   row_slow row.Return u = either _ _ (λ k. Changes (return k)) (d, low, refl)
-  row_slow row.ScrollRight u = super (λ k. Changes (next (with_lit (scrolled_right 4 k.lit) k))) (d, low, refl)
-  row_slow row.ScrollLeft u = super (λ k. Changes (next (with_lit (scrolled_left 4 k.lit) k))) (d, low, refl)
+  row_slow row.ScrollRight u = super (λ k. Changes (next (with_lit (scrolled_right (scrolled_by 4 k) k.lit) k))) (d, low, refl)
+  row_slow row.ScrollLeft u = super (λ k. Changes (next (with_lit (scrolled_left (scrolled_by 4 k) k.lit) k))) (d, low, refl)
   row_slow row.Exit u = super (λ k. Stops cause.Exit) refl
-  row_slow row.LowSize u = super (λ k. Changes (next (with_size false k))) (d, low, refl)
-  row_slow row.HighSize u = super (λ k. Changes (next (with_size true k))) (d, low, refl)
+  row_slow row.LowSize u = super (λ k. Changes (next (resized false k))) (resize c.quirks.clears_at_size false)
+  row_slow row.HighSize u = super (λ k. Changes (next (resized true k))) (resize c.quirks.clears_at_size true)
   row_slow (row.Jump address) u = (d, low, refl)
   row_slow (row.Call address) u = either _ _ (λ k. Changes (call address k)) (d, low, refl)
   row_slow (row.SkipIfByte x byte) u = (d, low, refl)
@@ -80,9 +92,9 @@ module _ (c : Core) (d : ℕ) (low : d ≤ c.delay) where
   row_slow (row.LoadByte x byte) u = (d, low, refl)
   row_slow (row.AddByte x byte) u = (d, low, refl)
   row_slow (row.Copy x y) u = (d, low, refl)
-  row_slow (row.Or x y) u = logic (quirks c.profile).clears_flag x _
-  row_slow (row.And x y) u = logic (quirks c.profile).clears_flag x _
-  row_slow (row.Xor x y) u = logic (quirks c.profile).clears_flag x _
+  row_slow (row.Or x y) u = logic c.quirks.clears_flag x _
+  row_slow (row.And x y) u = logic c.quirks.clears_flag x _
+  row_slow (row.Xor x y) u = logic c.quirks.clears_flag x _
   row_slow (row.Add x y) u = (d, low, refl)
   row_slow (row.Subtract x y) u = (d, low, refl)
   row_slow (row.ShiftRight x y) u = (d, low, refl)
@@ -92,14 +104,14 @@ module _ (c : Core) (d : ℕ) (low : d ≤ c.delay) where
   row_slow (row.LoadIndex address) u = (d, low, refl)
   row_slow (row.JumpOffset address) u = (d, low, refl)
   row_slow (row.Random x byte) u = (d, low, refl)
-  row_slow (row.Draw x y n) u = draws (not (quirks c.profile).draws_sixteen && n == 0) x y n
+  row_slow (row.Draw x y n) u = draws (draws_nothing n c) x y n
   row_slow (row.SkipIfKey x) u = λ keys. (d, low, refl)
   row_slow (row.SkipUnlessKey x) u = λ keys. (d, low, refl)
   row_slow (row.ReadDelay x) u = absurd (cc)
   row_slow (row.WaitKey x) u = λ keys. waits (find (is_key_down keys) (range_with_len 0 16)) x
   row_slow (row.SetDelay x) u = (reg c x, omega arith, refl)
   row_slow (row.SetSound x) u = (d, low, refl)
-  row_slow (row.AddIndex x) u = (d, low, refl)
+  row_slow (row.AddIndex x) u = add c.quirks.flags_overflow (reg c x)
   row_slow (row.SmallDigit x) u = (d, low, refl)
   row_slow (row.BigDigit x) u = super (λ k. Changes (next (record k { index = 80 + 10 * (reg k x % 16) }))) (d, low, refl)
   row_slow (row.StoreDecimal x) u = (refl, (d, low, refl))

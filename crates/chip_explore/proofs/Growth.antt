@@ -30,12 +30,12 @@ pub still_noted : (early late : List Bool) → Grows early late → (s : State) 
 still_noted early late more s noted =
     or_more (is_some s.core.stopped) (is_among early s.core.pc) (is_among late s.core.pc) (more s.core.pc) noted
 
-module _ (p : Setting) (early late : List Bool) (more : Grows early late) (s : State) where
-  pub still_fine : IsFine p early s → IsFine p late s
+module _ (p : Setting) (early late : List Bool) (more : Grows early late) (f : ℕ) (s : State) where
+  pub still_fine : IsFine p early f s → IsFine p late f s
   still_fine fine =
-      record { avoided = fine.avoided; noted = still_noted early late more s fine.noted }
+      record { avoided = fine.avoided; noted = still_noted early late more s fine.noted; known = fine.known }
 
-  pub still_moves : Moves p early s → Moves p late s
+  pub still_moves : Moves p early f s → Moves p late f s
   still_moves moves = record { fine = still_fine moves.fine; same = moves.same; untimed = moves.untimed; drawn = moves.drawn }
 
 module _ (p : Setting) (v w : View) (more : Extends p v w) where
@@ -67,11 +67,11 @@ module _ (p : Setting) (v w : View) (more : Extends p v w) where
       let lower = more.limit in
       ⊎_elim
       (λ (past : v.limit ≤ t). inl (omega arith))
-      (λ (kept : IsFine p v.executed s × ((is_some s.core.stopped ≡ true) ⊎ Joins p v m s t)).
-      inr (still_fine p v.executed w.executed more.executed s kept.0, ⊎_elim (λ (halted : is_some s.core.stopped ≡ true). inl halted) (λ (joins : Joins p v m s t). inr (still_joins m s t joins)) kept.1))
+      (λ (kept : IsFine p v.executed m s × ((is_some s.core.stopped ≡ true) ⊎ Joins p v m s t)).
+      inr (still_fine p v.executed w.executed more.executed m s kept.0, ⊎_elim (λ (halted : is_some s.core.stopped ≡ true). inl halted) (λ (joins : Joins p v m s t). inr (still_joins m s t joins)) kept.1))
       safe
   still_safe_for (suc k) m s t safe =
-      (still_moves p v.executed w.executed more.executed s safe.0, safe.1, (safe.2.0, safe.2.1, still_safe_for k safe.2.0 (step_of s 0 (tick_at p t)) (t + 1) safe.2.2))
+      (still_moves p v.executed w.executed more.executed m s safe.0, safe.1, (safe.2.0, safe.2.1, still_safe_for k safe.2.0 (step_of s 0 (tick_at p t)) (t + 1) safe.2.2))
 
   pub still_safe : (m : ℕ) (s : State) (t : ℕ) → Safe p v m s t → Safe p w m s t
   still_safe m s t safe = record { moves = safe.moves; path = still_safe_for safe.moves m s t safe.path }
@@ -83,7 +83,7 @@ module _ (p : Setting) (v w : View) (more : Extends p v w) where
   still_goes_on None m s t on = λ keys within. still_goes m s _ t (on keys within)
   still_goes_on (Some register) m s t on = λ value low. still_goes m s _ t (on value low)
 
-pub one_move : (p : Setting) (v : View) (m : ℕ) (s : State) (t : ℕ) → Moves p v.executed s → IsUnread m s → GoesTo p v m s (step_of s 0 (tick_at p t)) t → Safe p v m s t
+pub one_move : (p : Setting) (v : View) (m : ℕ) (s : State) (t : ℕ) → Moves p v.executed m s → IsUnread m s → GoesTo p v m s (step_of s 0 (tick_at p t)) t → Safe p v m s t
 one_move p v m s t move unread goes = record { moves = suc goes.safe.moves; path = (move, unread, (goes.after, goes.is_after, goes.safe.path)) }
 
 pub extends_same : (p : Setting) (v : View) → Extends p v v
@@ -227,11 +227,11 @@ pub goes_noted : (p : Setting) (m : Members) → Holds p m → (executed : List 
 goes_noted p m holds executed grows = goes_alike p m (record m { executed = executed }) holds refl refl refl grows refl refl refl refl
 
 -- a fine state that a kept one is like
-pub safe_joined : (p : Setting) (m n : Members) → Goes p m n → (f : ℕ) (s : State) (t : ℕ) → IsFine p m.executed s → Joins p (view_of n) f s t → Safe p (view_of n) f s t
+pub safe_joined : (p : Setting) (m n : Members) → Goes p m n → (f : ℕ) (s : State) (t : ℕ) → IsFine p m.executed f s → Joins p (view_of n) f s t → Safe p (view_of n) f s t
 safe_joined p m n more f s t fine joins =
-    record { moves = 0; path = inr (still_fine p m.executed n.executed more.extends.executed s fine, inr joins) }
+    record { moves = 0; path = inr (still_fine p m.executed n.executed more.extends.executed f s fine, inr joins) }
 
-pub safe_lowered : (p : Setting) (m n : Members) → Goes p m n → (place f : ℕ) (s : State) (t : ℕ) → IsFine p m.executed s → IsAt p m place f s t → slice_index n.steps.items place ≡ t → Safe p (view_of n) f s t
+pub safe_lowered : (p : Setting) (m n : Members) → Goes p m n → (place f : ℕ) (s : State) (t : ℕ) → IsFine p m.executed f s → IsAt p m place f s t → slice_index n.steps.items place ≡ t → Safe p (view_of n) f s t
 safe_lowered p m n more place f s t fine at lowered =
     let kept = at.kept in
     let count = more.extends.count in

@@ -1,7 +1,9 @@
 pub mod Alike
+pub mod Asked
 pub mod Covered
 pub mod Deep
 pub mod Growth
+pub mod OneOf
 pub mod Places
 pub mod Delays
 pub mod ReadLemmas

@@ -1,6 +1,6 @@
 -- The state after a step that set a register to a value of the delay timer, as what is kept of the one
 -- before it says.
-use Rattle.std.proofs.Common.{◌≡◌, ℕ, ◌≤◌, Bool, true, false, List, [], ◌∷◌, Option, Some, None, fold, is_some, nat_lt, refl, ap, sym, subst, ◌∙◌, if◌then◌else◌, arith}
+use Rattle.std.proofs.Common.{◌≡◌, ℕ, ◌≤◌, Bool, true, false, List, [], ◌∷◌, Option, Some, None, fold, nat_lt, refl, ap, sym, subst, ◌∙◌, if◌then◌else◌}
 use Rattle.std.proofs.lemmas.Bool.{ltb-false}
 use Rattle.chip_lang.specs.Decoding.{decode_of}
 use Rattle.chip_lang.specs.declared.instr.Instr.{Instr}

@@ -26,7 +26,7 @@ pub(crate) fn keys_of(alloc: Global, events: &[KeyEvent]) -> Result<Keys, KeyFau
 /// allowed keys down before it.
 pub(crate) fn met_under(
     start: &Machine,
-    setting: &Setting,
+    setting: &Setting<'_>,
     keys: &Keys,
     step: u32,
 ) -> Result<Option<Met>, AllocError>

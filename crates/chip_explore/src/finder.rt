@@ -73,6 +73,8 @@ pub(crate) struct Finder {
     pub(crate) seen: Seen,
     /// Whether a delay timer was above 0 where the ticks are free.
     pub(crate) is_timer_set: bool,
+    /// Whether its watcher ended the search.
+    pub(crate) is_stopped: bool,
     /// In how many ways it went on from states.
     pub(crate) ways: u64,
     /// What is forgotten of the states.
@@ -90,20 +92,21 @@ impl Finder {
             hit: None,
             seen,
             is_timer_set: false,
+            is_stopped: false,
             ways: 0,
             guesses,
         }
     }
 
     /// Whether a step refuted what the search takes for granted.
-    pub(crate) fn is_refuted(&self, setting: &Setting) -> bool {
+    pub(crate) fn is_refuted(&self, setting: &Setting<'_>) -> bool {
         self.guesses.is_refuted || self.is_timer_set && setting.is_strict
     }
 
     /// Whether a search that keeps so many states is left before it takes up one that was reached at a
     /// step: it has refuted what it takes for granted, or met what it waits for, or it keeps as many
     /// states as it may with free ticks, or has gone on from them in so many ways.
-    pub(crate) fn is_left(&self, setting: &Setting, states: usize, step: u64) -> bool {
+    pub(crate) fn is_left(&self, setting: &Setting<'_>, states: usize, step: u64) -> bool {
         let most = setting.most_timed;
         let is_full = states > most || self.ways / MOST_WAYS > most as u64;
         self.is_refuted(setting)
@@ -111,10 +114,17 @@ impl Finder {
             || setting.awaited.is_any() && self.seen.has_all(&setting.awaited, step)
     }
 
+    /// Whether the delay timer of the state that a runner has is a bound above 0, which is noted.
+    pub(crate) fn has_bound(&mut self, setting: &Setting<'_>, runner: &Runner) -> bool {
+        let has_bound = setting.free && runner.machine.delay() != 0;
+        self.is_timer_set |= has_bound;
+        has_bound
+    }
+
     /// The parts that are to be forgotten of the state that a runner has: where its next step goes on in
     /// one way, those that are. A delay timer above 0 is noted where the ticks are free.
-    pub(crate) fn parts_to_forget(&mut self, setting: &Setting, runner: &Runner) -> Forgotten {
-        self.is_timer_set |= setting.free && runner.machine.delay() != 0;
+    pub(crate) fn parts_to_forget(&mut self, setting: &Setting<'_>, runner: &Runner) -> Forgotten {
+        let _has_bound = self.has_bound(setting, runner);
         if runner.is_quiet {
             runner.forgotten
         } else {

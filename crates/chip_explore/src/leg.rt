@@ -1,5 +1,5 @@
 //! Some steps in a row that tell neither keys nor values of the delay timer apart, and read nothing
-//! that is forgotten.
+//! that is forgotten, nor do the properties that are asked of the states on the way.
 
 ghost use Rattle.std.specs.Prelude.{◌≡◌, ◌<◌, ◌≤◌, ◌-◌, ◌^◌, IfOk, IfSome, IsNone};
 ghost use Rattle.chip_explore.specs.inner.Cover.{Grows, IsEnd, Moves, Safe, View};
@@ -21,7 +21,7 @@ pub(crate) enum End {
     Halted,
     /// The next step can tell keys apart, or values of the delay timer, or the steps are many.
     Joined,
-    /// The next step reads something that is forgotten.
+    /// The next step reads something that is forgotten, or a property that is asked of the state does.
     Read,
 }
 
@@ -38,7 +38,7 @@ pub(crate) struct Runner {
     pub(crate) machine: Machine,
     /// The parts of its state that are forgotten.
     pub(crate) forgotten: Forgotten,
-    /// Those that the step read at which it ended last.
+    /// Those that were read where it ended last.
     pub(crate) read: Forgotten,
     /// Whether its next step doesn't tell keys apart, nor values of the delay timer.
     pub(crate) is_quiet: bool,
@@ -69,7 +69,7 @@ impl Runner {
     /// the addresses of these steps and of that next one.
     pub(crate) fn run(
         &mut self,
-        setting: &Setting,
+        setting: &Setting<'_>,
         limit: u64,
         from: u64,
         executed: &mut Executed,
@@ -79,7 +79,8 @@ impl Runner {
         ensures path { (v : View) → Grows executed.new v.executed
             → Safe setting.now v self.new.forgotten self.new.machine result.step
             → Safe setting.now v self.old.forgotten self.old.machine from }
-        ensures end { IsEnd setting.now executed.new limit self.new.machine result.step result.end }
+        ensures end { IsEnd setting.now executed.new limit self.new.forgotten self.new.machine
+            result.step result.end }
     {
         let mut step = from;
         let mut left = MOST_QUIET_STEPS;
@@ -107,7 +108,7 @@ impl Runner {
     /// is noted.
     fn end(
         &mut self,
-        setting: &Setting,
+        setting: &Setting<'_>,
         limit: u64,
         step: u64,
         left: u32,
@@ -117,18 +118,24 @@ impl Runner {
         ensures forgotten { self.new.forgotten ≡ self.old.forgotten }
         ensures grows { Grows executed.old executed.new }
         ensures some { IfSome result (λ end. IsEnd setting.now executed.new limit
-            self.old.machine step end) }
-        ensures moves { IsNone result → Moves setting.now executed.new self.old.machine }
+            self.old.forgotten self.old.machine step end) }
+        ensures moves { IsNone result → Moves setting.now executed.new self.old.forgotten
+            self.old.machine }
         ensures below { IsNone result → step < limit }
         ensures left { IsNone result → 0 < left }
     {
         if step >= limit {
             return Some(End::Past);
         }
+        let is_going = self.machine.stopped().is_none();
+        if is_going && !setting.are_known(&self.machine, self.forgotten) {
+            self.read = setting.asked_of(&self.machine, self.forgotten);
+            return Some(End::Read);
+        }
         if setting.target.met_in(&self.machine).is_some() {
             return Some(End::Wanted);
         }
-        if self.machine.stopped().is_some() {
+        if !is_going {
             return Some(End::Halted);
         }
         executed.note(self.machine.pc());

@@ -25,3 +25,6 @@ pub(crate) const STATE_BYTES: u64 = 80;
 
 /// A watcher is told each time so many states more were kept or taken up.
 pub(crate) const STATES_TOLD: u64 = 250_000;
+
+/// A watcher is asked before each turn whose number is a multiple of it whether the search goes on.
+pub(crate) const TURNS_ASKED: u64 = 4_096;

@@ -129,7 +129,7 @@ impl Members {
     /// probe is room for the state.
     pub(crate) fn is_at(
         &self,
-        setting: &Setting,
+        setting: &Setting<'_>,
         place: usize,
         forgotten: Forgotten,
         machine: &Machine,
@@ -159,7 +159,7 @@ impl Members {
     /// change.
     pub(crate) fn add(
         &mut self,
-        setting: &Setting,
+        setting: &Setting<'_>,
         kept: Kept,
         parts: Forgotten,
         forgotten: Forgotten,
@@ -190,7 +190,7 @@ impl Members {
     }
 
     /// Notes that a state was reached at an earlier step, so that it is to be taken up again.
-    pub(crate) fn lower(&mut self, setting: &Setting, place: usize, step: u64)
+    pub(crate) fn lower(&mut self, setting: &Setting<'_>, place: usize, step: u64)
         requires holds { Holds setting.now self.old }
         requires kept { place < length self.old.steps.items }
         requires early { step ≤ slice_index self.old.steps.items place }
@@ -205,7 +205,7 @@ impl Members {
     }
 
     /// Notes that a state was taken up.
-    pub(crate) fn close(&mut self, setting: &Setting, place: usize)
+    pub(crate) fn close(&mut self, setting: &Setting<'_>, place: usize)
         requires holds { Holds setting.now self.old }
         requires kept { place < length self.old.steps.items }
         requires taken { IsTaken setting.now (view_of self.old) place }
@@ -216,7 +216,7 @@ impl Members {
     }
 
     /// Speaks of the steps below a limit alone.
-    pub(crate) fn lower_limit(&mut self, setting: &Setting, limit: u64)
+    pub(crate) fn lower_limit(&mut self, setting: &Setting<'_>, limit: u64)
         requires holds { Holds setting.now self.old }
         ensures goes { Goes setting.now self.old self.new }
         ensures limit { self.new.limit ≤ limit }

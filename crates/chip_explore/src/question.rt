@@ -34,12 +34,12 @@ use std::alloc::{AllocError, Global};
 
 /// Whether any player can make a machine meet a target.
 #[derive(Clone, Copy)]
-pub struct Question {
+pub struct Question<'a> {
     /// The timers tick at each step whose number plus 1 is a multiple of it: 1 at least.
     pub rate: u32,
     /// The keys that may be down, key k at bit k.
     pub allowed: u16,
-    pub target: Target,
+    pub target: Target<'a>,
 }
 
 /// How a search takes the ticks of the timers. What its answer says of the rate is the same of each.
@@ -104,6 +104,8 @@ pub struct Explored {
     pub executed: Executed,
     /// Whether memory ran out before the search was done, so that the outcome may say less.
     pub is_short: bool,
+    /// Whether its watcher ended it before it was done, so that the outcome may say less.
+    pub is_stopped: bool,
     /// Whether no key script makes the machine meet the target at any step below `END`, whenever the
     /// timers tick.
     pub is_at_any_speed: bool,
@@ -170,6 +172,7 @@ impl Explored {
             states: 0,
             executed,
             is_short,
+            is_stopped: false,
             is_at_any_speed: false,
             is_timed: false,
         }
@@ -188,6 +191,7 @@ impl Explored {
             states: search.members.steps.len(),
             executed: search.members.executed,
             is_short,
+            is_stopped: search.finder.is_stopped,
             is_at_any_speed: false,
             is_timed: search.finder.is_timer_set,
         }
@@ -205,7 +209,7 @@ impl Explored {
     /// Whether a search at the rate is to follow one with free ticks: that doesn't tell all, or met other
     /// causes, which are told with the least steps at which they are met at the rate.
     fn needs_rate(&self, bounds: &Bounds) -> bool {
-        self.is_timed && (!self.is_whole(bounds) || self.seen.is_any())
+        self.is_timed && !self.is_stopped && (!self.is_whole(bounds) || self.seen.is_any())
     }
 
     /// Whether this of a search with free ticks says more than one at the rate that came to such an
@@ -233,6 +237,7 @@ impl Explored {
             states: self.states.saturating_add(deep.states),
             executed: self.executed,
             is_short: deep.is_short,
+            is_stopped: deep.is_stopped,
             is_at_any_speed: false,
             is_timed: false,
             outcome: deep.outcome.after(covered),
@@ -261,6 +266,7 @@ impl Explored {
             Outcome::Within(covered)
                 if bounds.is_deep
                     && !self.is_short
+                    && !self.is_stopped
                     && bounds.states < self.states
                     && covered < bounds.last() => { Some(covered) }
             _ => None,
@@ -274,7 +280,7 @@ impl Explored {
 pub fn explore<W: Watcher>(
     alloc: Global,
     start: &Machine,
-    question: &Question,
+    question: &Question<'_>,
     bounds: &Bounds,
     watcher: &mut W,
 ) -> Explored
@@ -302,9 +308,9 @@ pub fn explore<W: Watcher>(
     let setting = Setting {
         rate: question.rate,
         allowed: question.allowed,
-        target: question.target,
+        target: question.target.again(),
         free: true,
-        is_strict: bounds.ticks == Ticks::AtRate,
+        is_strict: bounds.ticks == Ticks::AtRate || question.target.names_delay(),
         most_timed: bounds.most_timed(),
         awaited: Seen::none(),
     };
@@ -333,7 +339,7 @@ struct Attempt {
 fn search_by_step<W: Watcher>(
     alloc: Global,
     start: &Machine,
-    setting: &Setting,
+    setting: &Setting<'_>,
     bounds: &Bounds,
     watcher: &mut W,
 ) -> Result<Explored, AllocError>
@@ -365,7 +371,7 @@ fn search_by_step<W: Watcher>(
 fn rated<W: Watcher>(
     alloc: Global,
     start: &Machine,
-    setting: &Setting,
+    setting: &Setting<'_>,
     bounds: &Bounds,
     watcher: &mut W,
     free: Explored,
@@ -392,11 +398,7 @@ fn rated<W: Watcher>(
     ensures any_speed { result.is_at_any_speed ≡ true
         → NeverAtAnySpeed setting.now.allowed setting.now.target start.now }
 {
-    let known = Setting {
-        free: false,
-        awaited: free.awaited(bounds),
-        ..*setting
-    };
+    let known = setting.with_ticks(false, setting.is_strict, free.awaited(bounds));
     let order = Order::LeastStep;
     let Ok(rated) = search(alloc, start, &known, bounds, watcher, order, Seen::none()) else {
         return Explored {
@@ -410,6 +412,7 @@ fn rated<W: Watcher>(
             seen: rated.seen,
             states,
             is_short: rated.is_short && !free.is_at_any_speed,
+            is_stopped: rated.is_stopped,
             ..free
         }
     } else {
@@ -422,7 +425,7 @@ fn rated<W: Watcher>(
 fn deepened<W: Watcher>(
     alloc: Global,
     start: &Machine,
-    setting: &Setting,
+    setting: &Setting<'_>,
     bounds: &Bounds,
     watcher: &mut W,
     first: Explored,
@@ -447,11 +450,7 @@ fn deepened<W: Watcher>(
 {
     let order = Order::GreatestStep;
     let seen = first.seen;
-    let known = Setting {
-        free: true,
-        is_strict: true,
-        ..*setting
-    };
+    let known = setting.with_ticks(true, true, setting.awaited);
     match search(alloc, start, &known, bounds, watcher, order, seen) {
         Ok(deep) => first.deepened_by(deep, covered),
         Err(_) => Explored {
@@ -468,7 +467,7 @@ fn deepened<W: Watcher>(
 fn search<W: Watcher>(
     alloc: Global,
     start: &Machine,
-    setting: &Setting,
+    setting: &Setting<'_>,
     bounds: &Bounds,
     watcher: &mut W,
     order: Order,
@@ -491,13 +490,10 @@ fn search<W: Watcher>(
     let guesses = Guesses::new(alloc)?;
     let mut last = search_once(alloc, start, setting, bounds, watcher, order, seen, guesses)?;
     for _attempt in 0..MOST_ATTEMPTS {
-        if !last.is_refuted {
+        if !last.is_refuted || last.explored.is_stopped {
             break;
         }
-        let known = Setting {
-            free: last.free,
-            ..*setting
-        };
+        let known = setting.with_ticks(last.free, setting.is_strict, setting.awaited);
         let explored = last.explored;
         let guesses = last.guesses;
         last = match search_once(alloc, start, &known, bounds, watcher, order, seen, guesses) {
@@ -514,7 +510,7 @@ fn search<W: Watcher>(
 }
 
 /// The first state whose next step can tell keys apart, from which others differ in little.
-fn base_for(alloc: Global, start: &Machine, setting: &Setting) -> Result<Base, AllocError>
+fn base_for(alloc: Global, start: &Machine, setting: &Setting<'_>) -> Result<Base, AllocError>
     requires { 0 < setting.now.rate }
 {
     let mut runner = Runner::new(alloc, start)?;
@@ -526,7 +522,7 @@ fn base_for(alloc: Global, start: &Machine, setting: &Setting) -> Result<Base, A
 fn search_once<W: Watcher>(
     alloc: Global,
     start: &Machine,
-    setting: &Setting,
+    setting: &Setting<'_>,
     bounds: &Bounds,
     watcher: &mut W,
     order: Order,
@@ -572,7 +568,7 @@ fn search_once<W: Watcher>(
 /// Keeps the first state, and takes up states from it on.
 fn search_all<W: Watcher>(
     search: &mut Search,
-    setting: &Setting,
+    setting: &Setting<'_>,
     bounds: &Bounds,
     watcher: &mut W,
 ) -> Result<(), AllocError>
@@ -589,7 +585,7 @@ fn search_all<W: Watcher>(
 }
 
 /// A step up to which no key script makes the machine meet the target.
-fn covered_by(setting: &Setting, members: &Members) -> u64
+fn covered_by(setting: &Setting<'_>, members: &Members) -> u64
     requires positive { 0 < members.now.limit }
     requires fresh { members.now.start.core.draws ≡ 0 }
     requires holds { Holds setting.now members.now }
@@ -609,7 +605,7 @@ fn covered_by(setting: &Setting, members: &Members) -> u64
 
 /// How far an answer says so, where no key script makes the machine meet the target up to a step: up to
 /// that one, or the last one that is asked for.
-fn told_up_to(setting: &Setting, members: &Members, covered: u64, last: u64) -> u64
+fn told_up_to(setting: &Setting<'_>, members: &Members, covered: u64, last: u64) -> u64
     requires below { covered < members.now.limit }
     requires avoids { Avoids setting.now.rate setting.now.allowed setting.now.target
         members.now.start covered }
@@ -628,7 +624,7 @@ fn told_up_to(setting: &Setting, members: &Members, covered: u64, last: u64) -> 
 /// What the states that were kept say.
 fn explored_by(
     alloc: Global,
-    setting: &Setting,
+    setting: &Setting<'_>,
     search: &Search,
     bounds: &Bounds,
     is_short: bool,
@@ -673,7 +669,7 @@ fn explored_by(
 /// answered that isn't a first one, at a later step.
 fn found_after(
     alloc: Global,
-    setting: &Setting,
+    setting: &Setting<'_>,
     members: &Members,
     finder: &Finder,
     covered: u64,
@@ -719,7 +715,7 @@ fn found_after(
 /// What the machine meets of the target at a step with these events, if anything.
 fn met_by(
     alloc: Global,
-    setting: &Setting,
+    setting: &Setting<'_>,
     members: &Members,
     events: &[KeyEvent],
     step: u32,

@@ -11,7 +11,7 @@ use crate::finder::{Finder, Origin, Turn};
 use crate::kept::{Base, Kept};
 use crate::keys::{alone, is_down};
 use crate::leg::{End, Runner};
-use crate::limits::{STATE_BYTES, STATES_TOLD};
+use crate::limits::{STATE_BYTES, STATES_TOLD, TURNS_ASKED};
 use crate::members::Members;
 use crate::setting::Setting;
 use crate::sum::Sums;
@@ -63,10 +63,11 @@ impl Search {
     }
 
     /// Keeps the state that the runner has at a step, unless one like it is kept.
-    fn join(&mut self, setting: &Setting, step: u64, origin: Origin) -> Result<(), AllocError>
+    fn join(&mut self, setting: &Setting<'_>, step: u64, origin: Origin) -> Result<(), AllocError>
         requires rate { 0 < setting.now.rate }
         requires holds { Holds setting.now self.old.members }
-        requires fine { IsFine setting.now self.old.members.executed self.old.runner.machine }
+        requires fine { IsFine setting.now self.old.members.executed self.old.runner.forgotten
+            self.old.runner.machine }
         ensures goes { Goes setting.now self.old.members self.new.members }
         ensures safe { OnOk result (Safe setting.now (view_of self.new.members)
             self.old.runner.forgotten self.old.runner.machine step) }
@@ -123,7 +124,7 @@ impl Search {
     /// below it alone.
     pub(crate) fn run_on(
         &mut self,
-        setting: &Setting,
+        setting: &Setting<'_>,
         from: u64,
         origin: Origin,
     ) -> Result<(), AllocError>
@@ -158,7 +159,9 @@ impl Search {
             }
             End::Read => {
                 self.members.lower_limit(setting, leg.step);
-                self.refute(origin, self.runner.read);
+                if !(setting.is_strict && self.finder.has_bound(setting, &self.runner)) {
+                    self.refute(origin, self.runner.read);
+                }
             }
         }
         Ok(())
@@ -168,7 +171,7 @@ impl Search {
     /// that was possible. The search speaks of the steps below that one alone where it was not.
     fn follow(
         &mut self,
-        setting: &Setting,
+        setting: &Setting<'_>,
         place: usize,
         step: u64,
         keys: u16,
@@ -215,7 +218,7 @@ impl Search {
     /// below that one alone where it was not.
     fn follow_as(
         &mut self,
-        setting: &Setting,
+        setting: &Setting<'_>,
         place: usize,
         step: u64,
         read: Reading,
@@ -254,7 +257,7 @@ impl Search {
     /// that was possible.
     fn follow_values(
         &mut self,
-        setting: &Setting,
+        setting: &Setting<'_>,
         place: usize,
         step: u64,
         read: Reading,
@@ -289,7 +292,7 @@ impl Search {
     /// answer is whether that was possible.
     fn follow_each(
         &mut self,
-        setting: &Setting,
+        setting: &Setting<'_>,
         place: usize,
         step: u64,
         choices: u16,
@@ -317,7 +320,7 @@ impl Search {
     /// bytes as are counted, or its next step reads something that is forgotten.
     fn ways(
         &mut self,
-        setting: &Setting,
+        setting: &Setting<'_>,
         place: usize,
         step: u64,
     ) -> Result<Option<Ways>, AllocError>
@@ -359,7 +362,7 @@ impl Search {
     /// Makes the next step of a state with each choice of some keys, and notes that it was taken up.
     fn take_up_keys(
         &mut self,
-        setting: &Setting,
+        setting: &Setting<'_>,
         place: usize,
         step: u64,
         choices: u16,
@@ -389,7 +392,7 @@ impl Search {
     /// Does so with each value of the delay timer.
     fn take_up_values(
         &mut self,
-        setting: &Setting,
+        setting: &Setting<'_>,
         place: usize,
         step: u64,
         read: Reading,
@@ -417,7 +420,7 @@ impl Search {
     /// Makes the next step of a state in each of its ways, unless the limit is met.
     pub(crate) fn take_up(
         &mut self,
-        setting: &Setting,
+        setting: &Setting<'_>,
         place: usize,
         most_states: usize,
     ) -> Result<(), AllocError>
@@ -447,7 +450,7 @@ impl Search {
     /// Takes up the state of a turn, unless that was done.
     fn take_turn(
         &mut self,
-        setting: &Setting,
+        setting: &Setting<'_>,
         turn: Turn,
         most_states: usize,
     ) -> Result<(), AllocError>
@@ -473,7 +476,7 @@ impl Search {
     /// Takes up states until none is left, or the limits are met.
     pub(crate) fn run<W: Watcher>(
         &mut self,
-        setting: &Setting,
+        setting: &Setting<'_>,
         most_states: usize,
         watcher: &mut W,
     ) -> Result<(), AllocError>
@@ -493,6 +496,10 @@ impl Search {
                 return Ok(());
             }
             if turn.step >= self.members.limit {
+                return Ok(());
+            }
+            if turns % TURNS_ASKED == 0 && !watcher.goes_on() {
+                self.finder.is_stopped = true;
                 return Ok(());
             }
             let done = turns.saturating_add(self.members.states.len() as u64) / STATES_TOLD;

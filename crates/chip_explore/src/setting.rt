@@ -3,20 +3,22 @@
 ghost use Rattle.std.specs.Prelude.{◌≡◌, ◌<◌, ◌-◌, ◌^◌, IfSome};
 ghost use Rattle.chip_explore.specs.inner.Cover.{phase, tick_at};
 ghost use Rattle.chip_explore.specs.inner.Delays.{timed_register};
+ghost use Rattle.chip_explore.specs.inner.Known.{are_known};
 
+use crate::known::Known;
 use crate::seen::Seen;
 use crate::target::Target;
 use crate::ways::delay_register;
-use chip_machine::Machine;
+use chip_machine::{Forgotten, Machine};
 
 /// What a search is about, and how it takes the timers.
 #[derive(Clone, Copy)]
-pub(crate) struct Setting {
+pub(crate) struct Setting<'a> {
     /// The timers tick at each step whose number plus 1 is a multiple of it.
     pub(crate) rate: u32,
     /// The keys that may be down, key k at bit k.
     pub(crate) allowed: u16,
-    pub(crate) target: Target,
+    pub(crate) target: Target<'a>,
     /// The timers may tick after any step: the delay timer of a state is a bound of that of a run, and
     /// no step of the search ticks.
     pub(crate) free: bool,
@@ -28,7 +30,25 @@ pub(crate) struct Setting {
     pub(crate) awaited: Seen,
 }
 
-impl Setting {
+impl<'a> Setting<'a> {
+    /// The same question with other ticks, and other causes that are awaited.
+    pub(crate) fn with_ticks(&self, free: bool, is_strict: bool, awaited: Seen) -> Setting<'a>
+        ensures rate { result.rate ≡ self.now.rate }
+        ensures allowed { result.allowed ≡ self.now.allowed }
+        ensures target { result.target ≡ self.now.target }
+        ensures free { result.free ≡ free }
+    {
+        Setting {
+            rate: self.rate,
+            allowed: self.allowed,
+            target: self.target.again(),
+            free,
+            is_strict,
+            most_timed: self.most_timed,
+            awaited,
+        }
+    }
+
     /// The part of a step's number on which the ticks depend.
     pub(crate) fn phase(&self, step: u64) -> u64
         requires { 0 < self.now.rate }
@@ -52,6 +72,30 @@ impl Setting {
         } else {
             (step + 1) % u64::from(self.rate) == 0
         }
+    }
+
+    /// Whether a machine has what the properties ask of it, where some parts are forgotten.
+    #[inline]
+    pub(crate) fn are_known(&self, machine: &Machine, forgotten: Forgotten) -> bool
+        ensures { result ≡ are_known self.now forgotten machine.now }
+    {
+        let known = Known {
+            forgotten,
+            has_delay: !self.free || machine.delay() == 0,
+        };
+        known.has_properties(machine.pc(), self.target.properties)
+    }
+
+    /// The parts of what is forgotten that the properties ask of a machine.
+    #[inline(never)]
+    pub(crate) fn asked_of(&self, machine: &Machine, forgotten: Forgotten) -> Forgotten {
+        let mut asked = Forgotten::nothing();
+        for property in self.target.properties {
+            if property.is_at(machine.pc()) {
+                asked = asked.with(property.parts());
+            }
+        }
+        forgotten.without(forgotten.without(asked))
     }
 
     /// The register that the next step of a machine sets to the delay timer, where that may have one

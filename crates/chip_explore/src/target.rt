@@ -1,17 +1,20 @@
 //! Which states a search looks for.
 
-ghost use Rattle.std.specs.Prelude.{◌≡◌, Some, IfSome};
+ghost use Rattle.std.specs.Prelude.{◌≡◌, Some, IfSome, option_map, position};
+ghost use Rattle.chip_explore.specs.Property.{is_met};
 ghost use Rattle.chip_explore.specs.Target.{met_in};
 
 use crate::causes::Causes;
+use crate::property::Property;
 use chip_machine::{Machine, Stop};
 
-/// What a search looks for: a stop for one of some causes, or pc at an address before a step that is
-/// made.
+/// What a search looks for: a stop for one of some causes, or before a step that is made pc at an
+/// address, or a property that is met.
 #[derive(Clone, Copy)]
-pub struct Target {
+pub struct Target<'a> {
     pub causes: Causes,
     pub address: Option<u16>,
+    pub properties: &'a [Property],
 }
 
 /// What a machine meets of a target.
@@ -21,9 +24,23 @@ pub enum Met {
     Cause(Stop),
     /// It has not stopped, and pc is at the address.
     Address,
+    /// It has not stopped, and meets the property at this place of the list, which is the first one that
+    /// it meets.
+    Property(usize),
 }
 
-impl Target {
+impl<'a> Target<'a> {
+    /// This target once more.
+    pub(crate) fn again(&self) -> Target<'a>
+        ensures { result ≡ self.now }
+    {
+        Target {
+            causes: self.causes,
+            address: self.address,
+            properties: self.properties,
+        }
+    }
+
     /// What a machine meets of this target, if anything.
     pub(crate) fn met_in(&self, machine: &Machine) -> Option<Met>
         ensures value { result ≡ met_in self.now machine.now }
@@ -34,8 +51,34 @@ impl Target {
             Some(_) => None,
             None => match self.address {
                 Some(address) if machine.pc() == address => Some(Met::Address),
-                _ => None,
+                _ => self.property_met(machine),
             },
         }
+    }
+
+    /// The first property that a machine meets, if it meets one.
+    fn property_met(&self, machine: &Machine) -> Option<Met>
+        ensures { result ≡ option_map Met.Property
+            (position (is_met machine.now) self.now.properties.now) }
+    {
+        match self.first_met(machine) {
+            Some(place) => Some(Met::Property(place)),
+            None => None,
+        }
+    }
+
+    fn first_met(&self, machine: &Machine) -> Option<usize>
+        ensures { result ≡ position (λ p. is_met machine.now p) self.now.properties.now }
+    {
+        self.properties
+            .iter()
+            .position(|property| property.is_met(machine))
+    }
+
+    /// Whether a property names the delay timer.
+    pub(crate) fn names_delay(&self) -> bool {
+        self.properties
+            .iter()
+            .any(|property| property.names_delay())
     }
 }

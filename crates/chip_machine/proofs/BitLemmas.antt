@@ -1,11 +1,11 @@
 -- Rows of bits: what a shift, an exclusive or and a mask do to each bit.
-use Rattle.std.proofs.Common.{◌≡◌, ℕ, ◌+◌, ◌-◌, ◌*◌, ◌/◌, ◌%◌, ◌^◌, ◌<◌, ◌≤◌, Bool, true, false, not, ◌&&◌, ◌||◌, ◌==◌, ◌≢◌, nat_eq, min, refl, sym, ap, ◌∙◌, arith, add-zero, subst, ◌⊎◌, inl, inr, nat_le, ⊎_elim, bit_and, get_or}
+use Rattle.std.proofs.Common.{◌≡◌, ℕ, ◌+◌, ◌-◌, ◌*◌, ◌/◌, ◌%◌, ◌^◌, ◌<◌, ◌≤◌, Bool, true, false, not, ◌&&◌, ◌||◌, ◌==◌, ◌≢◌, nat_eq, min, max, refl, sym, ap, ◌∙◌, arith, add-zero, subst, ◌⊎◌, inl, inr, nat_le, ⊎_elim, bit_and, get_or}
 use Rattle.std.specs.Int.{bit_at}
 use Rattle.std.specs.Prelude.{bit_or, bit_xor}
 use Rattle.std.specs.Int.Bits.{or_zero_l}
 use Rattle.std.proofs.lemmas.Nat.{shr-shr, shl-shr, shl_whole, and_le_r, le_or_l, pow_pos, pow-add, shr_split}
 use Rattle.std.proofs.Math.Nat.{mul_assoc}
-use Rattle.std.proofs.lemmas.Nat.Bits.{bit_at_and, bit_at_xor, bit_at-zero, bit_at-lt, bit_at_above, bit_at_cat_low, bit_at_cat_high, same_from_bits_below}
+use Rattle.std.proofs.lemmas.Nat.Bits.{bit_at_and, bit_at_or, bit_at_xor, bit_at-zero, bit_at-lt, bit_at_above, bit_at_cat_low, bit_at_cat_high, same_from_bits_below}
 use Rattle.std.proofs.lemmas.Bool.{false≢true, cases_lt, cases_Bool, eqb-true, eqb-false, eq-eqb, ne_eqb, not-false, cases_eq, and_left, lt-leb, le-leb}
 use Rattle.chip_machine.specs.declared.doubled.TheConstants.{DOUBLED}
 use Rattle.chip_machine.specs.inner.Stored.{differ, any_below}
@@ -100,6 +100,14 @@ lights-bit_xor a b column =
     ap (λ bit. bit == 1) (bit_at_xor a b (127 - column))
     ∙ odd_sum (bit_at a (127 - column)) (bit_at b (127 - column)) (bit_at-lt a (127 - column)) (bit_at-lt b (127 - column))
 
+either_one : (a b : ℕ) → a < 2 → b < 2 → (max a b == 1) ≡ ((a == 1) || (b == 1))
+either_one = at_bits (λ a b. (max a b == 1) ≡ ((a == 1) || (b == 1))) refl refl refl refl
+
+lights-bit_or : (a b column : ℕ) → lights (bit_or a b) column ≡ (lights a column || lights b column)
+lights-bit_or a b column =
+    ap (λ bit. bit == 1) (bit_at_or a b (127 - column))
+    ∙ either_one (bit_at a (127 - column)) (bit_at b (127 - column)) (bit_at-lt a (127 - column)) (bit_at-lt b (127 - column))
+
 lights-bit_and : (a b column : ℕ) → lights (bit_and a b) column ≡ (lights a column && lights b column)
 lights-bit_and a b column =
     ap (λ bit. bit == 1) (bit_at_and a b (127 - column))
@@ -171,3 +179,43 @@ module _ (bits n column : ℕ) (on_screen : column < 128) where
 
   pub lights_shl_out : 128 ≤ column + n → lights (bits * 2 ^ n % 2 ^ 128) column ≡ false
   lights_shl_out out = ap (λ bit. bit == 1) (low_part ∙ bit_at_cat_low bits n 0 (127 - column) (omega arith) ∙ bit_at-zero _)
+
+-- ---- a move to the right by `start`, where the columns that leave come in at the left
+
+same_or : (b : Bool) → (b || b) ≡ b
+same_or true = refl
+same_or false = refl
+
+or_none : (b : Bool) → (b || false) ≡ b
+or_none true = refl
+or_none false = refl
+
+pub lights_around : (bits start column : ℕ) → bits < 2 ^ 128 → start < 128 → column < 128
+    → lights (bit_or (bits / 2 ^ start) (bits * 2 ^ ((128 - start) % 128) % 2 ^ 128)) column ≡ lights bits ((column + 128 - start) % 128)
+lights_around bits start column fits inside on_screen =
+    lights-bit_or _ _ column
+    ∙ ap (λ b. b || lights (bits * 2 ^ ((128 - start) % 128) % 2 ^ 128) column) (lights_shr bits start column fits (omega arith) on_screen)
+    ∙ ⊎_elim
+    (λ (out : column < start).
+    let by : (128 - start) % 128 ≡ 128 - start = omega arith in
+    let here : column + (128 - start) ≡ (column + 128 - start) % 128 = omega arith in
+    ap (λ b. b && lights bits (column - start) || lights (bits * 2 ^ ((128 - start) % 128) % 2 ^ 128) column) (lt-leb start column out)
+    ∙ ap (λ n. lights (bits * 2 ^ n % 2 ^ 128) column) by ∙ lights_shl bits (128 - start) column on_screen (omega arith) ∙ ap (lights bits) here)
+    (λ (kept : start ≤ column).
+    let here : column - start ≡ (column + 128 - start) % 128 = omega arith in
+    ap (λ b. b && lights bits (column - start) || lights (bits * 2 ^ ((128 - start) % 128) % 2 ^ 128) column) (le-leb start column kept)
+    ∙ ⊎_elim
+    (λ (still : start ≡ 0).
+    let by : (128 - start) % 128 ≡ 0 = omega arith in
+    let same : column + 0 ≡ column - start = omega arith in
+    ap (λ n. lights bits (column - start) || lights (bits * 2 ^ n % 2 ^ 128) column) by
+    ∙ ap (λ b. lights bits (column - start) || b) (lights_shl bits 0 column on_screen (omega arith) ∙ ap (lights bits) same)
+    ∙ same_or (lights bits (column - start)))
+    (λ (some : start ≢ 0).
+    let by : (128 - start) % 128 ≡ 128 - start = omega arith in
+    ap (λ n. lights bits (column - start) || lights (bits * 2 ^ n % 2 ^ 128) column) by
+    ∙ ap (λ b. lights bits (column - start) || b) (lights_shl_out bits (128 - start) column on_screen (omega arith))
+    ∙ or_none (lights bits (column - start)))
+    (cases_eq start 0)
+    ∙ ap (lights bits) here)
+    (cases_lt column start)

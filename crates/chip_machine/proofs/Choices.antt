@@ -1,5 +1,5 @@
 -- Which keys the next step can tell apart, by the rows of the table.
-use Rattle.std.proofs.Common.{◌≡◌, ◌≢◌, ℕ, ◌==◌, ◌&&◌, ◌%◌, ◌^◌, Bool, true, false, not, bit_and, List, [], ◌∷◌, length, min, Option, Some, None, Ok, refl, sym, nat_le, find, is_some, ap, subst, if◌then◌else◌, ◌∙◌, inl, inr, ⊎_elim, arith, eq-eqb}
+use Rattle.std.proofs.Common.{◌≡◌, ◌≢◌, ℕ, ◌==◌, ◌%◌, ◌^◌, Bool, true, false, not, bit_and, List, [], ◌∷◌, length, min, Option, Some, None, Ok, refl, sym, nat_le, find, is_some, ap, subst, if◌then◌else◌, ◌∙◌, inl, inr, ⊎_elim, arith, eq-eqb}
 use Rattle.std.specs.Int.{bit_at}
 use Rattle.std.specs.List.{range_with_len}
 use Rattle.std.proofs.lemmas.Bool.{cases_eq, eqb-true}
@@ -9,9 +9,8 @@ use Rattle.chip_lang.specs.declared.instr.Instr.TheVariants as row
 use Rattle.chip_machine.specs.declared.limits.TheConstants.{FRAMES}
 use Rattle.chip_machine.specs.declared.stop.Stop.{Stop}
 use Rattle.chip_machine.specs.declared.stop.Stop.TheVariants as cause
-use Rattle.chip_machine.specs.Profile.{quirks}
 use Rattle.chip_machine.specs.State.{Core, State}
-use Rattle.chip_machine.specs.Step.{Effect, Stops, Changes, Keyed, Loads, Stores, effect, effect_at, effect_of_word, is_key_down, perform, reg, settle, skip_if, step_of, super_only, take_key}
+use Rattle.chip_machine.specs.Step.{Effect, Stops, Changes, Keyed, Loads, Stores, draws_nothing, effect, effect_at, effect_of_word, is_key_down, perform, reg, settle, skip_if, step_of, super_only, take_key}
 use Rattle.chip_machine.specs.Choices.{IsWithin, IsChoice, Represents}
 use Rattle.chip_machine.specs.inner.KeyRows.{choices_of}
 
@@ -109,7 +108,7 @@ either_represents true allowed some one other h k = h
 either_represents false allowed some one other h k = k
 
 super_represents : (c : Core) (allowed some : ℕ) (effect : Effect) → Acts allowed some effect → Acts allowed some (super_only c effect)
-super_represents c allowed some effect h = either_represents (quirks c.profile).has_super_instructions allowed some effect (Stops cause.NoInstruction) h tt
+super_represents c allowed some effect h = either_represents c.quirks.has_super_instructions allowed some effect (Stops cause.NoInstruction) h tt
 
 row_represents : (allowed : ℕ) (i : Instr) (c : Core) → Acts allowed (choices_of allowed i c) (effect i c)
 unfolding effect
@@ -141,7 +140,7 @@ row_represents allowed (row.SkipUnlessEqual x y) c = tt
 row_represents allowed (row.LoadIndex address) c = tt
 row_represents allowed (row.JumpOffset address) c = tt
 row_represents allowed (row.Random x byte) c = tt
-row_represents allowed (row.Draw x y n) c = either_represents (not (quirks c.profile).draws_sixteen && n == 0) allowed 0 _ _ tt tt
+row_represents allowed (row.Draw x y n) c = either_represents (draws_nothing n c) allowed 0 _ _ tt tt
 row_represents allowed (row.SkipIfKey x) c = skip_represents allowed (reg c x % 16) (λ down. skip_if down c)
 row_represents allowed (row.SkipUnlessKey x) c = skip_represents allowed (reg c x % 16) (λ down. skip_if (not down) c)
 row_represents allowed (row.ReadDelay x) c = tt

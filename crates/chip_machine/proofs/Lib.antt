@@ -9,11 +9,13 @@ pub mod Masks
 pub mod NextStep
 pub mod Notes
 pub mod PointLemmas
+pub mod QuirkLemmas
 pub mod Relevant
 pub mod RowLemmas
 pub mod ScreenExamples
 pub mod Spans
 pub mod SpriteLemmas
 pub mod StartMemory
+pub mod StripeLemmas
 pub mod Ticks
 pub mod Unread

@@ -17,12 +17,11 @@ use Rattle.chip_machine.specs.declared.stop.Stop.{Stop}
 use Rattle.chip_machine.specs.declared.stop.Stop.TheVariants as cause
 use Rattle.chip_machine.specs.Forgotten.{first_registers, flag_part, has_part, index_part, is_forgotten_by, is_one_of, next_instr, parts_by, reads, register_part, screen_part, sets, spoils}
 use Rattle.chip_machine.specs.Points.{Points, meets, symmetric_difference}
-use Rattle.chip_machine.specs.Profile.{quirks}
 use Rattle.chip_machine.specs.Relevant.{Alike, AlikeSteps, DrawsGrow, QuietTick, others}
 use Rattle.chip_machine.specs.Scroll.{scrolled_down, scrolled_right, scrolled_left}
-use Rattle.chip_machine.specs.Sprite.{covered, sprite_bytes}
+use Rattle.chip_machine.specs.Sprite.{covered, row_bytes, sprite_bytes}
 use Rattle.chip_machine.specs.State.{Core, State, IsProper, overwrite}
-use Rattle.chip_machine.specs.Step.{Effect, Stops, Changes, Keyed, Loads, Stores, bit_of, call, decimal_digits, effect, effect_at, effect_of_word, go_to, is_key_down, is_past, load_flags, next, perform, reg, return, settle, skip_if, step_of, store_flags, super_only, take_key, ticked, with_flag, with_index, with_lit, with_reg, with_size, with_sprite, word_at}
+use Rattle.chip_machine.specs.Step.{Effect, Stops, Changes, Keyed, Loads, Stores, bit_of, call, decimal_digits, draws_nothing, effect, effect_at, effect_of_word, go_to, has_wide_sixteen, index_past, is_key_down, is_past, load_flags, next, perform, reg, resized, return, scrolled_by, settle, skip_if, step_of, store_flags, super_only, take_key, ticked, with_flag, with_index, with_lit, with_reg, with_size, with_sprite, word_at}
 use Rattle.chip_machine.specs.inner.FrameTheorem.{step_keeps_proper}
 use Rattle.chip_machine.proofs.Agree.{Agree, both, first_known, first_off, in_row, known_at, less, load, none_known, off_by, put, reindex, relight, unset}
 
@@ -85,7 +84,7 @@ module _ (before : ℕ) (after : ℕ → Bool) (keys to : ℕ) (c : Core) (r : L
   super_by false f h = refl
 
   super : (f : Core → Effect) → LikeBy (f c) (f d) → LikeBy (super_only c (f c)) (super_only d (f d))
-  super f h = super_by (quirks c.profile).has_super_instructions f h
+  super f h = super_by c.quirks.has_super_instructions f h
 
   steady : (c.draws % length c.tape ≡ e % length c.tape) × (c.draws ≤ c.draws + 1)
   steady = (same, omega arith)
@@ -156,6 +155,28 @@ module _ (before : ℕ) (after : ℕ → Bool) (keys to : ℕ) (c : Core) (r : L
   logic true x v w same h = (refl, set_two x v w 0 0 same refl h, steady)
   logic false x v w same h = (refl, set_one x v w same h, steady)
 
+  resize : (clears high : Bool) → LeftBy (if clears then screen_part ∷ [] else []) []
+      → NearBy (next (with_size high (if clears then with_lit set.empty c else c))) (next (with_size high (if clears then with_lit set.empty d else d)))
+  resize true high h = (refl, relight set.empty set.empty (λ _. refl) (rest_of_one screen_part h) base, steady)
+  resize false high h = (refl, keep h, steady)
+
+  -- I and a number more, where VF says how large the sum is, or stays
+  abbrev summed : Bool → ℕ → Core → Core
+  summed flags n k =
+      let moved = with_index ((k.index + n) % 65536) k in
+      if flags then with_reg 15 (bit_of (nat_lt 4095 (k.index + n))) moved else moved
+
+  add : (flags : Bool) (x : ℕ) → known (if flags then index_part ∷ register_part x ∷ [] else register_part x ∷ []) ≡ true → LeftBy (if flags then flag_part ∷ [] else []) []
+      → NearBy (next (summed flags (reg c x) c)) (next (summed flags (reg d x) d))
+  add true x u h =
+      let first = split index_part (register_part x ∷ []) u in
+      let sum : c.index + reg c x ≡ i + slice_index r x = both (λ m n. m + n) (base.index first.0) (value x first.1) in (
+        refl,
+        put 15 _ _ (λ _. ap (λ (n : ℕ). bit_of (nat_lt 4095 n)) sum) (rest_of_one flag_part h) (reindex _ _ (λ _. ap (λ (n : ℕ). n % 65536) sum) (λ part known. inr known) base),
+        steady,
+      )
+  add false x u h = (refl, reindex _ _ (λ off. both (λ m n. (m + n) % 65536) ((keep h).index off) (value x u)) (λ part off. inr off) (keep h), steady)
+
   rest_of_draw : (dark : Bool) → LeftBy (if dark then [] else flag_part ∷ []) (if dark then flag_part ∷ [] else []) → (part : ℕ) → after part ≡ false → (part ≡ flag_part) ⊎ (has_part before part ≡ false)
   rest_of_draw true h part off =
       inr (first_off _ (or_parts _ _ (off_by _ _ (h part) off)).0)
@@ -168,17 +189,17 @@ module _ (before : ℕ) (after : ℕ → Bool) (keys to : ℕ) (c : Core) (r : L
   drawn_near : (x y n : ℕ) (sprite : List ℕ) → LeftBy (if has_part before screen_part then [] else flag_part ∷ []) (if has_part before screen_part then flag_part ∷ [] else [])
       → NearBy (next (with_sprite x y n sprite c)) (next (with_sprite x y n sprite d))
   drawn_near x y n sprite h =
-      let under = covered c.high x y n sprite in (
+      let under = covered c.quirks.wraps c.high x y (row_bytes (has_wide_sixteen c) n) sprite in (
         refl,
         put 15 _ _ (λ off. ap (λ (p : Points). bit_of (meets p under)) (base.screen (seen _ h off))) (rest_of_draw _ h)
             (relight (symmetric_difference c.lit under) (symmetric_difference l under) (λ known. ap (λ (p : Points). symmetric_difference p under) (base.screen known)) (λ part known. inr known) base),
         steady,
       )
 
-  draw_like : (draws_nothing : Bool) (x y n : ℕ) → known (index_part ∷ register_part x ∷ register_part y ∷ []) ≡ true
+  draw_like : (nothing : Bool) (x y n : ℕ) → known (index_part ∷ register_part x ∷ register_part y ∷ []) ≡ true
       → LeftBy (if has_part before screen_part then [] else flag_part ∷ []) (if has_part before screen_part then flag_part ∷ [] else [])
-      → LikeBy (if draws_nothing then Changes (next (with_reg 15 0 c)) else Loads (sprite_bytes c.high n) (λ sprite. next (with_sprite (reg c x) (reg c y) n sprite c)))
-      (if draws_nothing then Changes (next (with_reg 15 0 d)) else Loads (sprite_bytes c.high n) (λ sprite. next (with_sprite (reg d x) (reg d y) n sprite d)))
+      → LikeBy (if nothing then Changes (next (with_reg 15 0 c)) else Loads (sprite_bytes (has_wide_sixteen c) n) (λ sprite. next (with_sprite (reg c x) (reg c y) n sprite c)))
+      (if nothing then Changes (next (with_reg 15 0 d)) else Loads (sprite_bytes (has_wide_sixteen c) n) (λ sprite. next (with_sprite (reg d x) (reg d y) n sprite d)))
   draw_like true x y n u h = (refl, put 15 0 0 (λ _. refl) (rest_of_draw _ h) base, steady)
   draw_like false x y n u h =
       let at = split index_part (register_part x ∷ register_part y ∷ []) u in (
@@ -197,17 +218,17 @@ module _ (before : ℕ) (after : ℕ → Bool) (keys to : ℕ) (c : Core) (r : L
       (refl, keep (subst (λ (b : Bool). LeftBy (if not b then register_part x ∷ [] else []) []) (eq-eqb to c.pc (sym leads)) h), steady)
   waits (Some k) x leads h = (refl, put x k k (λ _. refl) (rest_of_wait _ x h) base, steady)
 
-  row_like : (instr : Instr) → known (reads (quirks c.profile) instr) ≡ true
-      → LeftBy (sets (quirks c.profile) (not (to == c.pc)) before instr) (spoils before instr) → Leads keys to (effect instr c) → LikeBy (effect instr c) (effect instr d)
+  row_like : (instr : Instr) → known (reads c.quirks instr) ≡ true
+      → LeftBy (sets c.quirks (not (to == c.pc)) before instr) (spoils before instr) → Leads keys to (effect instr c) → LikeBy (effect instr c) (effect instr d)
   unfolding effect reads sets spoils
-  row_like (row.ScrollDown n) u h g = super (λ k. Changes (next (with_lit (scrolled_down n k.lit) k))) (refl, relight _ _ (λ off. ap (scrolled_down n) ((keep h).screen off)) (λ part off. inr off) (keep h), steady)
+  row_like (row.ScrollDown n) u h g = super (λ k. Changes (next (with_lit (scrolled_down (scrolled_by n k) k.lit) k))) (refl, relight _ _ (λ off. ap (scrolled_down (scrolled_by n c)) ((keep h).screen off)) (λ part off. inr off) (keep h), steady)
   row_like row.ClearScreen u h g = (refl, relight set.empty set.empty (λ _. refl) (rest_of_one screen_part h) base, steady)
   row_like row.Return u h g = either _ _ (λ k. Changes (return k)) (λ _. (refl, keep h, steady))
-  row_like row.ScrollRight u h g = super (λ k. Changes (next (with_lit (scrolled_right 4 k.lit) k))) (refl, relight _ _ (λ off. ap (scrolled_right 4) ((keep h).screen off)) (λ part off. inr off) (keep h), steady)
-  row_like row.ScrollLeft u h g = super (λ k. Changes (next (with_lit (scrolled_left 4 k.lit) k))) (refl, relight _ _ (λ off. ap (scrolled_left 4) ((keep h).screen off)) (λ part off. inr off) (keep h), steady)
+  row_like row.ScrollRight u h g = super (λ k. Changes (next (with_lit (scrolled_right (scrolled_by 4 k) k.lit) k))) (refl, relight _ _ (λ off. ap (scrolled_right (scrolled_by 4 c)) ((keep h).screen off)) (λ part off. inr off) (keep h), steady)
+  row_like row.ScrollLeft u h g = super (λ k. Changes (next (with_lit (scrolled_left (scrolled_by 4 k) k.lit) k))) (refl, relight _ _ (λ off. ap (scrolled_left (scrolled_by 4 c)) ((keep h).screen off)) (λ part off. inr off) (keep h), steady)
   row_like row.Exit u h g = super (λ k. Stops cause.Exit) refl
-  row_like row.LowSize u h g = super (λ k. Changes (next (with_size false k))) (refl, keep h, steady)
-  row_like row.HighSize u h g = super (λ k. Changes (next (with_size true k))) (refl, keep h, steady)
+  row_like row.LowSize u h g = super (λ k. Changes (next (resized false k))) (resize c.quirks.clears_at_size false h)
+  row_like row.HighSize u h g = super (λ k. Changes (next (resized true k))) (resize c.quirks.clears_at_size true h)
   row_like (row.Jump address) u h g = (refl, keep h, steady)
   row_like (row.Call address) u h g = either _ _ (λ k. Changes (call address k)) (λ _. (refl, keep h, steady))
   row_like (row.SkipIfByte x byte) u h g = (ap (λ (n : ℕ). others (skip_if (n == byte) c)) (value x u), keep h, steady)
@@ -216,9 +237,9 @@ module _ (before : ℕ) (after : ℕ → Bool) (keys to : ℕ) (c : Core) (r : L
   row_like (row.LoadByte x byte) u h g = (refl, set_one x byte byte refl h, steady)
   row_like (row.AddByte x byte) u h g = (refl, put x _ _ (λ off. ap (λ (n : ℕ). (n + byte) % 256) ((keep h).registers x off)) (λ part off. inr off) (keep h), steady)
   row_like (row.Copy x y) u h g = (refl, set_one x _ _ (value y u) h, steady)
-  row_like (row.Or x y) u h g = logic (quirks c.profile).clears_flag x _ _ (values bit_or x y u) h
-  row_like (row.And x y) u h g = logic (quirks c.profile).clears_flag x _ _ (values bit_and x y u) h
-  row_like (row.Xor x y) u h g = logic (quirks c.profile).clears_flag x _ _ (values bit_xor x y u) h
+  row_like (row.Or x y) u h g = logic c.quirks.clears_flag x _ _ (values bit_or x y u) h
+  row_like (row.And x y) u h g = logic c.quirks.clears_flag x _ _ (values bit_and x y u) h
+  row_like (row.Xor x y) u h g = logic c.quirks.clears_flag x _ _ (values bit_xor x y u) h
   row_like (row.Add x y) u h g = (refl, set_two x _ _ _ _ (values (λ m n. (m + n) % 256) x y u) (values (λ m n. bit_of (nat_lt 255 (m + n))) x y u) h, steady)
   row_like (row.Subtract x y) u h g = (refl, set_two x _ _ _ _ (values (λ m n. (256 + m - n) % 256) x y u) (values (λ m n. bit_of (nat_le n m)) x y u) h, steady)
   row_like (row.ShiftRight x y) u h g = (refl, set_two x _ _ _ _ (ap (λ (n : ℕ). n / 2) (value _ u)) (ap (λ (n : ℕ). n % 2) (value _ u)) h, steady)
@@ -228,21 +249,21 @@ module _ (before : ℕ) (after : ℕ → Bool) (keys to : ℕ) (c : Core) (r : L
   row_like (row.LoadIndex address) u h g = (refl, reindex address address (λ _. refl) (rest_of_one index_part h) base, steady)
   row_like (row.JumpOffset address) u h g = (ap (λ (n : ℕ). others (go_to (address + n) c)) (value _ u), keep h, steady)
   row_like (row.Random x byte) u h g = (refl, set_one x _ _ (ap (λ (place : ℕ). bit_and (slice_index c.tape place) byte) same) h, (more, omega arith))
-  row_like (row.Draw x y n) u h g = draw_like _ x y n u h
+  row_like (row.Draw x y n) u h g = draw_like (draws_nothing n c) x y n u h
   row_like (row.SkipIfKey x) u h g = (ap (λ (n : ℕ). others (skip_if (is_key_down keys (n % 16)) c)) (value x u), keep h, steady)
   row_like (row.SkipUnlessKey x) u h g = (ap (λ (n : ℕ). others (skip_if (not (is_key_down keys (n % 16))) c)) (value x u), keep h, steady)
   row_like (row.ReadDelay x) u h g = (refl, set_one x c.delay c.delay refl h, steady)
   row_like (row.WaitKey x) u h g = waits (find (is_key_down keys) (range_with_len 0 16)) x g h
   row_like (row.SetDelay x) u h g = (ap (λ (n : ℕ). others (next (record c { delay = n }))) (value x u), keep h, steady)
   row_like (row.SetSound x) u h g = (refl, keep h, steady)
-  row_like (row.AddIndex x) u h g = (refl, reindex _ _ (λ off. both (λ m n. (m + n) % 65536) ((keep h).index off) (value x u)) (λ part off. inr off) (keep h), steady)
+  row_like (row.AddIndex x) u h g = add c.quirks.flags_overflow x u h
   row_like (row.SmallDigit x) u h g = (refl, reindex _ _ (λ _. ap (λ (n : ℕ). 5 * (n % 16)) (value x u)) (rest_of_one index_part h) base, steady)
   row_like (row.BigDigit x) u h g = super (λ k. Changes (next (with_index (80 + 10 * (reg k x % 16)) k))) (refl, reindex _ _ (λ _. ap (λ (n : ℕ). 80 + 10 * (n % 16)) (value x u)) (rest_of_one index_part h) base, steady)
   row_like (row.StoreDecimal x) u h g = let at = split index_part (register_part x ∷ []) u in (ap decimal_digits (value x at.1), base.index at.0, (refl, keep h, steady))
   row_like (row.StoreRegisters x) u h g =
       let first = split index_part (first_registers x) u in
       let at = base.index first.0 in
-      (taken x first.1, at, (refl, reindex _ _ (λ _. ap (λ (n : ℕ). if (quirks c.profile).moves_index then (n + x + 1) % 65536 else n) at) (λ part off. inr off) (keep h), steady))
+      (taken x first.1, at, (refl, reindex _ _ (λ _. ap (index_past c.quirks.index_move x) at) (λ part off. inr off) (keep h), steady))
   row_like (row.LoadRegisters x) u h g =
       let at = base.index (split index_part [] u).0 in (
         refl,
@@ -250,7 +271,7 @@ module _ (before : ℕ) (after : ℕ → Bool) (keys to : ℕ) (c : Core) (r : L
         λ bytes size. (
           refl,
           load bytes (length bytes) refl (λ part off. subst (λ (n : ℕ). ((register_part 0 ≤ part) × (part < register_part n)) ⊎ (has_part before part ≡ false)) (sym (size part off)) (rest_of_row x h part off))
-              (reindex _ _ (λ _. ap (λ (n : ℕ). if (quirks c.profile).moves_index then (n + x + 1) % 65536 else n) at) (λ part known. inr known) base),
+              (reindex _ _ (λ _. ap (index_past c.quirks.index_move x) at) (λ part known. inr known) base),
           steady,
         ),
       )
@@ -261,14 +282,14 @@ module _ (before : ℕ) (after : ℕ → Bool) (keys to : ℕ) (c : Core) (r : L
       let many : x < length c.flags = leb-false (length c.flags) x low in
       (refl, load (take (x + 1) c.flags) (x + 1) (omega (arith, length-take (x + 1) c.flags)) (rest_of_row x h) base, steady)))
 
-  word_like : (word : Option Instr) → known (parts_by (reads (quirks c.profile)) word) ≡ true
-      → LeftBy (parts_by (sets (quirks c.profile) (not (to == c.pc)) before) word) (parts_by (spoils before) word) → Leads keys to (effect_of_word word c) → LikeBy (effect_of_word word c) (effect_of_word word d)
+  word_like : (word : Option Instr) → known (parts_by (reads c.quirks) word) ≡ true
+      → LeftBy (parts_by (sets c.quirks (not (to == c.pc)) before) word) (parts_by (spoils before) word) → Leads keys to (effect_of_word word c) → LikeBy (effect_of_word word c) (effect_of_word word d)
   word_like None u h g = refl
   word_like (Some instr) u h g = row_like instr u h g
 
   at_like : (past : Bool) (word : Option Instr) → (let instr : Option Instr = if past then None else word in
-      known (parts_by (reads (quirks c.profile)) instr) ≡ true
-      → LeftBy (parts_by (sets (quirks c.profile) (not (to == c.pc)) before) instr) (parts_by (spoils before) instr)
+      known (parts_by (reads c.quirks) instr) ≡ true
+      → LeftBy (parts_by (sets c.quirks (not (to == c.pc)) before) instr) (parts_by (spoils before) instr)
       → Leads keys to (if past then Stops cause.PcOutOfRange else effect_of_word word c)
       → LikeBy (if past then Stops cause.PcOutOfRange else effect_of_word word c) (if past then Stops cause.PcOutOfRange else effect_of_word word d))
   at_like true word u h g = refl
@@ -338,12 +359,12 @@ module _ (before : ℕ) (after : ℕ → Bool) (s : State) (r : List ℕ) (i : �
     (base : is_some s.core.stopped ≡ false → Agree (λ part. has_part before part ≡ false) s.core.registers r s.core.index i s.core.lit l)
     (count : length s.core.registers ≡ length r) (same : s.core.draws % length s.core.tape ≡ e % length s.core.tape)
     (more : min (s.core.draws + 1) top % length s.core.tape ≡ min (e + 1) top % length s.core.tape) (keys : ℕ) (tick : Bool)
-    (unread : list_all (λ part. not (has_part before part)) (parts_by (reads (quirks s.core.profile)) (next_instr s)) ≡ true) where
+    (unread : list_all (λ part. not (has_part before part)) (parts_by (reads s.core.quirks) (next_instr s)) ≡ true) where
   abbrev stepped : Bool → State → State
   stepped stopped a = if stopped then a else settle tick a (perform keys a (effect_at a))
 
   abbrev LeftAt : ℕ → Type 0
-  LeftAt to = Left before after (parts_by (sets (quirks s.core.profile) (not (to == s.core.pc)) before) (next_instr s)) (parts_by (spoils before) (next_instr s))
+  LeftAt to = Left before after (parts_by (sets s.core.quirks (not (to == s.core.pc)) before) (next_instr s)) (parts_by (spoils before) (next_instr s))
 
   step_by : (stopped : Bool) → is_some s.core.stopped ≡ stopped → LeftAt (stepped stopped s).core.pc
       → Ends after (s.core.draws + 1) (stepped stopped s) (stepped stopped (record s { core = twin s.core r i l z e }))
@@ -396,7 +417,7 @@ alike_steps before after a b keys tick h unread left low_a low_b =
 pub draws_grow : DrawsGrow
 draws_grow s keys tick =
     (step_like 0 (λ _. true) s s.core.registers s.core.index s.core.lit s.core.sound s.core.draws (λ part off. absurd (cc))
-    (λ _. record { count = refl; registers = λ _ _. refl; index = λ _. refl; screen = λ _. refl }) refl refl refl keys tick (none_known (parts_by (reads (quirks s.core.profile)) (next_instr s))) (λ _ _. refl)).few
+    (λ _. record { count = refl; registers = λ _ _. refl; index = λ _. refl; screen = λ _. refl }) refl refl refl keys tick (none_known (parts_by (reads s.core.quirks) (next_instr s))) (λ _ _. refl)).few
 
 quieted : (a : State) (d z : ℕ) → d ≡ a.core.delay → length a.memory ≡ MEMORY_BYTES → Alike 0 (record a { core = record a.core { delay = d; sound = z } }) a
 quieted a d z stays size =

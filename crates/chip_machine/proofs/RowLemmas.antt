@@ -80,7 +80,7 @@ unfolding row_bytes_by_length
 row_bytes-wide sprite h = cond-true (nat_eq (length sprite) 32) 2 1 (eq-eqb (length sprite) 32 h)
 
 -- a bit of the byte that holds the point
-point_at : (w : ℕ) (sprite : List ℕ) (i j place k : ℕ) → i < 8 * w → w * j + i / 8 ≡ place → 7 - i % 8 ≡ k → (bit_at (get_or sprite place 0) k == 1) ≡ is_set w sprite i j
+pub point_at : (w : ℕ) (sprite : List ℕ) (i j place k : ℕ) → i < 8 * w → w * j + i / 8 ≡ place → 7 - i % 8 ≡ k → (bit_at (get_or sprite place 0) k == 1) ≡ is_set w sprite i j
 point_at w sprite i j place k within at bit = (λ t. bit_at (get_or sprite (sym at t) 0) (sym bit t) == 1) ∙ sym (is_set-inside w sprite i j within)
 
 module _ (sprite : List ℕ) (j : ℕ) where
@@ -186,18 +186,18 @@ in_rows-scrolled_down n old new moved entered =
     ∙ ap (λ b. b && lights (get_or old (r - n) 0) c) (sym (le-leb n r kept)))
     (cases_lt r n))
 
-pub in_rows-scrolled_right : (old new : List ℕ)
+pub in_rows-scrolled_right : (n : ℕ) (old new : List ℕ) → n ≤ 128
     → ((r : ℕ) → get_or old r 0 < 2 ^ 128)
-    → ((r : ℕ) → r < 64 → get_or new r 0 ≡ get_or old r 0 / 2 ^ 4)
-    → in_rows new ≡ scrolled_right 4 (in_rows old)
-in_rows-scrolled_right old new fits moved =
-    scrolled_right_where 4 (λ c r. lights (get_or new r 0) c) (λ c r. lights (get_or old r 0) c) (λ c r left high.
-    ap (λ bits. lights bits c) (moved r high) ∙ lights_shr (get_or old r 0) 4 c (fits r) (omega arith) left)
+    → ((r : ℕ) → r < 64 → get_or new r 0 ≡ get_or old r 0 / 2 ^ n)
+    → in_rows new ≡ scrolled_right n (in_rows old)
+in_rows-scrolled_right n old new few fits moved =
+    scrolled_right_where n (λ c r. lights (get_or new r 0) c) (λ c r. lights (get_or old r 0) c) (λ c r left high.
+    ap (λ bits. lights bits c) (moved r high) ∙ lights_shr (get_or old r 0) n c (fits r) few left)
 
-pub in_rows-scrolled_left : (old new : List ℕ)
-    → ((r : ℕ) → r < 64 → get_or new r 0 ≡ get_or old r 0 * 2 ^ 4 % 2 ^ 128)
-    → in_rows new ≡ scrolled_left 4 (in_rows old)
-in_rows-scrolled_left old new moved =
-    scrolled_left_where 4 (λ c r. lights (get_or new r 0) c) (λ c r. lights (get_or old r 0) c)
-    (λ c r inside high. ap (λ bits. lights bits c) (moved r high) ∙ lights_shl (get_or old r 0) 4 c (omega arith) inside)
-    (λ c r left out high. ap (λ bits. lights bits c) (moved r high) ∙ lights_shl_out (get_or old r 0) 4 c left out)
+pub in_rows-scrolled_left : (n : ℕ) (old new : List ℕ)
+    → ((r : ℕ) → r < 64 → get_or new r 0 ≡ get_or old r 0 * 2 ^ n % 2 ^ 128)
+    → in_rows new ≡ scrolled_left n (in_rows old)
+in_rows-scrolled_left n old new moved =
+    scrolled_left_where n (λ c r. lights (get_or new r 0) c) (λ c r. lights (get_or old r 0) c)
+    (λ c r inside high. ap (λ bits. lights bits c) (moved r high) ∙ lights_shl (get_or old r 0) n c (omega arith) inside)
+    (λ c r left out high. ap (λ bits. lights bits c) (moved r high) ∙ lights_shl_out (get_or old r 0) n c left out)

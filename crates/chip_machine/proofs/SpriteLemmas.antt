@@ -1,12 +1,12 @@
 -- Which points a sprite covers, as the code finds them.
-use Rattle.std.proofs.Common.{◌≡◌, ℕ, ◌+◌, ◌-◌, ◌*◌, ◌/◌, ◌%◌, ◌<◌, ◌≤◌, Bool, true, false, ◌&&◌, ◌==◌, nat_eq, nat_lt, nat_le, min, List, length, get_or, refl, sym, ap, subst, ◌∙◌, arith, ◌≢◌, ⊎_elim}
+use Rattle.std.proofs.Common.{◌≡◌, ℕ, ◌+◌, ◌-◌, ◌*◌, ◌/◌, ◌%◌, ◌<◌, ◌≤◌, Bool, true, false, not, ◌&&◌, ◌||◌, ◌==◌, nat_eq, nat_lt, nat_le, min, List, length, get_or, refl, sym, ap, subst, ◌∙◌, arith, ◌≢◌, ⊎_elim}
 use Rattle.std.specs.Int.{bit_at}
-use Rattle.std.proofs.lemmas.Bool.{cond-true, cond-false, cases_eq, eq-eqb, ne_eqb, le-ltb, lt-ltb, le-leb, lt-leb, and_left, and_right}
+use Rattle.std.proofs.lemmas.Bool.{false≢true, cond-true, cond-false, cases_eq, eq-eqb, ne_eqb, le-ltb, lt-ltb, le-leb, lt-leb, and_left, and_right}
 use Rattle.std.proofs.lemmas.Nat.Bits.{bit_at-zero}
 use Rattle.std.proofs.lemmas.List.{get_or_past}
 use Rattle.std.proofs.Math.Nat.{mul-le-mul_right, mul_comm}
-use Rattle.chip_machine.specs.Sprite.{draws_over, is_set, row_bytes, scale, sprite_bytes}
-use Rattle.chip_machine.specs.inner.SpriteBytes.{covers_by_length, row_bytes_by_length}
+use Rattle.chip_machine.specs.Sprite.{clipped_over, is_set, row_bytes, scale, sprite_bytes}
+use Rattle.chip_machine.specs.inner.SpriteBytes.{covers, covers_by_length, row_bytes_by_length, sprite_row_bytes}
 
 pub is_set-inside : (w : ℕ) (sprite : List ℕ) (i j : ℕ) → i < 8 * w → is_set w sprite i j ≡ (bit_at (get_or sprite (w * j + i / 8) 0) (7 - i % 8) == 1)
 unfolding is_set
@@ -37,26 +37,26 @@ three_tests a b c p q = λ i. p i && q i && c
 module _ (high : Bool) (x y : ℕ) (sprite : List ℕ) (column row : ℕ) where
   pub covers-inside : (s : ℕ) → s ≡ scale high → x % (128 / s) ≤ column / s → y % (64 / s) ≤ row / s
       → is_set (row_bytes_by_length high sprite) sprite (column / s - x % (128 / s)) (row / s - y % (64 / s)) ≡ covers_by_length high x y sprite column row
-  unfolding draws_over
+  unfolding clipped_over
   covers-inside s e left top =
       sym (three_tests _ _ (is_set (row_bytes_by_length high sprite) sprite (column / s - x % (128 / s)) (row / s - y % (64 / s))) (le-leb (x % (128 / s)) (column / s) left) (le-leb (y % (64 / s)) (row / s) top))
       ∙ ap (λ s. nat_le (x % (128 / s)) (column / s) && nat_le (y % (64 / s)) (row / s) && is_set (row_bytes_by_length high sprite) sprite (column / s - x % (128 / s)) (row / s - y % (64 / s))) e
 
   pub covers_left : (s : ℕ) → s ≡ scale high → column / s < x % (128 / s) → covers_by_length high x y sprite column row ≡ false
-  unfolding draws_over
+  unfolding clipped_over
   covers_left s e out =
       ap (λ s. nat_le (x % (128 / s)) (column / s) && nat_le (y % (64 / s)) (row / s) && is_set (row_bytes_by_length high sprite) sprite (column / s - x % (128 / s)) (row / s - y % (64 / s))) (sym e)
       ∙ and_left _ _ (and_left _ _ (lt-leb (x % (128 / s)) (column / s) out))
 
   -- below the last row of the sprite
   pub covers_below : (s n : ℕ) → s ≡ scale high → length sprite ≤ row_bytes_by_length high sprite * n → n ≤ row / s - y % (64 / s) → covers_by_length high x y sprite column row ≡ false
-  unfolding draws_over
+  unfolding clipped_over
   covers_below s n e few past =
       ap (λ s. nat_le (x % (128 / s)) (column / s) && nat_le (y % (64 / s)) (row / s) && is_set (row_bytes_by_length high sprite) sprite (column / s - x % (128 / s)) (row / s - y % (64 / s))) (sym e)
       ∙ and_right (nat_le (x % (128 / s)) (column / s) && nat_le (y % (64 / s)) (row / s)) _ (is_set_below (row_bytes_by_length high sprite) n sprite (column / s - x % (128 / s)) (row / s - y % (64 / s)) few past)
 
   pub covers_above : (s : ℕ) → s ≡ scale high → row / s < y % (64 / s) → covers_by_length high x y sprite column row ≡ false
-  unfolding draws_over
+  unfolding clipped_over
   covers_above s e out =
       ap (λ s. nat_le (x % (128 / s)) (column / s) && nat_le (y % (64 / s)) (row / s) && is_set (row_bytes_by_length high sprite) sprite (column / s - x % (128 / s)) (row / s - y % (64 / s))) (sym e)
       ∙ and_left _ _ (and_right (nat_le (x % (128 / s)) (column / s)) _ (lt-leb (y % (64 / s)) (row / s) out))
@@ -100,10 +100,20 @@ pub scale_step : (high : Bool) (line : ℕ) → scale high * (line + 1) ≡ scal
 scale_step true line = omega arith
 scale_step false line = omega arith
 
+-- all lines fill the screen
+pub lines_fill : (high : Bool) (s : ℕ) → s ≡ scale high → s * (64 / s) ≡ 64
+lines_fill true s e = ap (λ (s : ℕ). s * (64 / s)) e
+lines_fill false s e = ap (λ (s : ℕ). s * (64 / s)) e
+
 -- the length of a sprite of n rows tells the bytes in a row
-pub row_bytes_by_rows : (high : Bool) (n : ℕ) (sprite : List ℕ) → n < 16 → length sprite ≡ sprite_bytes high n → row_bytes_by_length high sprite ≡ row_bytes high n
-unfolding row_bytes row_bytes_by_length
-row_bytes_by_rows false n sprite small size = refl
+pub row_bytes_by_rows : (wide : Bool) (n : ℕ) (sprite : List ℕ) → n < 16 → length sprite ≡ sprite_bytes wide n → sprite_row_bytes sprite ≡ row_bytes wide n
+unfolding row_bytes sprite_row_bytes
+row_bytes_by_rows false n sprite small size =
+    cond-false (nat_eq (length sprite) 32) 2 1 (ne_eqb (length sprite) 32 (λ (long : length sprite ≡ 32).
+    ⊎_elim
+    (λ (zero : n ≡ 0). let short : length sprite ≡ 16 = size ∙ cond-true (nat_eq n 0) 16 n (eq-eqb n 0 zero) in absurd (omega (arith, long, short)))
+    (λ (some : n ≢ 0). let short : length sprite ≡ n = size ∙ cond-false (nat_eq n 0) 16 n (ne_eqb n 0 some) in absurd (omega (arith, long, short)))
+    (cases_eq n 0)))
 row_bytes_by_rows true n sprite small size =
     ⊎_elim
     (λ (zero : n ≡ 0).
@@ -113,3 +123,17 @@ row_bytes_by_rows true n sprite small size =
     let long : length sprite ≡ n = size ∙ cond-false (nat_eq n 0) 32 n (ne_eqb n 0 some) in
     cond-false (nat_eq (length sprite) 32) 2 1 (ne_eqb (length sprite) 32 (λ (e : length sprite ≡ 32). omega arith)) ∙ sym (cond-false (nat_eq n 0) 2 1 (ne_eqb n 0 some)))
     (cases_eq n 0)
+
+-- a clipped sprite that isn't wide in the low size has the bytes in a row that its loop takes
+pub row_bytes-clipped : (high : Bool) (sprite : List ℕ) → (high ≡ false → length sprite ≡ 32 → ⊥) → row_bytes_by_length high sprite ≡ sprite_row_bytes sprite
+unfolding row_bytes_by_length sprite_row_bytes
+row_bytes-clipped true sprite narrow = refl
+row_bytes-clipped false sprite narrow = sym (cond-false (nat_eq (length sprite) 32) 2 1 (ne_eqb (length sprite) 32 (narrow refl)))
+
+-- what its loop draws
+pub covers-clipped : (wraps high : Bool) (x y : ℕ) (sprite : List ℕ) → (not wraps && (not (length sprite == 32) || high)) ≡ true → covers_by_length high x y sprite ≡ covers wraps high x y sprite
+covers-clipped true high x y sprite h = absurd (false≢true h)
+covers-clipped false true x y sprite h =
+    ap (λ (w : ℕ). clipped_over true x y w sprite) (row_bytes-clipped true sprite (λ low. absurd (false≢true (sym low))))
+covers-clipped false false x y sprite h =
+    ap (λ (w : ℕ). clipped_over false x y w sprite) (row_bytes-clipped false sprite (λ low long. false≢true (sym (ap (λ (b : Bool). not b || false) (eq-eqb (length sprite) 32 long)) ∙ h)))

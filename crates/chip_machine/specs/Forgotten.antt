@@ -16,8 +16,7 @@ use Rattle.chip_lang.specs.Decoding.{decode_of}
 use Rattle.chip_lang.specs.declared.instr.Instr.{Instr}
 use Rattle.chip_lang.specs.declared.instr.Instr.TheVariants as row
 use Rattle.chip_machine.specs.declared.limits.TheConstants.{LAST_WORD}
-use Rattle.chip_machine.specs.declared.profile.Quirks.{Quirks}
-use Rattle.chip_machine.specs.Profile.{quirks}
+use Rattle.chip_machine.specs.declared.quirks.Quirks.{Quirks}
 use Rattle.chip_machine.specs.State.{State}
 use Rattle.chip_machine.specs.Step.{word_at}
 
@@ -43,7 +42,7 @@ has_part parts k = parts / 2 ^ k % 2 == 1
 -- ---- by the rows of the table
 
 -- a row that isn't here reads none of the parts. An ADD reads neither Vx nor I for itself, and
--- nothing depends on the sound timer.
+-- nothing depends on the sound timer. Where an ADD to I sets VF, that depends on I.
 unfoldable pub reads : Quirks → Instr → List ℕ
 reads q (row.SkipIfByte x byte) = register_part x ∷ []
 reads q (row.SkipUnlessByte x byte) = register_part x ∷ []
@@ -64,7 +63,8 @@ reads q (row.Draw x y n) = index_part ∷ register_part x ∷ register_part y �
 reads q (row.SkipIfKey x) = register_part x ∷ []
 reads q (row.SkipUnlessKey x) = register_part x ∷ []
 reads q (row.SetDelay x) = register_part x ∷ []
-reads q (row.AddIndex x) = register_part x ∷ []
+reads q (row.AddIndex x) =
+    if q.flags_overflow then index_part ∷ register_part x ∷ [] else register_part x ∷ []
 reads q (row.SmallDigit x) = register_part x ∷ []
 reads q (row.BigDigit x) = register_part x ∷ []
 reads q (row.StoreDecimal x) = index_part ∷ register_part x ∷ []
@@ -77,6 +77,8 @@ reads q instr = []
 -- known on which a sprite is drawn.
 unfoldable pub sets : Quirks → (moved : Bool) → (forgotten : ℕ) → Instr → List ℕ
 sets q moved forgotten row.ClearScreen = screen_part ∷ []
+sets q moved forgotten row.LowSize = if q.clears_at_size then screen_part ∷ [] else []
+sets q moved forgotten row.HighSize = if q.clears_at_size then screen_part ∷ [] else []
 sets q moved forgotten (row.LoadByte x byte) = register_part x ∷ []
 sets q moved forgotten (row.Copy x y) = register_part x ∷ []
 sets q moved forgotten (row.Or x y) =
@@ -96,6 +98,7 @@ sets q moved forgotten (row.Draw x y n) =
     if has_part forgotten screen_part then [] else flag_part ∷ []
 sets q moved forgotten (row.ReadDelay x) = register_part x ∷ []
 sets q moved forgotten (row.WaitKey x) = if moved then register_part x ∷ [] else []
+sets q moved forgotten (row.AddIndex x) = if q.flags_overflow then flag_part ∷ [] else []
 sets q moved forgotten (row.SmallDigit x) = index_part ∷ []
 sets q moved forgotten (row.BigDigit x) = index_part ∷ []
 sets q moved forgotten (row.LoadRegisters x) = first_registers x
@@ -119,7 +122,7 @@ parts_by parts (Some instr) = parts instr
 abbrev pub IsUnread : (forgotten : ℕ) → State → Type 0
 IsUnread forgotten s =
     list_all (λ part. not (has_part forgotten part))
-    (parts_by (reads (quirks s.core.profile)) (next_instr s)) ≡ true
+    (parts_by (reads s.core.quirks) (next_instr s)) ≡ true
 
 abbrev pub is_one_of : List ℕ → ℕ → Bool
 is_one_of parts part = list_any (λ p. part == p) parts
@@ -133,6 +136,6 @@ abbrev pub IsForgottenAfter : (before : ℕ) → State → (to after : ℕ) → 
 IsForgottenAfter before s to after =
     (part : ℕ) →
     is_forgotten_by before
-    (parts_by (sets (quirks s.core.profile) (not (to == s.core.pc)) before) (next_instr s))
+    (parts_by (sets s.core.quirks (not (to == s.core.pc)) before) (next_instr s))
     (parts_by (spoils before) (next_instr s)) part ≡ true
     → has_part after part ≡ true

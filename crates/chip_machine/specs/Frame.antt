@@ -38,7 +38,7 @@ FrameLaw =
 abbrev pub StepKeepsProper : Type 0
 StepKeepsProper = (s : State) (keys : ℕ) (tick : Bool) → IsProper s → IsProper (step_of s keys tick)
 
--- a step keeps the profile
-abbrev pub StepKeepsProfile : Type 0
-StepKeepsProfile =
-    (s : State) (keys : ℕ) (tick : Bool) → (step_of s keys tick).core.profile ≡ s.core.profile
+-- a step keeps the quirks
+abbrev pub StepKeepsQuirks : Type 0
+StepKeepsQuirks =
+    (s : State) (keys : ℕ) (tick : Bool) → (step_of s keys tick).core.quirks ≡ s.core.quirks

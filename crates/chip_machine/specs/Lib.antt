@@ -3,7 +3,8 @@
 --   Sprite    the pixels that a sprite covers
 --   Scroll    the lit pixels moved down, right or left
 --   Digits    the shapes of the digits
---   Profile   the two machines: their names and their quirks
+--   Profile   the machines that have a name, and their quirks
+--   QuirkList the quirks by the names that users give them
 --   State     the state of the machine
 --   Start     the state before the first step
 --   Step      the table of the instructions, one step, and the addresses that it touches
@@ -31,6 +32,7 @@ pub mod Limits
 pub mod Numbers
 pub mod Points
 pub mod Profile
+pub mod QuirkList
 pub mod Relevant
 pub mod Restored
 pub mod Scroll

@@ -1,37 +1,120 @@
--- The two machines: their names and their quirks.
--- Source: own; the head of Step names the source of each quirk.
-use Rattle.std.specs.Prelude.{ℕ, List, map, true, false}
+-- The machines that have a name, and their quirks.
+-- Source: COSMAC VIP manual; Gustafsson's CHIP-48; Bryntse's SUPER-CHIP 1.0 and 1.1; the emulators of
+-- today for schip-modern; Octo's manual. Step says at each quirk which has it; own: what schip does
+-- with OR, AND and XOR.
+use Rattle.std.specs.Prelude.{ℕ, List, [], ◌∷◌, find, map, true, false, Option, Some, None}
+use Rattle.std.specs.Str.{bytes_eq}
 use Rattle.chip_machine.specs.declared.profile.Profile.{Profile}
 use Rattle.chip_machine.specs.declared.profile.Profile.TheVariants as profile
-use Rattle.chip_machine.specs.declared.profile.Quirks.{Quirks}
-use Rattle.chip_machine.specs.declared.profile.TheConstants.{SCHIP, VIP, PROFILES}
+use Rattle.chip_machine.specs.declared.profile.TheConstants.{SCHIP, VIP, CHIP48, SCHIP10, SCHIP_MODERN, OCTO, PROFILES}
+use Rattle.chip_machine.specs.declared.quirks.IndexMove.TheVariants as index
+use Rattle.chip_machine.specs.declared.quirks.LowSixteen.TheVariants as sixteen
+use Rattle.chip_machine.specs.declared.quirks.Quirks.{Quirks}
 
--- whether each machine has each quirk
+-- the quirks of each
 abbrev pub quirks : Profile → Quirks
 quirks profile.Schip =
     record {
       shifts_second = false;
-      moves_index = false;
+      index_move = index.Stays;
       jumps_by_first = false;
       clears_flag = false;
-      draws_sixteen = true;
+      wraps = false;
+      low_sixteen = sixteen.Narrow;
+      scrolls_whole = false;
+      clears_at_size = false;
+      flags_overflow = false;
       has_super_instructions = true;
     }
 quirks profile.Vip =
     record {
       shifts_second = true;
-      moves_index = true;
+      index_move = index.PastLast;
       jumps_by_first = true;
       clears_flag = true;
-      draws_sixteen = false;
+      wraps = false;
+      low_sixteen = sixteen.Nothing;
+      scrolls_whole = false;
+      clears_at_size = false;
+      flags_overflow = false;
       has_super_instructions = false;
+    }
+quirks profile.Chip48 =
+    record {
+      shifts_second = false;
+      index_move = index.AtLast;
+      jumps_by_first = false;
+      clears_flag = false;
+      wraps = false;
+      low_sixteen = sixteen.Nothing;
+      scrolls_whole = false;
+      clears_at_size = false;
+      flags_overflow = false;
+      has_super_instructions = false;
+    }
+quirks profile.Schip10 =
+    record {
+      shifts_second = false;
+      index_move = index.AtLast;
+      jumps_by_first = false;
+      clears_flag = false;
+      wraps = false;
+      low_sixteen = sixteen.Narrow;
+      scrolls_whole = false;
+      clears_at_size = false;
+      flags_overflow = false;
+      has_super_instructions = true;
+    }
+quirks profile.SchipModern =
+    record {
+      shifts_second = false;
+      index_move = index.Stays;
+      jumps_by_first = false;
+      clears_flag = false;
+      wraps = false;
+      low_sixteen = sixteen.Wide;
+      scrolls_whole = true;
+      clears_at_size = true;
+      flags_overflow = false;
+      has_super_instructions = true;
+    }
+quirks profile.Octo =
+    record {
+      shifts_second = true;
+      index_move = index.PastLast;
+      jumps_by_first = true;
+      clears_flag = false;
+      wraps = true;
+      low_sixteen = sixteen.Wide;
+      scrolls_whole = true;
+      clears_at_size = true;
+      flags_overflow = false;
+      has_super_instructions = true;
     }
 
 -- the name of a profile
 abbrev pub profile_name : Profile → List ℕ
 profile_name profile.Schip = SCHIP.now
 profile_name profile.Vip = VIP.now
+profile_name profile.Chip48 = CHIP48.now
+profile_name profile.Schip10 = SCHIP10.now
+profile_name profile.SchipModern = SCHIP_MODERN.now
+profile_name profile.Octo = OCTO.now
 
 -- all names
 abbrev pub profile_names : List (List ℕ)
 profile_names = map (λ name. name.now) PROFILES
+
+-- the profile of a name, if there is one
+abbrev pub profiles : List Profile
+profiles =
+    profile.Schip ∷ profile.Vip ∷ profile.Chip48 ∷ profile.Schip10 ∷ profile.SchipModern
+    ∷ profile.Octo ∷ []
+
+abbrev pub profile_named : List ℕ → Option Profile
+profile_named name = find (λ p. bytes_eq name (profile_name p)) profiles
+
+-- the profile that a user asks for: SUPER-CHIP 1.1 where no name is given
+abbrev pub profile_asked : Option (List ℕ) → Option Profile
+profile_asked None = Some profile.Schip
+profile_asked (Some name) = profile_named name

@@ -23,7 +23,7 @@ core_with_parts p c =
       lit = c.lit;
       high = p.high;
       stopped = None;
-      profile = c.profile;
+      quirks = c.quirks;
     }
 
 abbrev pub with_parts : Parts → State → State

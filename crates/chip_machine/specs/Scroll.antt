@@ -1,5 +1,5 @@
 -- Scrolls: the lit pixels moved by n, as far as they stay on the screen.
--- Source: SUPER-CHIP 1.1 documentation; own: in the low size too they move stored pixels.
+-- Source: SUPER-CHIP 1.1 documentation.
 use Rattle.std.specs.Prelude.{ℕ, ◌+◌, ◌-◌, ◌&&◌, nat_le}
 use Rattle.chip_machine.specs.Points.{Points, points_where, is_lit}
 

@@ -4,7 +4,7 @@ use Rattle.std.specs.Prelude.{ℕ, ◌<◌, ◌≤◌, List, [], length, replica
 use Rattle.std.specs.FinSet as set
 use Rattle.chip_lang.specs.declared.limits.TheConstants.{IMAGE_START, MEMORY_BYTES}
 use Rattle.chip_machine.specs.declared.limits.TheConstants.{FLAGS, TAPE_BYTES}
-use Rattle.chip_machine.specs.declared.profile.Profile.{Profile}
+use Rattle.chip_machine.specs.declared.quirks.Quirks.{Quirks}
 use Rattle.chip_machine.specs.Digits.{small_shapes, big_shapes, bytes_of}
 use Rattle.chip_machine.specs.State.{Core, State, overwrite}
 
@@ -23,8 +23,8 @@ abbrev pub start_memory : List ℕ → List ℕ
 start_memory image = with_digits_and_image image zeros
 
 -- all but the memory before the first step: the screen is dark and has its low size
-abbrev pub start_core : List ℕ → Profile → Core
-start_core tape profile =
+abbrev pub start_core : List ℕ → Quirks → Core
+start_core tape quirks =
     record {
       registers = replicate 16 0;
       index = 0;
@@ -38,12 +38,12 @@ start_core tape profile =
       lit = set.empty;
       high = false;
       stopped = None;
-      profile = profile;
+      quirks = quirks;
     }
 
 -- the state before the first step
-abbrev pub start_of : List ℕ → List ℕ → Profile → State
-start_of image tape profile = record { core = start_core tape profile; memory = start_memory image }
+abbrev pub start_of : List ℕ → List ℕ → Quirks → State
+start_of image tape quirks = record { core = start_core tape quirks; memory = start_memory image }
 
 -- a tape has a byte at least
 abbrev pub IsTape : List ℕ → Type 0

@@ -1,9 +1,10 @@
 -- How a state is stored (Codes, Stored), a sprite by its bytes alone (SpriteBytes), some numbers as a
--- mask (Masks), and proofs that the trait of the crate above asks for as its laws: Overwritten and
+-- mask (Masks), a text up to its first comma (FirstPart), and proofs that the trait of the crate above asks for as its laws: Overwritten and
 -- Exchanged (memory after bytes were written, or exchanged), FrameTheorem (the frame law holds, and a
 -- step keeps a state proper).
 pub mod Codes
 pub mod Exchanged
+pub mod FirstPart
 pub mod FrameTheorem
 pub mod KeyRows
 pub mod Masks

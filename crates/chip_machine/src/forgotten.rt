@@ -5,7 +5,7 @@ ghost use Rattle.std.specs.List.{list_all};
 ghost use Rattle.chip_machine.specs.Forgotten.{flag_part, first_registers, has_part, index_part, is_forgotten_by, reads, register_part, screen_part, sets, spoils};
 ghost use Rattle.chip_machine.specs.inner.Masks.{mask_of};
 
-use crate::profile::Quirks;
+use crate::quirks::Quirks;
 use chip_lang::instr::Instr;
 use chip_lang::number::{Addr, Reg};
 use std::marker::Model;
@@ -151,6 +151,8 @@ impl Forgotten {
     {
         match *instr {
             Instr::ClearScreen => SCREEN,
+            Instr::LowSize => set_by_size(quirks),
+            Instr::HighSize => set_by_size(quirks),
             Instr::LoadByte(x, _byte) => register(x),
             Instr::Copy(x, _y) => register(x),
             Instr::Or(x, _y) => set_by_logic(x, quirks),
@@ -166,6 +168,7 @@ impl Forgotten {
             Instr::Draw(_x, _y, _n) => { if self.has_screen() { 0 } else { FLAG } }
             Instr::ReadDelay(x) => register(x),
             Instr::WaitKey(x) => { if moved { register(x) } else { 0 } }
+            Instr::AddIndex(_x) => { if quirks.flags_overflow { FLAG } else { 0 } }
             Instr::SmallDigit(_x) => INDEX,
             Instr::BigDigit(_x) => INDEX,
             Instr::LoadRegisters(x) => first_registers(x),
@@ -212,7 +215,7 @@ fn reads_of(instr: &Instr, quirks: Quirks) -> u32
         Instr::SkipIfKey(x) => register(x),
         Instr::SkipUnlessKey(x) => register(x),
         Instr::SetDelay(x) => register(x),
-        Instr::AddIndex(x) => register(x),
+        Instr::AddIndex(x) => added(x, quirks),
         Instr::SmallDigit(x) => register(x),
         Instr::BigDigit(x) => register(x),
         Instr::StoreDecimal(x) => INDEX | register(x),
@@ -247,6 +250,27 @@ fn offset_register(address: Addr, quirks: Quirks) -> u32
     } else {
         1 << (address.number() / 256 + 2)
     }
+}
+
+/// What an addition of Vx to I reads: I too where VF says how large the sum is.
+#[inline(always)]
+fn added(x: Reg, quirks: Quirks) -> u32
+    ensures { result ≡ mask_of (if quirks.flags_overflow then index_part ∷ register_part x ∷ []
+        else register_part x ∷ []) }
+{
+    if quirks.flags_overflow {
+        INDEX | register(x)
+    } else {
+        register(x)
+    }
+}
+
+/// What a change of the size sets.
+#[inline(always)]
+fn set_by_size(quirks: Quirks) -> u32
+    ensures { result ≡ mask_of (if quirks.clears_at_size then screen_part ∷ [] else []) }
+{
+    if quirks.clears_at_size { SCREEN } else { 0 }
 }
 
 /// What a logical operation into Vx sets.

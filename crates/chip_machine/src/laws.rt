@@ -1,6 +1,6 @@
 //! Laws of the machine.
 
-ghost use Rattle.chip_machine.specs.Frame.{FrameLaw, StepKeepsProfile, StepKeepsProper};
+ghost use Rattle.chip_machine.specs.Frame.{FrameLaw, StepKeepsQuirks, StepKeepsProper};
 ghost use Rattle.chip_machine.specs.ImageLaw.{ImageAndZeros, SameBelowTheImage};
 ghost use Rattle.chip_machine.specs.Keyless.{KeylessStep};
 ghost use Rattle.chip_machine.specs.Relevant.{AlikeSteps, DrawsGrow, QuietTick};
@@ -15,9 +15,9 @@ pub fn step_keeps_proper()
     ensures { StepKeepsProper }
 {}
 
-/// A step keeps the profile.
-pub fn step_keeps_profile()
-    ensures { StepKeepsProfile }
+/// A step keeps the quirks.
+pub fn step_keeps_quirks()
+    ensures { StepKeepsQuirks }
 {}
 
 /// A step that doesn't read the keys is the same whatever keys are down.

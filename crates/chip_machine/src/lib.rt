@@ -1,5 +1,5 @@
-//! A SUPER-CHIP 1.1 machine, or one after the COSMAC VIP: its state, one step of it, and the
-//! addresses that a step touches.
+//! A CHIP-8 machine with any mixture of quirks: its state, one step of it, and the addresses that a
+//! step touches.
 #![tactic(auto)]
 
 mod decoded;
@@ -15,6 +15,7 @@ mod memory;
 pub mod parts;
 mod processor;
 pub mod profile;
+pub mod quirks;
 mod rows;
 mod screen;
 mod sprite;
@@ -25,6 +26,7 @@ pub use forgotten::Forgotten;
 pub use keys::{HeldKeys, SameKeys};
 pub use machine::{Machine, StartError};
 pub use parts::Parts;
-pub use profile::{Profile, Quirks};
+pub use profile::Profile;
+pub use quirks::{Choice, Chosen, IndexMove, LowSixteen, Quirks};
 pub use stop::Stop;
 pub use touch::Touch;

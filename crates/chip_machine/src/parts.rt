@@ -1,4 +1,4 @@
-//! What a machine has beside its memory, its screen, its tape and its profile.
+//! What a machine has beside its memory, its screen, its tape and its quirks.
 
 use crate::limits::{FLAGS, FRAMES};
 

@@ -1,8 +1,7 @@
 //! All of the machine but its memory.
 
 ghost use Rattle.std.specs.Prelude.{◌≡◌, ◌+◌, ◌*◌, ◌/◌, ◌-◌, ◌<◌, ◌≤◌, ◌^◌, ◌%◌, length, slice_index, OnOk, OnErr, IfOk, IfErr, IsOk, ◌↔◌, ◌==◌, ◌&&◌, not, false, if◌then◌else◌, IsTrue, ℕ, List};
-ghost use Rattle.chip_machine.specs.Step.{reg, with_reg, with_flag, go_to, skip_if, next, call, return, with_index, random_byte, drawn, store_flags, load_flags, load_registers, past_registers, ticked, with_size, with_lit, with_sprite, Effect, Stops, super_only};
-ghost use Rattle.chip_machine.specs.Profile.{quirks};
+ghost use Rattle.chip_machine.specs.Step.{reg, with_reg, with_flag, go_to, skip_if, next, call, return, with_index, random_byte, drawn, store_flags, load_flags, load_registers, index_past, shifted_register, offset_register, with_logic, with_sum, ticked, resized, scrolled_by, draws_nothing, has_wide_sixteen, with_lit, with_sprite, Effect, Stops, super_only};
 ghost use Rattle.chip_machine.specs.inner.KeyRows.{choices_of};
 ghost use Rattle.chip_machine.specs.Points.{is_lit, IsOnScreen, lights};
 ghost use Rattle.chip_machine.specs.Sprite.{sprite_bytes};
@@ -16,10 +15,13 @@ ghost use Rattle.chip_machine.specs.inner.Stored.{in_rows};
 ghost use Rattle.chip_machine.specs.Start.{IsTape, start_core};
 
 use crate::forgotten::Forgotten;
-use crate::limits::{FLAGS, FRAMES, IMAGE_START, LAST_WORD, MEMORY_BYTES, TAPE_BYTES};
+use crate::limits::{
+    FLAGS, FRAMES, IMAGE_START, LAST_WORD, MEMORY_BYTES, SPRITE_BYTES, TAPE_BYTES,
+};
 use crate::parts::Parts;
-use crate::profile::{Profile, Quirks};
+use crate::quirks::{IndexMove, LowSixteen, Quirks};
 use crate::screen::Screen;
+use crate::sprite::scale_of;
 use crate::stop::Stop;
 use chip_lang::instr::Instr;
 use chip_lang::number::{Addr, Nibble, Reg};
@@ -47,7 +49,7 @@ pub(crate) struct Processor {
     screen: Screen,
     high: bool,
     stopped: Option<Stop>,
-    profile: Profile,
+    quirks: Quirks,
 }
 
 impl Model for Processor {
@@ -74,7 +76,7 @@ impl Model for Processor {
       lit = p.screen;
       high = p.high;
       stopped = p.stopped;
-      profile = p.profile;
+      quirks = p.quirks;
     } };
 
     ghost invariant = { λ p. (p.depth ≤ FRAMES)
@@ -85,9 +87,9 @@ impl Model for Processor {
 
 impl Processor {
     /// At the start: all is 0, and pc is at the image.
-    pub(crate) fn new(alloc: Global, tape: &[u8], profile: Profile) -> Result<Self, AllocError>
+    pub(crate) fn new(alloc: Global, tape: &[u8], quirks: Quirks) -> Result<Self, AllocError>
         requires { IsTape tape.now }
-        ensures { IfOk result (λ processor. processor ≡ start_core tape.now profile) }
+        ensures { IfOk result (λ processor. processor ≡ start_core tape.now quirks) }
     {
         let tape = RcSlice::from_slice(alloc, tape)?;
         let screen = Screen::new(alloc)?;
@@ -106,7 +108,7 @@ impl Processor {
             screen,
             high: false,
             stopped: None,
-            profile,
+            quirks,
         })
     }
 
@@ -129,7 +131,7 @@ impl Processor {
             screen: self.screen.copy_of()?,
             high: self.high,
             stopped: self.stopped,
-            profile: self.profile,
+            quirks: self.quirks,
         })
     }
 
@@ -152,7 +154,7 @@ impl Processor {
         self.screen.copy_from(&other.screen);
         self.high = other.high;
         self.stopped = other.stopped;
-        self.profile = other.profile;
+        self.quirks = other.quirks;
         Ok(())
     }
 
@@ -218,7 +220,7 @@ impl Processor {
             && self.place == other.place
             && self.high == other.high
             && self.stopped == other.stopped
-            && self.profile == other.profile
+            && self.quirks.is_same(other.quirks)
     }
 
     /// The value of a register.
@@ -249,7 +251,7 @@ impl Processor {
         ensures why { IfErr result (λ why. (effect : Effect)
             → super_only self.now effect ≡ Stops why) }
     {
-        if self.profile.quirks().has_super_instructions {
+        if self.quirks.has_super_instructions {
             Ok(())
         } else {
             Err(Stop::NoInstruction)
@@ -258,10 +260,9 @@ impl Processor {
 
     /// What a shift of Vx and Vy shifts: the value of the one or of the other.
     pub(crate) fn shifted(&self, x: Reg, y: Reg) -> u8
-        ensures { result
-            ≡ reg self.now (if (quirks self.now.profile).shifts_second then y else x) }
+        ensures { result ≡ reg self.now (shifted_register x y self.now) }
     {
-        if self.profile.quirks().shifts_second {
+        if self.quirks.shifts_second {
             self.reg(y)
         } else {
             self.reg(x)
@@ -271,10 +272,9 @@ impl Processor {
     /// What a jump adds to its address: the value of the register of the address's top digit, or
     /// that of V0.
     pub(crate) fn jump_offset(&self, address: Addr) -> u8
-        ensures { result ≡ reg self.now
-            (if (quirks self.now.profile).jumps_by_first then 0 else address / 256) }
+        ensures { result ≡ reg self.now (offset_register address self.now) }
     {
-        if self.profile.quirks().jumps_by_first {
+        if self.quirks.jumps_by_first {
             self.registers[0]
         } else {
             self.registers[address.number() as usize / 256]
@@ -284,39 +284,92 @@ impl Processor {
     /// The quirks of the machine.
     #[inline(always)]
     pub(crate) fn quirks(&self) -> Quirks
-        ensures { result ≡ quirks self.now.profile }
+        ensures { result ≡ self.now.quirks }
     {
-        self.profile.quirks()
+        self.quirks
     }
 
     /// Sets a register to what a logical operation gives: VF stays, or is 0 then.
     pub(crate) fn set_logic(&mut self, x: Reg, value: u8)
-        ensures { self.new ≡ (if (quirks self.old.profile).clears_flag
-            then with_flag x value 0 self.old else with_reg x value self.old) }
+        ensures { self.new ≡ with_logic x value self.old }
     {
-        if self.profile.quirks().clears_flag {
+        if self.quirks.clears_flag {
             self.set_with_flag(x, value, 0);
         } else {
             self.set(x, value);
         }
     }
 
-    /// Ends a move of V0 to Vx to or from the memory: I stays, or moves past their bytes.
-    pub(crate) fn finish_move(&mut self, x: Reg)
-        ensures { self.new ≡ with_index (if (quirks self.old.profile).moves_index
-            then past_registers x self.old else self.old.index) self.old }
+    /// Adds a number to I: VF stays, or says whether the sum is above 0FFF.
+    pub(crate) fn add_index(&mut self, value: u8)
+        ensures { self.new ≡ with_sum value self.old }
     {
-        if self.profile.quirks().moves_index {
-            self.index = self.index.wrapping_add(u16::from(x.number()) + 1);
+        let sum = u32::from(self.index) + u32::from(value);
+        self.index = self.index.wrapping_add(u16::from(value));
+        if self.quirks.flags_overflow {
+            self.registers[15] = u8::from(sum > 0x0FFF);
         }
     }
 
-    /// Whether a sprite of this number of rows is nothing at all: of number 0, where that doesn't
-    /// stand for sixteen rows.
-    pub(crate) fn draws_nothing(&self, n: Nibble) -> bool
-        ensures { result ≡ (not (quirks self.now.profile).draws_sixteen && n == 0) }
+    /// Ends a move of V0 to Vx to or from the memory: I stays, or moves on.
+    pub(crate) fn finish_move(&mut self, x: Reg)
+        ensures { self.new
+            ≡ with_index (index_past self.old.quirks.index_move x self.old.index) self.old }
     {
-        !self.profile.quirks().draws_sixteen && n.number() == 0
+        match self.quirks.index_move {
+            IndexMove::Stays => {}
+            IndexMove::AtLast => self.index = self.index.wrapping_add(u16::from(x.number())),
+            IndexMove::PastLast => self.index = self.index.wrapping_add(u16::from(x.number()) + 1),
+        }
+    }
+
+    /// Whether a sprite of this number of rows is nothing at all: of number 0 in the low size, where
+    /// that doesn't stand for sixteen rows.
+    pub(crate) fn draws_nothing(&self, n: Nibble) -> bool
+        ensures { result ≡ draws_nothing n self.now }
+    {
+        n.number() == 0
+            && !self.high
+            && match self.quirks.low_sixteen {
+                LowSixteen::Nothing => true,
+                LowSixteen::Narrow | LowSixteen::Wide => false,
+            }
+    }
+
+    /// How many bytes a sprite of `n` rows has, where `n` 0 stands for sixteen rows, which may be
+    /// wide.
+    pub(crate) fn sprite_bytes(&self, n: Nibble) -> usize
+        ensures value { result ≡ sprite_bytes (has_wide_sixteen self.now) n }
+        ensures few { result ≤ SPRITE_BYTES }
+    {
+        match n.number() {
+            0 if self.has_wide_sixteen() => SPRITE_BYTES,
+            0 => 16,
+            rows => rows as usize,
+        }
+    }
+
+    /// Whether a sprite of sixteen rows is 16 wide.
+    fn has_wide_sixteen(&self) -> bool
+        ensures { result ≡ has_wide_sixteen self.now }
+    {
+        self.high
+            || match self.quirks.low_sixteen {
+                LowSixteen::Wide => true,
+                LowSixteen::Nothing | LowSixteen::Narrow => false,
+            }
+    }
+
+    /// How many stored rows or columns are in a scroll by `n`.
+    pub(crate) fn scrolled_by(&self, n: u8) -> usize
+        ensures value { result ≡ scrolled_by n self.now }
+        ensures few { result ≤ 2 * n }
+    {
+        if self.quirks.scrolls_whole {
+            scale_of(self.high) * n as usize
+        } else {
+            n as usize
+        }
     }
 
     /// Which of the allowed keys an instruction can tell apart.
@@ -501,10 +554,13 @@ impl Processor {
         self.high
     }
 
-    /// Sets the size of the screen.
-    pub(crate) fn set_size(&mut self, high: bool)
-        ensures { self.new ≡ with_size high self.old }
+    /// Sets the size of the screen: the pixels stay, or all are dark then.
+    pub(crate) fn resize(&mut self, high: bool)
+        ensures { self.new ≡ resized high self.old }
     {
+        if self.quirks.clears_at_size {
+            self.screen.clear();
+        }
         self.high = high;
     }
 
@@ -516,24 +572,26 @@ impl Processor {
     }
 
     /// Moves every pixel down by so many rows.
-    pub(crate) fn scroll_down(&mut self, rows: u8)
+    pub(crate) fn scroll_down(&mut self, rows: usize)
         ensures { self.new ≡ with_lit (scrolled_down rows self.old.lit) self.old }
     {
         self.screen.scroll_down(rows);
     }
 
-    /// Moves every pixel right by four columns.
-    pub(crate) fn scroll_right(&mut self)
-        ensures { self.new ≡ with_lit (scrolled_right 4 self.old.lit) self.old }
+    /// Moves every pixel right by so many columns.
+    pub(crate) fn scroll_right(&mut self, columns: usize)
+        requires { columns ≤ 8 }
+        ensures { self.new ≡ with_lit (scrolled_right columns self.old.lit) self.old }
     {
-        self.screen.scroll_right();
+        self.screen.scroll_right(columns);
     }
 
-    /// Moves every pixel left by four columns.
-    pub(crate) fn scroll_left(&mut self)
-        ensures { self.new ≡ with_lit (scrolled_left 4 self.old.lit) self.old }
+    /// Moves every pixel left by so many columns.
+    pub(crate) fn scroll_left(&mut self, columns: usize)
+        requires { columns ≤ 8 }
+        ensures { self.new ≡ with_lit (scrolled_left columns self.old.lit) self.old }
     {
-        self.screen.scroll_left();
+        self.screen.scroll_left(columns);
     }
 
     /// Clears VF.
@@ -547,10 +605,11 @@ impl Processor {
     /// was lit.
     #[inline(never)]
     pub(crate) fn draw(&mut self, x: u8, y: u8, sprite: &[u8])
-        ensures { (n : ℕ) → n < 16 → length sprite.now ≡ sprite_bytes self.old.high n
+        ensures { (n : ℕ) → n < 16
+            → length sprite.now ≡ sprite_bytes (has_wide_sixteen self.old) n
             → self.new ≡ with_sprite x y n sprite.now self.old }
     {
-        let hit = self.screen.draw(self.high, x, y, sprite);
+        let hit = self.screen.draw(self.quirks.wraps, self.high, x, y, sprite);
         self.registers[15] = u8::from(hit);
     }
 

@@ -1,33 +1,25 @@
-//! Which machine it is.
+//! The machines that have a name.
 
-ghost use Rattle.std.specs.Prelude.{◌≡◌, ◌↔◌, Some, IsSome, Contains};
-ghost use Rattle.chip_machine.specs.Profile.{profile_name, profile_names, quirks};
+ghost use Rattle.std.specs.Prelude.{◌≡◌, ◌≢◌, ◌↔◌, None, Some, IfSome, IsSome, Contains, option_copied};
+ghost use Rattle.chip_machine.specs.Profile.{profile_asked, profile_name, profile_named, profile_names, quirks};
 
-/// Whose behaviour a machine has: its quirks, by which each instruction does what it does.
+use crate::quirks::{IndexMove, LowSixteen, Quirks};
+
+/// A machine that has a name: its quirks, by which each instruction does what it does.
 #[derive(Clone, Copy, PartialEq, Eq)]
 pub enum Profile {
     /// SUPER-CHIP 1.1, with this project's choices.
     Schip,
     /// The COSMAC VIP, with this project's choices.
     Vip,
-}
-
-/// The points in which one machine differs from another. Each chooses between two effects of the
-/// instructions that it names.
-#[derive(Clone, Copy)]
-pub struct Quirks {
-    /// `8XY6` and `8XYE` shift Vy into Vx, and not Vx itself.
-    pub shifts_second: bool,
-    /// `FX55` and `FX65` leave I behind the last register's byte, and not where it was.
-    pub moves_index: bool,
-    /// `BNNN` adds V0, and not the register of the address's top digit.
-    pub jumps_by_first: bool,
-    /// `8XY1`, `8XY2` and `8XY3` end with VF 0, and don't leave it as it was.
-    pub clears_flag: bool,
-    /// `DXY0` draws sixteen rows, and not nothing.
-    pub draws_sixteen: bool,
-    /// `00CN`, `00FB` to `00FF`, `FX30`, `FX75` and `FX85` are instructions, as on a SUPER-CHIP.
-    pub has_super_instructions: bool,
+    /// CHIP-48 on the HP48.
+    Chip48,
+    /// SUPER-CHIP 1.0 on the HP48.
+    Schip10,
+    /// What games for SUPER-CHIP expect of the emulators of today.
+    SchipModern,
+    /// Octo, without the instructions of XO-CHIP.
+    Octo,
 }
 
 /// The name of `Schip`.
@@ -36,8 +28,20 @@ const SCHIP: &str = "schip";
 /// The name of `Vip`.
 const VIP: &str = "vip";
 
+/// The name of `Chip48`.
+const CHIP48: &str = "chip48";
+
+/// The name of `Schip10`.
+const SCHIP10: &str = "schip10";
+
+/// The name of `SchipModern`.
+const SCHIP_MODERN: &str = "schip-modern";
+
+/// The name of `Octo`.
+const OCTO: &str = "octo";
+
 /// The names of the profiles.
-pub const PROFILES: [&str; 2] = [SCHIP, VIP];
+pub const PROFILES: [&str; 6] = [SCHIP, VIP, CHIP48, SCHIP10, SCHIP_MODERN, OCTO];
 
 impl Profile {
     /// Its name.
@@ -48,31 +52,112 @@ impl Profile {
         match self {
             Profile::Schip => SCHIP,
             Profile::Vip => VIP,
+            Profile::Chip48 => CHIP48,
+            Profile::Schip10 => SCHIP10,
+            Profile::SchipModern => SCHIP_MODERN,
+            Profile::Octo => OCTO,
         }
     }
 
     /// Its quirks.
-    #[inline(always)]
     pub fn quirks(self) -> Quirks
         ensures { result ≡ quirks self }
     {
         match self {
-            Profile::Schip => Quirks {
-                shifts_second: false,
-                moves_index: false,
-                jumps_by_first: false,
-                clears_flag: false,
-                draws_sixteen: true,
-                has_super_instructions: true,
-            },
+            Profile::Schip => Quirks::SCHIP,
             Profile::Vip => Quirks {
                 shifts_second: true,
-                moves_index: true,
+                index_move: IndexMove::PastLast,
                 jumps_by_first: true,
                 clears_flag: true,
-                draws_sixteen: false,
+                wraps: false,
+                low_sixteen: LowSixteen::Nothing,
+                scrolls_whole: false,
+                clears_at_size: false,
+                flags_overflow: false,
                 has_super_instructions: false,
             },
+            Profile::Chip48 => Quirks {
+                shifts_second: false,
+                index_move: IndexMove::AtLast,
+                jumps_by_first: false,
+                clears_flag: false,
+                wraps: false,
+                low_sixteen: LowSixteen::Nothing,
+                scrolls_whole: false,
+                clears_at_size: false,
+                flags_overflow: false,
+                has_super_instructions: false,
+            },
+            Profile::Schip10 => Quirks {
+                shifts_second: false,
+                index_move: IndexMove::AtLast,
+                jumps_by_first: false,
+                clears_flag: false,
+                wraps: false,
+                low_sixteen: LowSixteen::Narrow,
+                scrolls_whole: false,
+                clears_at_size: false,
+                flags_overflow: false,
+                has_super_instructions: true,
+            },
+            Profile::SchipModern => Quirks {
+                shifts_second: false,
+                index_move: IndexMove::Stays,
+                jumps_by_first: false,
+                clears_flag: false,
+                wraps: false,
+                low_sixteen: LowSixteen::Wide,
+                scrolls_whole: true,
+                clears_at_size: true,
+                flags_overflow: false,
+                has_super_instructions: true,
+            },
+            Profile::Octo => Quirks {
+                shifts_second: true,
+                index_move: IndexMove::PastLast,
+                jumps_by_first: true,
+                clears_flag: false,
+                wraps: true,
+                low_sixteen: LowSixteen::Wide,
+                scrolls_whole: true,
+                clears_at_size: true,
+                flags_overflow: false,
+                has_super_instructions: true,
+            },
+        }
+    }
+
+    /// The profile that has these quirks, and `None` where no profile has them.
+    pub fn with_quirks(asked: Quirks) -> Option<Self>
+        ensures same { IfSome result (λ p. quirks p ≡ asked) }
+        ensures none { result ≡ None → (p : Profile) → quirks p ≢ asked }
+    {
+        if asked == Profile::Schip.quirks() {
+            Some(Profile::Schip)
+        } else if asked == Profile::Vip.quirks() {
+            Some(Profile::Vip)
+        } else if asked == Profile::Chip48.quirks() {
+            Some(Profile::Chip48)
+        } else if asked == Profile::Schip10.quirks() {
+            Some(Profile::Schip10)
+        } else if asked == Profile::SchipModern.quirks() {
+            Some(Profile::SchipModern)
+        } else if asked == Profile::Octo.quirks() {
+            Some(Profile::Octo)
+        } else {
+            None
+        }
+    }
+
+    /// The profile of a name, if one is given: that of SUPER-CHIP 1.1 without one, and `None` where
+    /// no profile has it.
+    pub fn asked(name: Option<&str>) -> Option<Self>
+        ensures { result ≡ profile_asked (option_copied name.entry) }
+    {
+        match name {
+            Some(name) => Profile::from_name(name),
+            None => Some(Profile::Schip),
         }
     }
 
@@ -80,10 +165,15 @@ impl Profile {
     pub fn from_name(name: &str) -> Option<Self>
         ensures named { (p : Profile) → (result ≡ Some p) ↔ (name.now ≡ profile_name p) }
         ensures listed { IsSome result ↔ Contains profile_names name.now }
+        ensures value { result ≡ profile_named name.now }
     {
         match name {
             SCHIP => Some(Profile::Schip),
             VIP => Some(Profile::Vip),
+            CHIP48 => Some(Profile::Chip48),
+            SCHIP10 => Some(Profile::Schip10),
+            SCHIP_MODERN => Some(Profile::SchipModern),
+            OCTO => Some(Profile::Octo),
             _ => None,
         }
     }

@@ -7,7 +7,6 @@ use crate::keys::{is_down, least_down};
 use crate::limits::{FLAGS, FRAMES, LAST_WORD, MEMORY_BYTES};
 use crate::memory::{load, store};
 use crate::processor::Processor;
-use crate::sprite::sprite_bytes;
 use crate::stop::Stop;
 use crate::touch::Span;
 use chip_lang::instr::Instr;
@@ -249,14 +248,14 @@ impl Processor {
         self.advance();
     }
 
-    /// `FX1E`, `ADD I, Vx`: adds Vx to I.
+    /// `FX1E`, `ADD I, Vx`: adds Vx to I; VF stays, or says whether the sum is above 0FFF.
     #[tactic(auto, unfolding(crate::specs::Step::effect))]
     pub(crate) fn row_add_index(&mut self, x: Reg)
         requires { self.old.pc ≤ LAST_WORD }
         ensures { effect (Instr.AddIndex x) self.old ≡ Changes self.new }
     {
-        let sum = self.index().wrapping_add(u16::from(self.reg(x)));
-        self.set_index(sum);
+        let value = self.reg(x);
+        self.add_index(value);
         self.advance();
     }
 
@@ -286,7 +285,7 @@ impl Processor {
         Ok(())
     }
 
-    /// `00CN`, `SCD n`: scrolls down by n stored rows.
+    /// `00CN`, `SCD n`: scrolls down by n rows, stored ones or those of the size.
     #[tactic(auto, unfolding(crate::specs::Step::effect))]
     pub(crate) fn row_scroll_down(&mut self, n: Nibble) -> Result<(), Stop>
         requires { self.old.pc ≤ LAST_WORD }
@@ -295,7 +294,8 @@ impl Processor {
         ensures same { OnErr result (self.new ≡ self.old) }
     {
         self.needs_super_instructions()?;
-        self.scroll_down(n.number());
+        let rows = self.scrolled_by(n.number());
+        self.scroll_down(rows);
         self.advance();
         Ok(())
     }
@@ -310,7 +310,7 @@ impl Processor {
         self.advance();
     }
 
-    /// `00FB`, `SCR`: scrolls right by 4 stored columns.
+    /// `00FB`, `SCR`: scrolls right by 4 columns, stored ones or those of the size.
     #[tactic(auto, unfolding(crate::specs::Step::effect))]
     pub(crate) fn row_scroll_right(&mut self) -> Result<(), Stop>
         requires { self.old.pc ≤ LAST_WORD }
@@ -319,12 +319,13 @@ impl Processor {
         ensures same { OnErr result (self.new ≡ self.old) }
     {
         self.needs_super_instructions()?;
-        self.scroll_right();
+        let columns = self.scrolled_by(4);
+        self.scroll_right(columns);
         self.advance();
         Ok(())
     }
 
-    /// `00FC`, `SCL`: scrolls left by 4 stored columns.
+    /// `00FC`, `SCL`: scrolls left by 4 columns, stored ones or those of the size.
     #[tactic(auto, unfolding(crate::specs::Step::effect))]
     pub(crate) fn row_scroll_left(&mut self) -> Result<(), Stop>
         requires { self.old.pc ≤ LAST_WORD }
@@ -333,7 +334,8 @@ impl Processor {
         ensures same { OnErr result (self.new ≡ self.old) }
     {
         self.needs_super_instructions()?;
-        self.scroll_left();
+        let columns = self.scrolled_by(4);
+        self.scroll_left(columns);
         self.advance();
         Ok(())
     }
@@ -349,7 +351,7 @@ impl Processor {
         }
     }
 
-    /// `00FE`, `LOW`: takes the low size.
+    /// `00FE`, `LOW`: takes the low size; the pixels stay, or all are dark then.
     #[tactic(auto, unfolding(crate::specs::Step::effect))]
     pub(crate) fn row_low_size(&mut self) -> Result<(), Stop>
         requires { self.old.pc ≤ LAST_WORD }
@@ -358,12 +360,12 @@ impl Processor {
         ensures same { OnErr result (self.new ≡ self.old) }
     {
         self.needs_super_instructions()?;
-        self.set_size(false);
+        self.resize(false);
         self.advance();
         Ok(())
     }
 
-    /// `00FF`, `HIGH`: takes the high size.
+    /// `00FF`, `HIGH`: takes the high size; the pixels stay, or all are dark then.
     #[tactic(auto, unfolding(crate::specs::Step::effect))]
     pub(crate) fn row_high_size(&mut self) -> Result<(), Stop>
         requires { self.old.pc ≤ LAST_WORD }
@@ -372,7 +374,7 @@ impl Processor {
         ensures same { OnErr result (self.new ≡ self.old) }
     {
         self.needs_super_instructions()?;
-        self.set_size(true);
+        self.resize(true);
         self.advance();
         Ok(())
     }
@@ -514,7 +516,7 @@ impl Processor {
             self.advance();
             return Ok(Span::none());
         }
-        let count = sprite_bytes(self.high(), n);
+        let count = self.sprite_bytes(n);
         let sprite = load(memory, self.index(), count)?;
         let read = Span::new(self.index(), count);
         let left = self.reg(x);
@@ -551,7 +553,7 @@ impl Processor {
         Ok(span)
     }
 
-    /// `FX55`, `LD [I], Vx`: stores V0 to Vx at I, which stays or moves past them.
+    /// `FX55`, `LD [I], Vx`: stores V0 to Vx at I, which stays or moves on.
     #[inline(always)]
     #[tactic(auto, unfolding(crate::specs::Step::effect))]
     pub(crate) fn row_store_registers(&mut self, x: Reg, memory: &mut [u8]) -> Result<Span, Stop>
@@ -579,7 +581,7 @@ impl Processor {
         Ok(span)
     }
 
-    /// `FX65`, `LD Vx, [I]`: loads V0 to Vx from I, which stays or moves past them.
+    /// `FX65`, `LD Vx, [I]`: loads V0 to Vx from I, which stays or moves on.
     #[inline(always)]
     #[tactic(auto, unfolding(crate::specs::Step::effect))]
     pub(crate) fn row_load_registers(&mut self, x: Reg, memory: &[u8]) -> Result<Span, Stop>

@@ -4,12 +4,14 @@ ghost use Rattle.std.specs.Prelude.{◌≡◌, ℕ, ◌+◌, ◌-◌, ◌*◌, �
 ghost use Rattle.std.specs.FinSet as set;
 ghost use Rattle.chip_machine.specs.Points.{Points, points_code, is_lit, IsOnScreen, symmetric_difference, meets, lights};
 ghost use Rattle.chip_machine.specs.inner.Stored.{in_rows, differ, any_below};
-ghost use Rattle.chip_machine.specs.Sprite.{draws_over, scale};
-ghost use Rattle.chip_machine.specs.inner.SpriteBytes.{LiesIn, first_column, covers_by_length, covered_by_length};
+ghost use Rattle.chip_machine.specs.Sprite.{scale};
+ghost use Rattle.chip_machine.specs.inner.SpriteBytes.{LiesIn, covered_by_bytes, covers, covers_by_length, first_column};
 ghost use Rattle.chip_machine.specs.Scroll.{scrolled_down, scrolled_right, scrolled_left};
 
 use crate::limits::SPRITE_BYTES;
-use crate::sprite::{HEIGHT, Half, WIDTH, covered_bits, half_of, lines_under, scale_of};
+use crate::sprite::{
+    HEIGHT, Half, WIDTH, covered_bits, half_of, lines_under, scale_of, stripe_over,
+};
 use std::alloc::{AllocError, Global};
 use std::marker::Model;
 
@@ -68,24 +70,26 @@ impl Screen {
     }
 
     /// Moves every pixel down, and loses those that leave.
-    pub(crate) fn scroll_down(&mut self, rows: u8)
+    pub(crate) fn scroll_down(&mut self, rows: usize)
         ensures { self.new ≡ scrolled_down rows self.old }
     {
-        lower(&mut self.rows, rows as usize);
+        lower(&mut self.rows, rows);
     }
 
-    /// Moves every pixel right by four columns, and loses those that leave.
-    pub(crate) fn scroll_right(&mut self)
-        ensures { self.new ≡ scrolled_right 4 self.old }
+    /// Moves every pixel right by so many columns, and loses those that leave.
+    pub(crate) fn scroll_right(&mut self, columns: usize)
+        requires { columns ≤ 8 }
+        ensures { self.new ≡ scrolled_right columns self.old }
     {
-        to_the_right(&mut self.rows);
+        to_the_right(&mut self.rows, columns);
     }
 
-    /// Moves every pixel left by four columns, and loses those that leave.
-    pub(crate) fn scroll_left(&mut self)
-        ensures { self.new ≡ scrolled_left 4 self.old }
+    /// Moves every pixel left by so many columns, and loses those that leave.
+    pub(crate) fn scroll_left(&mut self, columns: usize)
+        requires { columns ≤ 8 }
+        ensures { self.new ≡ scrolled_left columns self.old }
     {
-        to_the_left(&mut self.rows);
+        to_the_left(&mut self.rows, columns);
     }
 
     /// Another screen with the same pixels.
@@ -120,12 +124,12 @@ impl Screen {
 
     /// Draws a sprite, and answers whether it covers a pixel that was lit.
     #[inline(always)]
-    pub(crate) fn draw(&mut self, high: bool, x: u8, y: u8, sprite: &[u8]) -> bool
+    pub(crate) fn draw(&mut self, wraps: bool, high: bool, x: u8, y: u8, sprite: &[u8]) -> bool
         ensures lit { self.new
-            ≡ symmetric_difference self.old (covered_by_length high x y sprite.now) }
-        ensures hit { result ≡ meets self.old (covered_by_length high x y sprite.now) }
+            ≡ symmetric_difference self.old (covered_by_bytes wraps high x y sprite.now) }
+        ensures hit { result ≡ meets self.old (covered_by_bytes wraps high x y sprite.now) }
     {
-        toggle(&mut self.rows, high, x, y, sprite)
+        toggle(&mut self.rows, wraps, high, x, y, sprite)
     }
 }
 
@@ -160,24 +164,26 @@ fn lower(rows: &mut [u128], n: usize)
     darken(&mut rows[..n]);
 }
 
-/// Moves the columns of each row right by four.
-fn to_the_right(rows: &mut [u128])
+/// Moves the columns of each row right by `n`.
+fn to_the_right(rows: &mut [u128], n: usize)
+    requires { n < 128 }
     ensures bits { (row : ℕ) → slice_index rows.old row < 2 ^ 128 }
     ensures moved { (row : ℕ) → row < length rows.old
-        → slice_index rows.new row ≡ slice_index rows.old row / 16 }
+        → slice_index rows.new row ≡ slice_index rows.old row / 2 ^ n }
 {
     for bits in rows.iter_mut() {
-        *bits >>= 4;
+        *bits >>= n;
     }
 }
 
-/// Moves the columns of each row left by four.
-fn to_the_left(rows: &mut [u128])
+/// Moves the columns of each row left by `n`.
+fn to_the_left(rows: &mut [u128], n: usize)
+    requires { n < 128 }
     ensures { (row : ℕ) → row < length rows.old
-        → slice_index rows.new row ≡ slice_index rows.old row * 16 % 2 ^ 128 }
+        → slice_index rows.new row ≡ slice_index rows.old row * 2 ^ n % 2 ^ 128 }
 {
     for bits in rows.iter_mut() {
-        *bits <<= 4;
+        *bits <<= n;
     }
 }
 
@@ -206,10 +212,60 @@ fn turn(rows: &mut [u128], from: usize, count: usize, stripe: u128) -> u128
     met
 }
 
-/// Turns each pixel that a sprite covers, and says whether one of them was lit. The same call
-/// stands twice, since each is compiled for its own width.
+/// Turns each pixel that a sprite covers, and says whether one of them was lit. What wraps, or has
+/// wide rows in the low size, has a loop of its own: all else is drawn by a faster one.
 #[inline(always)]
-fn toggle(rows: &mut [u128], high: bool, x: u8, y: u8, sprite: &[u8]) -> bool
+fn toggle(rows: &mut [u128], wraps: bool, high: bool, x: u8, y: u8, sprite: &[u8]) -> bool
+    requires { length rows.old ≡ 64 }
+    ensures turned { (row column : ℕ) → row < 64 → column < 128
+        → lights (slice_index rows.new row) column
+        ≡ differ (lights (slice_index rows.old row) column)
+        (covers wraps high x y sprite.now column row) }
+    ensures hit { result ≡ any_below
+        (λ row. any_below (λ column. lights (slice_index rows.old row) column
+        && covers wraps high x y sprite.now column row) 128) 64 }
+{
+    if is_clipped(wraps, high, sprite) {
+        toggle_clipped(rows, high, x, y, sprite)
+    } else {
+        toggle_all_lines(rows, wraps, high, x, y, sprite)
+    }
+}
+
+/// Whether a sprite neither wraps nor has wide rows in the low size.
+#[inline(always)]
+fn is_clipped(wraps: bool, high: bool, sprite: &[u8]) -> bool
+    ensures { result ≡ (not wraps && (not (length sprite.now == SPRITE_BYTES) || high)) }
+{
+    !wraps && (sprite.len() != SPRITE_BYTES || high)
+}
+
+/// Turns each pixel that a sprite covers, line by line over the whole screen, and says whether one
+/// of them was lit.
+#[inline(never)]
+fn toggle_all_lines(rows: &mut [u128], wraps: bool, high: bool, x: u8, y: u8, sprite: &[u8]) -> bool
+    requires { length rows.old ≡ 64 }
+    ensures turned { (row column : ℕ) → row < 64 → column < 128
+        → lights (slice_index rows.new row) column
+        ≡ differ (lights (slice_index rows.old row) column)
+        (covers wraps high x y sprite.now column row) }
+    ensures hit { result ≡ any_below
+        (λ row. any_below (λ column. lights (slice_index rows.old row) column
+        && covers wraps high x y sprite.now column row) 128) 64 }
+{
+    let scale = scale_of(high);
+    let mut met = 0;
+    for line in 0..HEIGHT / scale {
+        let stripe = stripe_over(wraps, high, x, y, sprite, line);
+        met |= turn(rows, scale * line, scale, stripe);
+    }
+    met != 0
+}
+
+/// Turns each pixel that a clipped sprite covers, and says whether one of them was lit. The same
+/// call stands twice, since each is compiled for its own width.
+#[inline(always)]
+fn toggle_clipped(rows: &mut [u128], high: bool, x: u8, y: u8, sprite: &[u8]) -> bool
     requires { length rows.old ≡ 64 }
     ensures turned { (row column : ℕ) → row < 64 → column < 128
         → lights (slice_index rows.new row) column

@@ -3,30 +3,17 @@
 ghost use Rattle.std.specs.Prelude.{◌≡◌, ℕ, ◌+◌, ◌-◌, ◌*◌, ◌/◌, ◌%◌, ◌<◌, ◌≤◌, false, ◌==◌, slice_index, ◌^◌, length};
 ghost use Rattle.std.specs.Int.{bit_at};
 ghost use Rattle.chip_machine.specs.Points.{lights};
-ghost use Rattle.chip_machine.specs.Sprite.{draws_over, is_set, scale, sprite_bytes};
-ghost use Rattle.chip_machine.specs.inner.SpriteBytes.{LiesIn, first_column, covers_by_length, row_bytes_by_length};
+ghost use Rattle.chip_machine.specs.Sprite.{is_set, scale};
+ghost use Rattle.chip_machine.specs.inner.SpriteBytes.{LiesIn, covers, covers_by_length, first_column, row_bytes_by_length, sprite_row_bytes};
 
 use crate::doubled::DOUBLED;
 use crate::limits::SPRITE_BYTES;
-use chip_lang::number::Nibble;
 
 /// How many columns the screen has.
 pub(crate) const WIDTH: usize = 128;
 
 /// How many rows the screen has.
 pub(crate) const HEIGHT: usize = 64;
-
-/// How many bytes a sprite of `n` rows has, where `n` 0 stands for sixteen rows.
-pub(crate) fn sprite_bytes(high: bool, n: Nibble) -> usize
-    ensures value { result ≡ sprite_bytes high n }
-    ensures few { result ≤ SPRITE_BYTES }
-{
-    match n.number() {
-        0 if high => SPRITE_BYTES,
-        0 => 16,
-        rows => rows as usize,
-    }
-}
 
 /// How many stored pixels wide and high a pixel is.
 pub(crate) fn scale_of(high: bool) -> usize
@@ -147,4 +134,62 @@ fn doubled(byte: u8) -> u16
     ensures { (k : ℕ) → k < 16 → bit_at result k ≡ bit_at byte (k / 2) }
 {
     DOUBLED[byte as usize]
+}
+
+/// The bits that a sprite, which may wrap or have wide rows in the low size, covers in each row of a
+/// line.
+pub(crate) fn stripe_over(wraps: bool, high: bool, x: u8, y: u8, sprite: &[u8], line: usize) -> u128
+    requires { line < 64 / scale high }
+    ensures { (column at : ℕ) → column < 128 → scale high * line ≤ at
+        → at < scale high * line + scale high
+        → lights result column ≡ covers wraps high x y sprite.now column at }
+{
+    let scale = scale_of(high);
+    let height = HEIGHT / scale;
+    let start = scale * (x as usize % (WIDTH / scale));
+    let top = y as usize % height;
+    if wraps {
+        around(
+            row_bits(high, sprite, (line + height - top) % height),
+            start,
+        )
+    } else if line < top {
+        0
+    } else {
+        row_bits(high, sprite, line - top) >> start
+    }
+}
+
+/// Columns moved right by `start`: those that leave come in at the left.
+fn around(columns: u128, start: usize) -> u128
+    requires { start < 128 }
+    ensures { (column : ℕ) → column < 128
+        → lights result column ≡ lights columns ((column + 128 - start) % 128) }
+{
+    columns >> start | columns << ((128 - start) % 128)
+}
+
+/// The columns of a row of a sprite, which begins at the left edge.
+fn row_bits(high: bool, sprite: &[u8], row: usize) -> u128
+    requires { row < 64 }
+    ensures { (column : ℕ) → column < 128 → lights result column
+        ≡ is_set (sprite_row_bytes sprite.now) sprite.now (column / scale high) row }
+{
+    u128::from(wide_pattern_at(high, sprite, row)) << 96
+}
+
+/// The 32 stored columns that a row of a sprite has at most, the leftmost the highest bit.
+fn wide_pattern_at(high: bool, sprite: &[u8], row: usize) -> u32
+    requires { row < 64 }
+    ensures { (i : ℕ) → i < 32
+        → (bit_at result (31 - i) == 1)
+        ≡ is_set (sprite_row_bytes sprite.now) sprite.now (i / scale high) row }
+{
+    if high || sprite.len() != SPRITE_BYTES {
+        u32::from(pattern_at(high, sprite, row)) << 16
+    } else {
+        let first = doubled(byte_at(sprite, 2 * row));
+        let second = doubled(byte_at(sprite, 2 * row + 1));
+        u32::from(first) << 16 | u32::from(second)
+    }
 }

@@ -65,8 +65,8 @@ pub fn word_pages() -> &'static [Page]
     &WORD_PAGES
 }
 
-// The faults and the warnings of a source's lines.
-static LINE_PAGES: [Page; 25] = [
+// The faults and the warnings of a source's lines, and the faults of its properties.
+static LINE_PAGES: [Page; 31] = [
     Page {
         code: "F1",
         title: "bad character",
@@ -118,7 +118,7 @@ static LINE_PAGES: [Page; 25] = [
     },
     Page {
         code: "F8",
-        title: "name defined on an earlier live line",
+        title: "name defined on an earlier line",
         meaning: "Two lines define one name; upper and lower case are the same.",
         example: Example::Source("X EQU 1\nx EQU 2"),
         fix: "Give one of them another name.",
@@ -233,7 +233,7 @@ static LINE_PAGES: [Page; 25] = [
     Page {
         code: "W7",
         title: "instruction that the profile lacks",
-        meaning: "The profile is vip, and the instruction is one of SUPER-CHIP alone: SCD, SCR, SCL, EXIT, LOW, HIGH, LD HF, Vx, LD R, Vx or LD Vx, R. The machine stops there with S2.",
+        meaning: "The profile has no instructions of SUPER-CHIP alone, as vip and chip48, and this is one: SCD, SCR, SCL, EXIT, LOW, HIGH, LD HF, Vx, LD R, Vx or LD Vx, R. The machine stops there with S2.",
         example: Example::Source("HIGH"),
         fix: "Do without the instruction, or take the profile schip.",
     },
@@ -243,6 +243,48 @@ static LINE_PAGES: [Page; 25] = [
         meaning: "With `check --cover` alone: whatever keys are down at each step, no step is made at the address of this instruction; where a step is named, none up to that one. The tape is 00, so that RND gives 0, and 10 steps lie between two ticks. An instruction that has W3 has no W8.",
         example: Example::Source("LD V0, 1\nLOOP: SE V0, 0\nJP LOOP\nCLS"),
         fix: "Correct what was to lead there, or delete the instruction. `explore --cover` tries another tape or rate.",
+    },
+    Page {
+        code: "P1",
+        title: "property that states nothing",
+        meaning: "A line of `;!` has no condition and no place.",
+        example: Example::Source("STOP: JP STOP\n;! always"),
+        fix: "Write a condition, as in `;! always V0 <= 7`, or a place, as in `;! never at BUG`.",
+    },
+    Page {
+        code: "P2",
+        title: "comparison expected",
+        meaning: "A property goes on in a way that it can't: a comparison, a value or a place is missing, a second relation follows a comparison, `and` stands beside `or`, or a token is bad. Equal is `=`, unequal `<>`.",
+        example: Example::Source("STOP: JP STOP\n;! 0 < V0 < 5"),
+        fix: "Write two comparisons, as in `;! 0 < V0 and V0 < 5`. A calculation with names and numbers stands in parentheses.",
+    },
+    Page {
+        code: "P3",
+        title: "undefined name in a property",
+        meaning: "A name in a property has no value.",
+        example: Example::Source("STOP: JP STOP\n;! never V0 = 1 at STOPP"),
+        fix: "Correct its spelling, or define it by a label or by EQU.",
+    },
+    Page {
+        code: "P4",
+        title: "value out of range in a property",
+        meaning: "A value is below 0, the numbers of a sum have over 32 bits together, an address is above 4095, or a pixel is off the screen: columns go to 127, rows to 63.",
+        example: Example::Source("STOP: JP STOP\n;! never [4096] = 1"),
+        fix: "Use a value in the range. What is subtracted on one side of a relation is added on the other.",
+    },
+    Page {
+        code: "P5",
+        title: "what can't be asked",
+        meaning: "A property names what a search doesn't tell states apart by: ST, K or DRAWS. Or it begins with `can`, which is not answered yet, or has `here` but no line, as in a text of `explore --never`.",
+        example: Example::Source("STOP: JP STOP\n;! always ST = 0"),
+        fix: "Ask a register, a byte of the memory, or DT. KEYS is 1 where the next instruction asks for a key.",
+    },
+    Page {
+        code: "P6",
+        title: "too many parts of properties",
+        meaning: "A condition has over 16 comparisons, a sum over 16 terms, a source over 64 properties, or over 16 parentheses and brackets are open at one place.",
+        example: Example::Source("STOP: JP STOP\n;! (((((((((((((((((1))))))))))))))))) = V0"),
+        fix: "State it by several properties, or define a part of the expression by EQU.",
     },
 ];
 

@@ -15,7 +15,7 @@ use Rattle.chip_session.specs.Answers.{state_answer, step_refusal, unless_refuse
 pub same_machine : (lines : List (List ℕ)) (kept : KeptRun) (image : List ℕ) → kept.last_image ≡ image → machine_after kept ≡ machine_at (session_on lines kept) image
 unfolding machine_at
 same_machine lines kept image is =
-    let machine : List ℕ → ℕ → State = λ bytes step. run step_of kept.settings.rate (held kept.keys) (start_of bytes kept.settings.tape kept.settings.profile) step in
+    let machine : List ℕ → ℕ → State = λ bytes step. run step_of kept.settings.rate (held kept.keys) (start_of bytes kept.settings.tape kept.settings.quirks) step in
     ap machine is
 
 same_state : (lines : List (List ℕ)) (kept : KeptRun) (image : List ℕ) (step : ℕ) → kept.last_image ≡ image →

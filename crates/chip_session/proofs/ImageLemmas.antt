@@ -4,7 +4,7 @@ use Rattle.std.specs.declared.ops.Range.{Range}
 use Rattle.std.proofs.lemmas.List.{take-append-drop}
 use Rattle.chip_asm.specs.Program.{AgreesOutside}
 use Rattle.chip_lang.specs.declared.limits.TheConstants.{IMAGE_BYTES, IMAGE_START}
-use Rattle.chip_machine.specs.declared.profile.Profile.{Profile}
+use Rattle.chip_machine.specs.declared.quirks.Quirks.{Quirks}
 use Rattle.chip_machine.specs.State.{State, with_memory, memory_of}
 use Rattle.chip_machine.specs.Start.{start_of, start_core, start_memory}
 use Rattle.chip_machine.specs.ImageLaw.{ImageAndZeros, SameBelowTheImage}
@@ -24,17 +24,17 @@ other_image old new there below fits =
     ∙ take-append-drop IMAGE_START (start_memory new)
 
 -- a machine at the start with another image is one that starts with it
-pub restarted : (old new tape : List ℕ) (profile : Profile) → ImageAndZeros → SameBelowTheImage → length new ≤ IMAGE_BYTES →
-    with_image memory_of with_memory new (start_of old tape profile) ≡ start_of new tape profile
-restarted old new tape profile there below fits =
-    ap (λ (memory : List ℕ). let state : State = record { core = start_core tape profile; memory = memory } in state) (other_image old new there below fits)
+pub restarted : (old new tape : List ℕ) (quirks : Quirks) → ImageAndZeros → SameBelowTheImage → length new ≤ IMAGE_BYTES →
+    with_image memory_of with_memory new (start_of old tape quirks) ≡ start_of new tape quirks
+restarted old new tape quirks there below fits =
+    ap (λ (memory : List ℕ). let state : State = record { core = start_core tape quirks; memory = memory } in state) (other_image old new there below fits)
 
 pub replays_next : (settings : SessionSettings) (old new : List ℕ) (before after : History State) → Replays settings old before →
     ImageAndZeros → SameBelowTheImage → length new ≤ IMAGE_BYTES →
     after.start ≡ with_image memory_of with_memory new before.start → after.rate ≡ before.rate → after.spacing ≡ before.spacing → Replays settings new after
 replays_next settings old new before after kept there below fits start rate spacing =
     record {
-      start = start ∙ ap (with_image memory_of with_memory new) kept.start ∙ restarted old new settings.tape settings.profile there below fits;
+      start = start ∙ ap (with_image memory_of with_memory new) kept.start ∙ restarted old new settings.tape settings.quirks there below fits;
       rate = rate ∙ kept.rate;
       spacing = spacing ∙ kept.spacing;
       fits = fits;

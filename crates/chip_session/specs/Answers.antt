@@ -88,7 +88,7 @@ state_answer (state.Picture form) s = picture_by form s
 unfoldable pub machine_at : Session → List ℕ → ℕ → State
 machine_at session image step =
     run step_of session.settings.rate (held session.keys)
-    (start_of image session.settings.tape session.settings.profile) step
+    (start_of image session.settings.tape session.settings.quirks) step
 
 -- the machine with the session's image, if there is one, at each step
 abbrev pub machine_of : Session → ℕ → State

@@ -36,7 +36,7 @@ IsLastImage image last = (bytes : List ℕ) → image ≡ Some bytes → last �
 
 -- the machine before the first step
 abbrev pub kept_start : KeptRun → State
-kept_start kept = start_of kept.last_image kept.settings.tape kept.settings.profile
+kept_start kept = start_of kept.last_image kept.settings.tape kept.settings.quirks
 
 -- the machine after so many steps
 abbrev pub machine_after : KeptRun → ℕ → State

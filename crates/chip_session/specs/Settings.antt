@@ -1,25 +1,26 @@
 -- The settings of a session (own).
 use Rattle.std.specs.Prelude.{ℕ, ◌<◌, ◌≤◌, ◌||◌, List, [], ◌∷◌, length, nat_lt, Option, Some, None, if◌then◌else◌}
 use Rattle.chip_machine.specs.declared.limits.TheConstants.{TAPE_BYTES}
-use Rattle.chip_machine.specs.declared.profile.Profile.{Profile}
+use Rattle.chip_machine.specs.Profile.{quirks}
 use Rattle.chip_machine.specs.declared.profile.Profile.TheVariants.{Schip}
+use Rattle.chip_machine.specs.declared.quirks.Quirks.{Quirks}
 use Rattle.chip_replay.specs.declared.limits.TheConstants.{LEAST_SPACING, MOST_RATE, MOST_SPACING}
 use Rattle.chip_session.specs.declared.settings.SetError.{SetError}
 use Rattle.chip_session.specs.declared.settings.SetError.TheVariants.{RateOutOfRange, TapeLength, SpacingOutOfRange}
 
--- how many steps there are to a tick of the timers, the bytes that stand for random ones, which
--- machine it is, and how many steps lie between one checkpoint of its run and the next, on which no
+-- how many steps there are to a tick of the timers, the bytes that stand for random ones, the
+-- quirks of the machine, and how many steps lie between one checkpoint of its run and the next, on which no
 -- answer depends
 pub record SessionSettings : Type 0 where
   pub rate : ℕ
   pub tape : List ℕ
-  pub profile : Profile
+  pub quirks : Quirks
   pub spacing : ℕ
 
 -- the settings of a rate and a tape where nothing else is said
 abbrev pub settings_of : ℕ → List ℕ → SessionSettings
 settings_of rate tape =
-    record { rate = rate; tape = tape; profile = Schip; spacing = LEAST_SPACING }
+    record { rate = rate; tape = tape; quirks = quirks Schip; spacing = LEAST_SPACING }
 
 -- a number of steps to a tick
 abbrev pub IsRate : ℕ → Type 0

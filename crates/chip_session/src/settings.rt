@@ -5,8 +5,8 @@ ghost use Rattle.chip_session.specs.Settings.{settings_of, settings_fault, spaci
 ghost use Rattle.chip_session.specs.declared.settings.SetError.TheVariants.{OutOfMemory};
 
 use chip_asm::NameHasher;
-use chip_machine::Profile;
 use chip_machine::limits::TAPE_BYTES;
+use chip_machine::{Profile, Quirks};
 use chip_replay::{LEAST_SPACING, MOST_RATE, MOST_SPACING};
 use std::alloc::{AllocError, Global};
 use std::marker::Model;
@@ -44,7 +44,7 @@ impl From<AllocError> for SetError {
 pub struct Settings {
     rate: u32,
     tape: Vec<u8>,
-    profile: Profile,
+    quirks: Quirks,
     spacing: u32,
     names: NameHasher,
 }
@@ -55,7 +55,7 @@ impl Model for Settings {
     ghost Value = { SessionSettings };
 
     ghost view = { λ s.
-        record { rate = s.rate; tape = s.tape.items; profile = s.profile; spacing = s.spacing } };
+        record { rate = s.rate; tape = s.tape.items; quirks = s.quirks; spacing = s.spacing } };
 
     ghost use Rattle.chip_replay.specs.Limits.{IsSpacing};
     ghost use Rattle.chip_machine.specs.Start.{IsTape};
@@ -85,17 +85,17 @@ impl Settings {
         Ok(Settings {
             rate,
             tape,
-            profile: Profile::Schip,
+            quirks: Profile::Schip.quirks(),
             spacing: LEAST_SPACING,
             names: NameHasher::new(0),
         })
     }
 
-    /// The same for a machine of that profile.
-    pub fn with_profile(self, profile: Profile) -> Settings
-        ensures { result ≡ record self { profile = profile } }
+    /// The same for a machine with these quirks.
+    pub fn with_quirks(self, quirks: Quirks) -> Settings
+        ensures { result ≡ record self { quirks = quirks } }
     {
-        Settings { profile, ..self }
+        Settings { quirks, ..self }
     }
 
     /// The same with that many steps between one checkpoint and the next, `LEAST_SPACING` to
@@ -149,11 +149,11 @@ impl Settings {
         &self.tape
     }
 
-    /// Which machine it is.
-    pub fn profile(&self) -> Profile
-        ensures { result ≡ self.now.profile }
+    /// The quirks of the machine.
+    pub fn quirks(&self) -> Quirks
+        ensures { result ≡ self.now.quirks }
     {
-        self.profile
+        self.quirks
     }
 
     /// How many steps lie between one checkpoint and the next.

@@ -3,3 +3,4 @@ pub mod WordLayout
 pub mod TextLines
 pub mod ImageText
 pub mod Parts
+pub mod Rows

@@ -1,6 +1,7 @@
 -- Warnings of one line more.
-use Rattle.std.proofs.Common.{◌≡◌, ℕ, ◌≤◌, ◌+◌, ◌-◌, ◌∙◌, List, [], ◌∷◌, ◌++◌, All, drop, length, get_or, length-drop, ap, sym, subst, append_assoc, arith}
-use Rattle.std.proofs.lemmas.List.{append-nil, drop-drop, get_or-drop}
+use Rattle.std.proofs.Common.{◌≡◌, ℕ, ◌≤◌, ◌-◌, ◌∙◌, List, [], ◌∷◌, ◌++◌, All, Some, length, get_or, slice_get, ap, sym, subst, append_assoc, arith}
+use Rattle.std.proofs.lemmas.List.{append-nil}
+use Rattle.std.proofs.lemmas.Option.{get_or_from_slice_get, slice_get_within}
 use Rattle.std.proofs.lemmas.List.Elements.{All-append, All-nil, All-push, All-weaker}
 use Rattle.chip_warnings.specs.declared.warning.Warning.{Warning}
 use Rattle.chip_warnings.specs.Warnings.{Adds, StandsAt, StandsIn}
@@ -16,28 +17,13 @@ module _ (P : Warning → Type 0) where
     each = All-push P so_far.more w so_far.each there;
   }
 
-module _ (lines : List (List ℕ)) (number : ℕ) (line : List ℕ) (more : List (List ℕ)) (low : 1 ≤ number) (at : drop (number - 1) lines ≡ line ∷ more) where
-  here : get_or lines (number - 1) [] ≡ line
-  here =
-      let same : number - 1 + 0 ≡ number - 1 = omega arith in
-      ap (λ n. get_or lines n []) (sym same) ∙ sym (get_or-drop (number - 1) lines 0 []) ∙ ap (λ ls. get_or ls 0 []) at
-
-  among : number ≤ length lines
-  among =
-      let left : length lines - (number - 1) ≡ length (line ∷ more) = sym (length-drop (number - 1) lines) ∙ ap length at in
-      grind arith
-
-  pub next_rest : drop (number + 1 - 1) lines ≡ more
-  next_rest =
-      let same : number + 1 - 1 ≡ number - 1 + 1 = omega arith in
-      ap (λ n. drop n lines) same ∙ sym (drop-drop 1 (number - 1) lines) ∙ ap (drop 1) at
-
+module _ (lines : List (List ℕ)) (number : ℕ) (line : List ℕ) (low : 1 ≤ number) (at : slice_get lines (number - 1) ≡ Some line) where
   stands : (w : Warning) → StandsAt number line w → StandsIn lines w
   stands w there = record {
     from_one = omega (arith, there.there, low);
-    to_last = omega (arith, there.there, among);
+    to_last = omega (arith, there.there, low, slice_get_within lines (number - 1) line at);
     rises = there.rises;
-    inside = subst (λ l. w.span.end ≤ length l) (sym (ap (λ n. get_or lines (n - 1) []) there.there ∙ here)) there.inside;
+    inside = subst (λ l. w.span.end ≤ length l) (sym (ap (λ n. get_or lines (n - 1) []) there.there ∙ get_or_from_slice_get lines (number - 1) line [] at)) there.inside;
   }
 
   pub next_placed : (old new : List Warning) → All (StandsIn lines) old → Adds (StandsAt number line) old new → All (StandsIn lines) new

@@ -1,10 +1,16 @@
 -- The numbers of warnings, and where they stand in a source (own).
 use Rattle.std.specs.Prelude.{ℕ, ◌≡◌, ◌≤◌, ◌-◌, ◌++◌, List, [], All, length, slice_index_or}
+use Rattle.chip_properties.specs.Faults.{number_of_property_fault}
 use Rattle.chip_warnings.specs.declared.warning.Warning.{Warning}
 use Rattle.chip_warnings.specs.declared.warning.WarningCode.{WarningCode}
-use Rattle.chip_warnings.specs.declared.warning.WarningCode.TheVariants.{SplitRows, UnusedName, Unreachable, FallsIntoData, JumpsToData, OddAddress, NotInProfile, NeverExecuted}
+use Rattle.chip_warnings.specs.declared.warning.WarningCode.TheVariants.{SplitRows, UnusedName, Unreachable, FallsIntoData, JumpsToData, OddAddress, NotInProfile, NeverExecuted, Property}
 
--- the number of a warning, W1 to W8
+-- the letter before it: P where a property can't be read, else W
+abbrev pub letter_of_warning : WarningCode → ℕ
+letter_of_warning (Property code) = 80
+letter_of_warning code = 87
+
+-- the number of a warning, W1 to W8 and P1 to P6
 abbrev pub number_of_warning : WarningCode → ℕ
 number_of_warning SplitRows = 1
 number_of_warning UnusedName = 2
@@ -14,6 +20,7 @@ number_of_warning JumpsToData = 5
 number_of_warning OddAddress = 6
 number_of_warning NotInProfile = 7
 number_of_warning NeverExecuted = 8
+number_of_warning (Property code) = number_of_property_fault code
 
 -- a warning stands on one of these lines, at bytes that lie in it
 pub record StandsIn (lines : List (List ℕ)) (w : Warning) : Type 0 where

@@ -6,7 +6,7 @@ use crate::seen::{Says, Seen};
 use crate::survey::Survey;
 use crate::warning::WarningCode;
 use chip_lang::limits::IMAGE_START;
-use chip_machine::Profile;
+use chip_machine::Quirks;
 
 /// Whether execution comes to a place.
 #[derive(Clone, Copy)]
@@ -98,7 +98,7 @@ impl Flow {
         code: WarningCode,
         survey: &Survey,
         seen: &Seen,
-        profile: Profile,
+        quirks: Quirks,
         coverage: Option<Coverage<'_>>,
     ) -> bool {
         match code {
@@ -112,13 +112,14 @@ impl Flow {
                     && seen.address % 2 == 1
                     && !self.last.is_code_before(seen.address)
             }
-            WarningCode::NotInProfile => is_missing(profile, seen),
+            WarningCode::NotInProfile => is_missing(quirks, seen),
             WarningCode::NeverExecuted => match coverage {
                 Some(coverage) => {
                     coverage.leaves_out(seen) && !self.is_unreachable(&survey.marks, seen)
                 }
                 None => false,
             },
+            WarningCode::Property(_) => false,
         }
     }
 
@@ -161,9 +162,9 @@ pub(crate) fn data_line(marks: &Marks, seen: &Seen) -> Option<usize> {
     }
 }
 
-/// Whether a line is an instruction that a profile doesn't have.
-fn is_missing(profile: Profile, seen: &Seen) -> bool {
-    if profile.quirks().has_super_instructions {
+/// Whether a line is an instruction that the machine doesn't have.
+fn is_missing(quirks: Quirks, seen: &Seen) -> bool {
+    if quirks.has_super_instructions {
         return false;
     }
     match seen.says {

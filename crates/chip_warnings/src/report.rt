@@ -1,7 +1,6 @@
 //! The warnings of a source.
 
 ghost use Rattle.std.specs.Prelude.{◌≡◌, IfOk, OnOk, None, [], All};
-ghost use Rattle.chip_asm.specs.Lines.{lines_of};
 ghost use Rattle.chip_asm.specs.Program.{image_of};
 ghost use Rattle.chip_warnings.specs.Warnings.{StandsAt, StandsIn, Adds};
 
@@ -12,65 +11,118 @@ use crate::survey::Survey;
 use crate::text::{fault_there, help, sentence};
 use crate::warning::{CODES, Warning, WarningCode};
 use chip_asm::Source;
-use chip_files::first_line;
-use chip_lang::fault_span;
-use chip_machine::Profile;
+use chip_lang::{Span, fault_span};
+use chip_machine::Quirks;
+use chip_properties::{PropertyFault, properties_of};
 use std::alloc::{AllocError, Global};
 
-/// The warnings of a source that was opened from these bytes, in the order of the lines; none where
-/// a line has a fault. `allowed` has bit k set where Wk is switched off. Without the coverage of the
-/// source's image no line has W8.
+/// The warnings of a source, in the order of the lines; none where a line has a fault. `allowed` has
+/// bit k set where Wk is switched off. Without the coverage of the source's image no line has W8.
+/// Properties that can't be read are among them, as P1 to P6.
 ///
 /// # Errors
 ///
 /// Out of memory.
 pub fn warnings(
     alloc: Global,
-    bytes: &[u8],
     source: &Source,
-    profile: Profile,
+    quirks: Quirks,
     allowed: u16,
     coverage: Option<Coverage<'_>>,
 ) -> Result<Vec<Warning>, AllocError>
-    ensures places { IfOk result (λ warnings. All (StandsIn (lines_of bytes.now)) warnings.items) }
+    ensures places { IfOk result (λ warnings. All (StandsIn source.now.lines) warnings.items) }
     ensures faulty { IfOk result
         (λ warnings. image_of source.now.lines ≡ None → warnings.items ≡ []) }
 {
     let mut warnings = Vec::new(alloc);
-    let Some(image) = source.image() else {
+    if source.image().is_none() {
         return Ok(warnings);
-    };
-    let survey = Survey::of(alloc, bytes, source, image)?;
+    }
+    let survey = Survey::of(alloc, source)?;
+    let properties = properties_of(alloc, source)?;
     let mut flow = Flow::START;
-    let mut number = 1;
-    let mut rest = bytes;
-    while !rest.is_empty() {
-        let (line, more) = first_line(rest);
+    let mut next = 0;
+    for place in 0..source.lines() {
+        let number = place + 1;
+        let Some(line) = source.line(number) else {
+            break;
+        };
         let seen = survey.line(number);
         flow.arrive(&survey.marks, &seen);
         let judge = Judge {
             survey: &survey,
             flow: &flow,
-            profile,
+            quirks,
             allowed,
             coverage,
         };
-        judge.push_warnings(alloc, &mut warnings, number, line)?;
+        let bytes = line.text();
+        judge.push_warnings(alloc, &mut warnings, number, bytes)?;
+        let faults = properties.faults.as_slice();
+        next = push_fault_at(alloc, &mut warnings, faults, next, number, bytes)?;
         flow.leave(number, &seen);
-        number += 1;
-        rest = more;
     }
     Ok(warnings)
 }
 
+/// Adds the next fault of a property, where it stands on the line of a number, and tells which one is the
+/// next then.
+#[tactic(auto, using(crate::proofs::Placed::adds_none))]
+fn push_fault_at(
+    alloc: Global,
+    warnings: &mut Vec<Warning>,
+    faults: &[PropertyFault],
+    next: usize,
+    number: usize,
+    line: &[u8],
+) -> Result<usize, AllocError>
+    ensures { OnOk result (Adds (StandsAt number line.now) warnings.old.items
+        warnings.new.items) }
+{
+    let Some(fault) = faults.get(next) else {
+        return Ok(next);
+    };
+    if fault.line != number {
+        return Ok(next);
+    }
+    push_fault(alloc, warnings, fault, number, line)?;
+    Ok(next.saturating_add(1))
+}
+
+/// Adds the fault of a property that stands on the line of a number.
+fn push_fault(
+    alloc: Global,
+    warnings: &mut Vec<Warning>,
+    fault: &PropertyFault,
+    number: usize,
+    line: &[u8],
+) -> Result<(), AllocError>
+    ensures { OnOk result (Adds (StandsAt number line.now) warnings.old.items
+        warnings.new.items) }
+{
+    let end = fault.span.end.min(line.len());
+    let warning = Warning {
+        line: number,
+        span: Span {
+            start: fault.span.start.min(end),
+            end,
+        },
+        code: WarningCode::Property(fault.code),
+        sentence: Vec::from_slice(alloc, fault.code.sentence())?,
+        help: Vec::from_slice(alloc, &fault.help)?,
+    };
+    warnings.push(warning)?;
+    Ok(())
+}
+
 /// What the warnings of a line follow from.
 #[derive(Clone, Copy)]
-struct Judge<'a> {
-    survey: &'a Survey,
-    flow: &'a Flow,
-    profile: Profile,
+pub(crate) struct Judge<'a> {
+    pub(crate) survey: &'a Survey,
+    pub(crate) flow: &'a Flow,
+    pub(crate) quirks: Quirks,
     allowed: u16,
-    coverage: Option<Coverage<'a>>,
+    pub(crate) coverage: Option<Coverage<'a>>,
 }
 
 impl<'a> Judge<'a> {
@@ -100,7 +152,7 @@ impl<'a> Judge<'a> {
         !code.is_among(self.allowed)
             && self
                 .flow
-                .has(code, self.survey, seen, self.profile, self.coverage)
+                .has(code, self.survey, seen, self.quirks, self.coverage)
     }
 
     /// The warning of a kind of the line of a number.
@@ -115,16 +167,7 @@ impl<'a> Judge<'a> {
         ensures { IfOk result (StandsAt number line.now) }
     {
         let span = fault_span(alloc, line, fault_there(code))?;
-        let sentence = sentence(
-            alloc,
-            code,
-            line,
-            span,
-            seen,
-            self.flow,
-            &self.survey.marks,
-            self.coverage,
-        )?;
+        let sentence = sentence(alloc, code, line, span, seen, self)?;
         let help = Vec::from_slice(alloc, help(code))?;
         Ok(Warning {
             line: number,

@@ -1,8 +1,6 @@
 //! What a line is to the lines around it.
 
-ghost use Rattle.std.specs.Prelude.{◌<◌, IfSome};
-
-use chip_lang::limits::IMAGE_START;
+use chip_asm::LineView;
 use chip_lang::{Body, Line, decode};
 
 /// What the bytes of a line are.
@@ -41,29 +39,24 @@ impl Seen {
         says: Says::Nothing,
     };
 
-    /// A line, by its reading, its line of the listing, and the image.
-    pub(crate) fn of(line: &Line, listed: &[u8], image: &[u8]) -> Seen {
-        let Line::Read { label, body } = line else {
+    /// A line of a source without faults.
+    pub(crate) fn of(line: &LineView<'_>) -> Seen {
+        let Line::Read { label, body } = line.reading() else {
             return Seen::INACTIVE;
         };
-        let Some((address, has_bytes)) = place_listed(listed) else {
+        if !line.is_active() {
             return Seen::INACTIVE;
-        };
+        }
         let begins = match body {
             Body::Org(_) => true,
             Body::Equ(_) | Body::Define => false,
             _ => label.is_some(),
         };
-        let says = if has_bytes {
-            said(body, word_at(image, address))
-        } else {
-            Says::Nothing
-        };
         Seen {
-            address,
+            address: line.address(),
             begins,
             unused: false,
-            says,
+            says: said(body, line.bytes()),
         }
     }
 
@@ -73,8 +66,12 @@ impl Seen {
     }
 }
 
-/// What the bytes of a body are, the first two of which are a word.
-fn said(body: &Body, word: u16) -> Says {
+/// What the bytes of a body are.
+fn said(body: &Body, bytes: &[u8]) -> Says {
+    if bytes.is_empty() {
+        return Says::Nothing;
+    }
+    let word = first_word(bytes);
     match body {
         Body::Code(form, _) if form.base == 0 => Says::PerhapsCode,
         Body::Code(form, _) => Says::Code {
@@ -88,33 +85,10 @@ fn said(body: &Body, word: u16) -> Says {
     }
 }
 
-/// The word at an address, and 0 outside the image.
-fn word_at(image: &[u8], address: usize) -> u16 {
-    let place = address.saturating_sub(IMAGE_START);
-    match image.get(place..) {
-        Some([high, low, ..]) => u16::from(*high) * 256 + u16::from(*low),
+/// The word that the first two bytes make, and 0 of fewer bytes.
+fn first_word(bytes: &[u8]) -> u16 {
+    match bytes {
+        [high, low, ..] => u16::from(*high) * 256 + u16::from(*low),
         _ => 0,
-    }
-}
-
-/// The address in a line of the listing, and whether bytes or a value stand after it. None where
-/// the line isn't active.
-fn place_listed(listed: &[u8]) -> Option<(usize, bool)> {
-    let [_, _, _, _, _, a, b, c, d, _, first, ..] = listed else {
-        return None;
-    };
-    let high = digit_value(*a)? * 16 + digit_value(*b)?;
-    let low = digit_value(*c)? * 16 + digit_value(*d)?;
-    Some((high * 256 + low, *first != b' '))
-}
-
-/// The value of a hexadecimal digit in lower case.
-fn digit_value(digit: u8) -> Option<usize>
-    ensures { IfSome result (λ value. value < 16) }
-{
-    match digit {
-        b'0'..=b'9' => Some(usize::from(digit - b'0')),
-        b'a'..=b'f' => Some(usize::from(digit - b'a') + 10),
-        _ => None,
     }
 }

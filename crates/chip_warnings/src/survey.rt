@@ -4,9 +4,9 @@ use crate::marks::Marks;
 use crate::seen::Seen;
 use chip_asm::limits::LINE_BYTES;
 use chip_asm::{NameHasher, Source};
-use chip_files::first_line;
 use chip_lang::limits::IMAGE_START;
-use chip_lang::{Body, Line, Meter, read_line, used_names};
+use chip_lang::{Body, Line, used_names};
+use chip_properties::names_used;
 use indexmap::IndexSet;
 use std::alloc::{AllocError, Global};
 
@@ -21,16 +21,10 @@ pub(crate) struct Survey {
 }
 
 impl Survey {
-    /// The survey of a source without faults that was opened from these bytes and has this image.
-    pub(crate) fn of(
-        alloc: Global,
-        bytes: &[u8],
-        source: &Source,
-        image: &[u8],
-    ) -> Result<Survey, AllocError> {
-        let listing = source.listing(alloc)?;
+    /// The survey of a source without faults.
+    pub(crate) fn of(alloc: Global, source: &Source) -> Result<Survey, AllocError> {
         let mut used = IndexSet::with_hasher(alloc, NameHasher::new(0));
-        let mut lines = seen_lines(alloc, bytes, &listing, image, &mut used)?;
+        let mut lines = seen_lines(alloc, source, &mut used)?;
         mark_unused(alloc, source, &used, &mut lines)?;
         let marks = Marks::of(alloc, &lines)?;
         Ok(Survey { lines, marks })
@@ -45,35 +39,19 @@ impl Survey {
     }
 }
 
-/// The lines of some bytes, beside those of their listing. The names that they use are added to the
-/// set.
-fn seen_lines(
-    alloc: Global,
-    bytes: &[u8],
-    listing: &[u8],
-    image: &[u8],
-    used: &mut Names,
-) -> Result<Vec<Seen>, AllocError> {
-    let mut lines = Vec::new(alloc);
-    let mut rest = bytes;
-    let mut rows = listing;
-    while !rest.is_empty() && !rows.is_empty() {
-        let (text, more) = first_line(rest);
-        let (row, more_rows) = first_line(rows);
-        let line = read(alloc, text)?;
-        note_names(alloc, used, &*line)?;
-        lines.push(Seen::of(&*line, row, image))?;
-        rest = more;
-        rows = more_rows;
+/// The lines of a source. The names that they use are added to the set.
+fn seen_lines(alloc: Global, source: &Source, used: &mut Names) -> Result<Vec<Seen>, AllocError> {
+    let mut lines = Vec::with_capacity(alloc, source.lines())?;
+    for place in 0..source.lines() {
+        if let Some(line) = source.line(place + 1) {
+            note_names(alloc, used, line.reading())?;
+            for name in &names_used(alloc, line.text())? {
+                note_name(alloc, used, name.get())?;
+            }
+            lines.push(Seen::of(&line))?;
+        }
     }
     Ok(lines)
-}
-
-/// A line as it is read.
-fn read(alloc: Global, text: &[u8]) -> Result<Box<Line>, AllocError> {
-    let mut meter = Meter::new();
-    let line = read_line(alloc, &mut meter, text)?;
-    Ok(Box::new(alloc, line)?)
 }
 
 /// Adds the names that a line uses.

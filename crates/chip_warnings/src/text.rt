@@ -3,11 +3,13 @@
 ghost use Rattle.std.specs.Prelude.{◌≤◌, length};
 
 use crate::coverage::Coverage;
-use crate::flow::{Flow, data_line};
+use crate::flow::data_line;
 use crate::marks::Marks;
+use crate::report::Judge;
 use crate::seen::{Says, Seen};
 use crate::warning::WarningCode;
 use chip_lang::{Fault, Span, show};
+use chip_machine::{Profile, Quirks};
 use std::alloc::{AllocError, Global};
 
 /// A fault that has the place of a warning: the name that the line defines, its operands, or the
@@ -27,14 +29,12 @@ pub(crate) fn sentence(
     line: &[u8],
     span: Span,
     seen: &Seen,
-    flow: &Flow,
-    marks: &Marks,
-    coverage: Option<Coverage<'_>>,
+    judge: &Judge<'_>,
 ) -> Result<Vec<u8>, AllocError>
     requires rises { span.start ≤ span.end }
     requires inside { span.end ≤ length line.now }
 {
-    let above = flow.number;
+    let above = judge.flow.number;
     let text = match code {
         WarningCode::UnusedName => {
             let mut text = Vec::from_slice(alloc, &line[span.start..span.end])?;
@@ -48,10 +48,11 @@ pub(crate) fn sentence(
         WarningCode::FallsIntoData => {
             format!(in alloc; "execution runs from line {above} into this data")?
         }
-        WarningCode::JumpsToData => jump_sentence(alloc, seen, marks)?,
+        WarningCode::JumpsToData => jump_sentence(alloc, seen, &judge.survey.marks)?,
         WarningCode::OddAddress => odd_sentence(alloc, seen)?,
-        WarningCode::NotInProfile => missing_sentence(alloc, seen)?,
-        WarningCode::NeverExecuted => never_sentence(alloc, coverage)?,
+        WarningCode::NotInProfile => missing_sentence(alloc, seen, judge.quirks)?,
+        WarningCode::NeverExecuted => never_sentence(alloc, judge.coverage)?,
+        WarningCode::Property(code) => return Vec::from_slice(alloc, code.sentence()),
     };
     Ok(text.into_bytes())
 }
@@ -72,14 +73,20 @@ fn odd_sentence(alloc: Global, seen: &Seen) -> Result<String, AllocError> {
     format!(in alloc; "an instruction at the odd address 0x{address:X}")
 }
 
-/// Says which instruction the profile doesn't have.
-fn missing_sentence(alloc: Global, seen: &Seen) -> Result<String, AllocError> {
+/// Says which instruction the machine doesn't have.
+fn missing_sentence(alloc: Global, seen: &Seen, quirks: Quirks) -> Result<String, AllocError> {
     let word = match seen.says {
         Says::Code { word, .. } => word,
         _ => 0,
     };
     let instruction = show(alloc, word)?;
-    format!(in alloc; "the profile vip has no instruction {instruction}")
+    match Profile::with_quirks(quirks) {
+        Some(profile) => {
+            let name = profile.name();
+            format!(in alloc; "the profile {name} has no instruction {instruction}")
+        }
+        None => format!(in alloc; "the machine has no instruction {instruction}"),
+    }
 }
 
 /// Says up to which step no key script executes an instruction, or that none ever does.
@@ -107,6 +114,6 @@ pub(crate) fn help(code: WarningCode) -> &'static [u8] {
         WarningCode::JumpsToData => b"",
         WarningCode::OddAddress => b"put ALIGN ON before the data above it, or DB 0 after that",
         WarningCode::NotInProfile => b"schip has it",
-        WarningCode::NeverExecuted => b"",
+        WarningCode::NeverExecuted | WarningCode::Property(_) => b"",
     }
 }

@@ -1,9 +1,10 @@
 //! A warning, and where it stands.
 
 ghost use Rattle.std.specs.Prelude.{◌≡◌, ◌≤◌};
-ghost use Rattle.chip_warnings.specs.Warnings.{number_of_warning};
+ghost use Rattle.chip_warnings.specs.Warnings.{letter_of_warning, number_of_warning};
 
 use chip_lang::Span;
+use chip_properties::FaultCode;
 
 /// What a source says that it may not mean.
 #[derive(Clone, Copy)]
@@ -24,9 +25,21 @@ pub enum WarningCode {
     NotInProfile,
     /// W8: an instruction that no key script executes.
     NeverExecuted,
+    /// P1 to P6: a property that can't be read.
+    Property(FaultCode),
 }
 
 impl WarningCode {
+    /// The letter before its number: P where a property can't be read, else W.
+    pub fn letter(self) -> char
+        ensures { result ≡ letter_of_warning self }
+    {
+        match self {
+            WarningCode::Property(_) => 'P',
+            _ => 'W',
+        }
+    }
+
     /// The number that a warning has: 1 to 8.
     pub fn number(self) -> u32
         ensures value { result ≡ number_of_warning self }
@@ -41,6 +54,7 @@ impl WarningCode {
             WarningCode::OddAddress => 6,
             WarningCode::NotInProfile => 7,
             WarningCode::NeverExecuted => 8,
+            WarningCode::Property(code) => code.number(),
         }
     }
 
@@ -50,7 +64,7 @@ impl WarningCode {
     }
 }
 
-/// All kinds, in the order of their numbers.
+/// The kinds W1 to W8, in the order of their numbers.
 pub(crate) const CODES: &[WarningCode] = &[
     WarningCode::SplitRows,
     WarningCode::UnusedName,

@@ -3,8 +3,9 @@ use Rattle.std.specs.Prelude.{ℕ, ◌+◌, ◌==◌, List, Option, Some, None, 
 use Rattle.chip_asm.specs.Lines.{open_fault}
 use Rattle.chip_asm.specs.declared.refusal.OpenError.{OpenError}
 use Rattle.chip_asm.specs.declared.refusal.OpenError.TheVariants as unopened
+use Rattle.chip_machine.specs.Profile.{quirks}
 use Rattle.chip_machine.specs.declared.profile.Profile.{Profile}
-use Rattle.chip_machine.specs.declared.profile.Profile.TheVariants.{Schip, Vip}
+use Rattle.chip_machine.specs.declared.profile.Profile.TheVariants.{Schip, Vip, Chip48, Schip10, SchipModern, Octo}
 use Rattle.chip_session.specs.Settings.{SessionSettings, settings_fault, spacing_fault}
 use Rattle.chip_session.specs.declared.settings.SetError.{SetError}
 use Rattle.chip_session.specs.declared.settings.SetError.TheVariants as unset
@@ -14,7 +15,13 @@ use Rattle.chip_web.specs.declared.status.TheConstants.{DONE, NO_MEMORY, RATE_OU
 -- the machine of a number
 abbrev pub profile_numbered : ℕ → Option Profile
 profile_numbered number =
-    if number == 0 then Some Schip else if number == 1 then Some Vip else None
+    if number == 0 then Some Schip
+    else if number == 1 then Some Vip
+    else if number == 2 then Some Chip48
+    else if number == 3 then Some Schip10
+    else if number == 4 then Some SchipModern
+    else if number == 5 then Some Octo
+    else None
 
 -- the number of why there are no such settings
 abbrev pub settings_status : SetError → ℕ
@@ -54,7 +61,7 @@ asked_settings asked tape =
     record {
       rate = asked.rate;
       tape = tape;
-      profile = unwrap_or (profile_numbered asked.profile) Schip;
+      quirks = quirks (unwrap_or (profile_numbered asked.profile) Schip);
       spacing = asked.spacing;
     }
 

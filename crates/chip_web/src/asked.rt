@@ -39,7 +39,10 @@ impl AskedSettings {
             Ok(settings) => settings,
             Err(error) => return Err(status::of_settings(error)),
         };
-        match settings.with_profile(profile).with_spacing(self.spacing) {
+        match settings
+            .with_quirks(profile.quirks())
+            .with_spacing(self.spacing)
+        {
             Ok(settings) => Ok(settings.with_name_seed(self.name_seed)),
             Err(error) => Err(status::of_settings(error)),
         }
@@ -52,6 +55,10 @@ fn profile_of(number: u32) -> Option<Profile>
     match number {
         0 => Some(Profile::Schip),
         1 => Some(Profile::Vip),
+        2 => Some(Profile::Chip48),
+        3 => Some(Profile::Schip10),
+        4 => Some(Profile::SchipModern),
+        5 => Some(Profile::Octo),
         _ => None,
     }
 }

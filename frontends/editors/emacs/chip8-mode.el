@@ -58,7 +58,11 @@ A property list of :profile, :rate, :tape, :seed, :every, :program."
       (,(funcall words chip8-switches) . font-lock-constant-face)
       ("\\_<V[0-9A-F]\\_>" . font-lock-builtin-face)
       (,(funcall words chip8-parts) . font-lock-builtin-face)
-      ("#[0-9A-F]+\\|@[0-7]+\\|\\$[01.]+\\|\\_<[0-9]+\\_>" . font-lock-constant-face))))
+      ("#[0-9A-F]+\\|@[0-7]+\\|\\$[01.]+\\|\\_<[0-9]+\\_>" . font-lock-constant-face)
+      ;; properties, which other assemblers take for comments
+      ("^[ \t]*;!.*$" 0 font-lock-doc-face t)
+      ("\\_<\\(?:always\\|never\\|ever\\|here\\|at\\|and\\|or\\)\\_>"
+       (0 (when (save-excursion (beginning-of-line) (looking-at "[ \t]*;!")) 'font-lock-keyword-face) t)))))
 
 (defun chip8-indent-line ()
   "Put a label or a definition at the edge, and a statement in its column."

@@ -7,6 +7,7 @@ const convert = require('./convert.js');
 
 const LANGUAGE = 'chip8';
 const RUN_TO = 'chipbench.runTo';
+const PROVE = 'chipbench.prove';
 // A server that ends more often than this in a minute is left alone.
 const MOST_STARTS = 4;
 const MINUTE = 60_000;
@@ -155,12 +156,12 @@ function placeProviders(ask) {
 }
 
 /** Providers for a whole document. */
-function documentProviders(ask) {
+function documentProviders(ask, onDidChangeCodeLenses) {
   const all = (method, make) => async (document, token) => convert.list(await ask(method, documentOf(document), token), make);
   const folds = all('foldingRange', convert.fold);
   return {
     DocumentSymbol: { provideDocumentSymbols: all('documentSymbol', convert.symbol) },
-    CodeLens: { provideCodeLenses: all('codeLens', convert.lens) },
+    CodeLens: { provideCodeLenses: all('codeLens', convert.lens), onDidChangeCodeLenses },
     FoldingRange: { provideFoldingRanges: (document, _, token) => folds(document, token) },
     DocumentFormattingEdit: {
       provideDocumentFormattingEdits: async (document, options, token) =>
@@ -188,20 +189,25 @@ function rangeProviders(ask) {
   };
 }
 
-function providers(server) {
+function providers(server, onDidChangeCodeLenses) {
   const ask = (method, params, token) => server.ask(`textDocument/${method}`, params, token);
-  return { ...placeProviders(ask), ...documentProviders(ask), ...rangeProviders(ask) };
+  return { ...placeProviders(ask), ...documentProviders(ask, onDidChangeCodeLenses), ...rangeProviders(ask) };
 }
 
-/** Asks for the machine at the first step on a line, and shows it in the output. */
-async function runTo(server, output, uri, line) {
-  const options = { location: vscode.ProgressLocation.Notification, title: 'chipbench: run to here', cancellable: true };
+/** Has the server carry out a command of a line, which may be cancelled, and shows its text in the output. */
+async function carryOut(server, output, title, command, uri, line) {
+  const options = { location: vscode.ProgressLocation.Notification, title: `chipbench: ${title}`, cancellable: true };
   const result = await vscode.window.withProgress(options, (_, token) =>
-    server.ask('workspace/executeCommand', { command: RUN_TO, arguments: [uri, line] }, token),
+    server.ask('workspace/executeCommand', { command, arguments: [uri, line] }, token),
   );
   if (!result) return;
   output.appendLine(result.text);
   output.show(true);
+}
+
+/** Asks for the machine at the first step on a line. */
+function runTo(server, output, uri, line) {
+  return carryOut(server, output, 'run to here', RUN_TO, uri, line);
 }
 
 function activate(context) {
@@ -209,6 +215,7 @@ function activate(context) {
   const diagnostics = vscode.languages.createDiagnosticCollection('chipbench');
   const server = new Server(output, diagnostics);
   const selector = { language: LANGUAGE };
+  const answered = new vscode.EventEmitter();
   const shown = (work) => async (...args) => {
     try {
       await work(...args);
@@ -224,6 +231,11 @@ function activate(context) {
     vscode.workspace.onDidCloseTextDocument((document) => server.didClose(document)),
     vscode.workspace.onDidChangeConfiguration((change) => server.didConfigure(change)),
     vscode.commands.registerCommand(RUN_TO, shown((uri, line) => runTo(server, output, uri, line))),
+    answered,
+    vscode.commands.registerCommand(PROVE, shown(async (uri, line) => {
+      await carryOut(server, output, 'prove', PROVE, uri, line);
+      answered.fire();
+    })),
     vscode.commands.registerCommand('chipbench.restart', shown(() => server.restart())),
     vscode.commands.registerCommand('chipbench.runToCursor', shown(async () => {
       const editor = vscode.window.activeTextEditor;
@@ -231,7 +243,7 @@ function activate(context) {
     })),
     { dispose: () => server.close() },
   );
-  for (const [kind, provider] of Object.entries(providers(server))) {
+  for (const [kind, provider] of Object.entries(providers(server, answered.event))) {
     context.subscriptions.push(vscode.languages[`register${kind}Provider`](selector, provider));
   }
   server.start();

@@ -64,7 +64,7 @@ export class ScreenView {
 
 /** Why the machine stopped; a word of the source may be no instruction of the profile alone. */
 function stopText(state, profile) {
-  return state === 'S2' && profile === 'vip' ? 'no instruction of vip at pc' : codeText(state);
+  return state === 'S2' && ['vip', 'chip48'].includes(profile) ? `no instruction of ${profile} at pc` : codeText(state);
 }
 
 /** The pixels of the stored rows, row after row: 1 where one is lit. */

@@ -11,6 +11,7 @@ from chipbench import ChipbenchError
 from .document import Document, OverLimits
 from .hover import directive_text, row_text
 from .language import in_all_bases, read_line
+from .properties import is_property, words
 from .tables import DIRECTIVES, INSTRUCTIONS, OPTIONS, PARTS, REGISTERS, RESERVED
 
 KEYWORD, SNIPPET, VALUE, VARIABLE, CONSTANT = 14, 15, 12, 6, 21
@@ -27,13 +28,20 @@ def complete(document: Document, number: int, place: int, has_snippets: bool) ->
     assert prefix is not None
     start = prefix.start()
     before = read_line(text[:start])
+    if is_property(text):
+        return matching(document, number, start, place, [*words(), *names(document)])
     if before.comment is not None or before.is_bad or (start > 0 and text[start - 1] in "#@$"):
         return []
     if before.head is None:
         items = statements(has_snippets)
     else:
         items = operands(document, before.head.upper)
-    typed = prefix.group()
+    return matching(document, number, start, place, items)
+
+
+def matching(document: Document, number: int, start: int, place: int, items: list[dict[str, Any]]) -> list[dict[str, Any]]:
+    """The items that begin as what is typed between two places of a line, with their edits."""
+    typed = document.line(number)[start:place]
     wanted = typed.upper()
     found = [item for item in items if item.get("filterText", item["label"]).upper().startswith(wanted)]
     is_lower = typed != "" and typed == typed.lower() and typed != wanted

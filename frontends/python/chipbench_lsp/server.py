@@ -18,7 +18,7 @@ from typing import Any, BinaryIO, NoReturn
 import chipbench
 from chipbench import Bench, ChipbenchError, Fault
 
-from . import completion, diagnostics, fixes, hover, layout, names, runs
+from . import completion, diagnostics, fixes, hover, layout, names, properties, runs
 from .document import Document, OverLimits
 from .positions import Columns, choose_unit
 from .wire import (
@@ -39,7 +39,7 @@ from .wire import (
 # How long no key is pressed before `check` is run.
 PAUSE_SECONDS = 0.25
 WARNING, INFO = 2, 3
-OPTIONS = ("profile", "rate", "tape", "seed", "every")
+OPTIONS = ("profile", "quirks", "rate", "tape", "seed", "every")
 END = object()
 
 Message = dict[str, Any]
@@ -65,6 +65,8 @@ def bench_options(settings: Any) -> dict[str, Any]:
             found["tape"] = bytes.fromhex(str(found["tape"]))
         except ValueError:
             del found["tape"]
+    if found.get("quirks") == "":
+        del found["quirks"]
     return found
 
 
@@ -79,6 +81,8 @@ class Server:
         self.columns = Columns()
         self.documents: dict[str, Document] = {}
         self.places: dict[str, diagnostics.Places] = {}
+        self.answers: dict[str, properties.Answers] = {}
+        self._refreshes = False
         self._shown: dict[str, list[Any]] = {}
         self._unshown: set[str] = set()
         self._unchecked: dict[str, float] = {}
@@ -244,6 +248,7 @@ class Server:
         self.columns = Columns(choose_unit(capabilities))
         item = dig(capabilities, "textDocument", "completion", "completionItem")
         self.has_snippets = bool(dig(item, "snippetSupport"))
+        self._refreshes = bool(dig(capabilities, "workspace", "codeLens", "refreshSupport"))
         settings = given.get("initializationOptions")
         self.shows_runs = bool(dig(settings, "showsRuns"))
         self._set_program(settings)
@@ -276,7 +281,7 @@ class Server:
             "documentRangeFormattingProvider": True,
             "codeLensProvider": {},
             "codeActionProvider": {"codeActionKinds": ["quickfix", "source"]},
-            "executeCommandProvider": {"commands": [runs.COMMAND]},
+            "executeCommandProvider": {"commands": [runs.COMMAND, properties.COMMAND]},
         }
 
     def open_bench(self, source: bytes) -> Bench:
@@ -296,6 +301,7 @@ class Server:
         else:
             self.documents[uri] = Document(uri, item.get("version"), text, self.columns, self.open_bench)
             self.places[uri] = diagnostics.Places()
+            self.answers[uri] = properties.Answers()
         self._changed(uri)
 
     def did_change(self, params: Any) -> None:
@@ -316,6 +322,7 @@ class Server:
             return
         document.close()
         del self.places[uri]
+        del self.answers[uri]
         self._unshown.discard(uri)
         self._unchecked.pop(uri, None)
         self._shown.pop(uri, None)
@@ -366,12 +373,12 @@ class Server:
         if not self._has_check or program is None or (shown and shown[0]["code"] in ("O1", "O2", "program")):
             return
         uri, edition, lines, source = due, document.edition, document.lines, document.source
-        profile = self.options.get("profile")
+        profile, quirks = self.options.get("profile"), self.options.get("quirks")
 
         def work() -> None:
             faults = []
             with contextlib.suppress(Exception):
-                faults = chipbench.check(chipbench.join_lines(source), program, profile)
+                faults = chipbench.check(chipbench.join_lines(source), program, profile, quirks)
             self._queue.put(Checked(uri, edition, lines, faults))
 
         self._is_checking = True
@@ -386,23 +393,57 @@ class Server:
         if document.edition == checked.edition and (checked.faults or self._shown.get(checked.uri)):
             self._show(checked.uri)
 
-    # -- run to here
+    # -- run to here, and prove
 
     def _execute(self, params: Any, request: Any) -> Any:
-        if params["command"] != runs.COMMAND:
+        if params["command"] not in (runs.COMMAND, properties.COMMAND):
             raise Failed(INVALID_PARAMS, f"no such command: {params['command']}")
         uri, number = params["arguments"][:2]
         document = self.documents.get(uri)
         if document is None or not isinstance(number, int):
             raise Failed(INVALID_PARAMS, "the command needs an open document and a line")
-        address, source = runs.address_of(document, number), chipbench.join_lines(document.source)
-        cancelled = threading.Event()
+        source, cancelled = chipbench.join_lines(document.source), threading.Event()
+        if params["command"] == runs.COMMAND:
+            work, given = self._run_to, (runs.address_of(document, number),)
+        else:
+            line = document.line(number) if 0 <= number < document.line_count else ""
+            if not properties.is_property(line):
+                raise Failed(REQUEST_FAILED, "the line states no property")
+            work, given = self._prove, (number, uri, properties.text_of(line), document.edition)
         with self._lock:
             self._running[request] = cancelled
-        threading.Thread(target=self._run_to, args=(request, source, address, cancelled), daemon=True).start()
+        threading.Thread(target=work, args=(request, source, cancelled, *given), daemon=True).start()
         return LATER
 
-    def _run_to(self, request: Any, source: bytes, address: int, cancelled: threading.Event) -> None:
+    def _prove(
+        self, request: Any, source: bytes, cancelled: threading.Event, number: int, uri: str, text: str, edition: int
+    ) -> None:
+        try:
+            if self.program is None:
+                raise ChipbenchError("no program chipbench was found")
+            result = properties.prove(self.program, source, self.options, number, cancelled)
+        except Failed as failed:
+            self.writer.fail(request, failed.code, failed.text)
+        except Exception as error:
+            self.writer.fail(request, REQUEST_FAILED, str(error))
+        else:
+            self._queue.put(lambda: self._answered(uri, text, edition, result["text"]))
+            if not self.shows_runs:
+                self.say(INFO, f"{text}: {result['text']}")
+            self.writer.answer(request, result)
+        finally:
+            with self._lock:
+                self._running.pop(request, None)
+
+    def _answered(self, uri: str, text: str, edition: int, answer: str) -> None:
+        """Keeps an answer, and has the client ask for the lenses again."""
+        if uri not in self.answers:
+            return
+        self.answers[uri].learn(text, edition, answer)
+        if self._refreshes:
+            self.writer.write({"id": f"lenses of edition {edition}", "method": "workspace/codeLens/refresh"})
+
+    def _run_to(self, request: Any, source: bytes, cancelled: threading.Event, address: int) -> None:
         try:
             with self.open_bench(source) as bench:
                 result = runs.run_to(bench, address, cancelled)
@@ -459,7 +500,9 @@ REQUESTS: dict[str, Handler] = {
     "textDocument/prepareRename": placed(names.prepare_rename),
     "textDocument/documentSymbol": whole(names.symbols),
     "textDocument/foldingRange": whole(layout.folds),
-    "textDocument/codeLens": whole(runs.lenses),
+    "textDocument/codeLens": lambda server, document, params: [
+        *runs.lenses(document), *properties.lenses(document, server.answers[document.uri])
+    ],
     "textDocument/codeAction": lambda server, document, params: [
         *fixes.fixes(document, params["range"]["start"]["line"]),
         *runs.actions(document, params["range"]["start"]["line"]),

@@ -43,14 +43,15 @@ def parser() -> argparse.ArgumentParser:
     words.add_argument("--rate", metavar="N", type=int, help="how many steps lie between two ticks of the timers")
     words.add_argument("--tape", metavar="HEX", type=tape_of, help="the random bytes")
     words.add_argument("--seed", metavar="N", type=int, help="a number that makes the random bytes")
-    words.add_argument("--profile", metavar="NAME", help="schip or vip")
+    words.add_argument("--profile", metavar="NAME", help="such as schip or vip")
+    words.add_argument("--quirks", metavar="LIST", help="what differs from the profile, such as shift=vy,edges=wrap")
     words.add_argument("--every", metavar="P", type=int, help="how many steps lie between two checkpoints")
     return words
 
 
 def opened(words: argparse.Namespace) -> Game:
     """The game that the arguments name."""
-    settings = Settings(words.profile, words.rate, words.tape, words.seed, words.every)
+    settings = Settings(words.profile, words.rate, words.tape, words.seed, words.every, words.quirks)
     image = needed(words.image) if words.image is not None else None
     game = Game(Path(words.source) if words.source is not None else None, image, settings, words.program)
     try:

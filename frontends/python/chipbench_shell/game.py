@@ -29,6 +29,7 @@ class Settings:
     tape: bytes | None = None
     seed: int | None = None
     every: int | None = None
+    quirks: str | None = None
 
 
 @dataclass
@@ -106,7 +107,8 @@ class Game:
     def run_options(self) -> list[str]:
         """The options of a run, as `chipbench trace` takes them."""
         tape = self.settings.tape
-        named = {"profile": self.settings.profile, "rate": self.settings.rate, "seed": self.settings.seed}
+        chosen = self.settings
+        named = {"profile": chosen.profile, "quirks": chosen.quirks, "rate": chosen.rate, "seed": chosen.seed}
         options = {**named, "tape": None if tape is None else tape.hex()}
         return [f"--{name}={value}" for name, value in options.items() if value is not None]
 

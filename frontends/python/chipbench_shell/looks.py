@@ -15,7 +15,7 @@ from .values import REGISTERS, Mistake
 
 LISTED = 11
 WORDS = 8
-PROFILES = ("schip", "vip")
+PROFILES = ("schip", "vip", "chip48", "schip10", "schip-modern", "octo")
 CHECK_SECONDS = 60.0
 
 
@@ -201,8 +201,9 @@ class Looks(Commands):
             path = Path(folder, name)
             path.write_bytes(join_lines(self.game.bench.lines))
             colour = "--color=always" if self.console.has_colours else "--color=never"
-            profile = [f"--profile={self.game.settings.profile}"] if self.game.settings.profile else []
-            answer = self._run(["check", colour, *profile, str(path)])
+            named = {"profile": self.game.settings.profile, "quirks": self.game.settings.quirks}
+            machine = [f"--{name}={value}" for name, value in named.items() if value]
+            answer = self._run(["check", colour, *machine, str(path)])
         found = answer.replace(f"{folder}{os.sep}", "").splitlines()
         self.say(*(found or ["no faults and no warnings"]))
 
@@ -221,11 +222,11 @@ class Looks(Commands):
         return output.decode("utf-8", "replace")
 
     def do_profile(self, text: str) -> None:
-        """profile [schip | vip]
+        """profile [NAME]
 
         Shows the settings of the run; with a name the same lines and keys run under that profile from then on.
         """
-        words = self.words_of(text, 1, "profile [schip | vip]")
+        words = self.words_of(text, 1, "profile [NAME]")
         settings = self.game.settings
         if not words:
             tape = settings.tape.hex() if settings.tape is not None else "00"
@@ -233,7 +234,7 @@ class Looks(Commands):
             self.say(f"profile {settings.profile or PROFILES[0]}, rate {settings.rate or 10}, {random}")
             return
         if words[0] not in PROFILES:
-            raise Mistake(f"no profile {words[0]}: schip or vip")
+            raise Mistake(f"no profile {words[0]}: {', '.join(PROFILES[:-1])} or {PROFILES[-1]}")
         snapshot = Snapshot(self.game)
         self.game.set_profile(words[0])
         self.tell_difference(f"profile {words[0]}", snapshot)

@@ -17,7 +17,7 @@ from .base import Snapshot
 from .console import Console, History, OutputGone
 from .edits import Edits
 from .game import Game, counted
-from .looks import Looks
+from .looks import PROFILES, Looks
 from .moves import Moves
 from .session import SESSION_WORDS, SessionWords, is_of_session
 from .values import REGISTERS, Mistake, near
@@ -357,7 +357,7 @@ class Shell(Moves, Looks, Edits, SessionWords, cmd.Cmd):
         if name == "explain":
             return [code for code in self.codes() if code.startswith(text.upper())]
         if name == "profile":
-            return [profile for profile in ("schip", "vip") if profile.startswith(text)]
+            return [profile for profile in PROFILES if profile.startswith(text)]
         if name in ("press", "release"):
             return ["at "] if len(words) == 2 else []
         offered = [*self.game.symbols()] if name in WITH_NAMES or name in SESSION_WORDS else []

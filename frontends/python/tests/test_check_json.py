@@ -16,7 +16,7 @@ sys.path.insert(0, str(Path(__file__).resolve().parent))
 
 from programs import EXAMPLES, TOP, NeedsWords  # noqa: E402
 
-HEAD = re.compile(rb"(.*):([0-9]+):([0-9]+): ([FW][0-9]+): (.*)", re.DOTALL)
+HEAD = re.compile(rb"(.*):([0-9]+):([0-9]+): ([FWP][0-9]+): (.*)", re.DOTALL)
 MEMBERS = ["line", "column", "end", "code", "message", "help", "file"]
 
 

@@ -22,7 +22,7 @@ from client import URI, Client, span  # noqa: E402
 from programs import EXAMPLES, TOP, NeedsProgram, NeedsWords  # noqa: E402
 
 from chipbench import Bench, Fault  # noqa: E402
-from chipbench_lsp import completion, diagnostics, document, fixes, language, layout, positions  # noqa: E402
+from chipbench_lsp import completion, diagnostics, document, fixes, language, layout, positions, properties  # noqa: E402
 
 GAME = """; A game in few lines.
 STEP    EQU 3
@@ -36,7 +36,7 @@ LOOP:   ADD V0, STEP
 
 def load_tests(loader: unittest.TestLoader, tests: unittest.TestSuite, pattern: str | None) -> unittest.TestSuite:
     """The docstrings of the server are tests too; they need no program."""
-    for module in (completion, document, fixes, language, layout, positions):
+    for module in (completion, document, fixes, language, layout, positions, properties):
         tests.addTests(doctest.DocTestSuite(module))
     return tests
 
@@ -302,6 +302,35 @@ class Features(Served):
         self.assertIn("step 15: pc is at #208", client.message())
         where = {**self.document(), "range": span((4, 0), (4, 0)), "context": {"diagnostics": []}}
         self.assertEqual(client.ask("textDocument/codeAction", where)[0]["command"]["arguments"], [URI, 4])
+
+    def test_a_property_has_a_lens_with_its_last_answer(self) -> None:
+        client = self.opened(";! always V0 <= 20\n" + GAME + ";! ever at NONE\n", options={"showsRuns": True})
+        def titles() -> list[str]:
+            lenses = client.ask("textDocument/codeLens", self.document())
+            return [lens["command"]["title"] for lens in lenses if lens["command"]["command"] == "chipbench.prove"]
+        self.assertEqual(titles(), ["prove", "prove"])
+        result = client.ask("workspace/executeCommand", {"command": "chipbench.prove", "arguments": [URI, 0]})
+        self.assertEqual((result["line"], result["text"]), (1, "never broken"))
+        self.assertEqual(titles(), ["never broken", "prove"])
+        result = client.ask("workspace/executeCommand", {"command": "chipbench.prove", "arguments": [URI, 8]})
+        self.assertEqual(result["text"], "P3: undefined name")
+        client.edit((5, 15), (5, 16), "4")
+        self.assertEqual(titles(), ["never broken (before the last edit)", "P3: undefined name (before the last edit)"])
+        result = client.ask("workspace/executeCommand", {"command": "chipbench.prove", "arguments": [URI, 0]})
+        self.assertEqual(result["answer"], "broken")
+        self.assertEqual(titles()[0], result["text"])
+        code, text = client.refused("workspace/executeCommand", {"command": "chipbench.prove", "arguments": [URI, 1]})
+        self.assertEqual(text, "the line states no property")
+
+    def test_the_words_of_a_property_are_completed(self) -> None:
+        client = self.opened(";! al\n;! V0 <= ST\n;! PI\n; al\n" + GAME)
+        def completed(line: int, column: int) -> list[str]:
+            where = {**self.document(), "position": {"line": line, "character": column}}
+            return [item["label"] for item in client.ask("textDocument/completion", where)]
+        self.assertEqual(completed(0, 5), ["always"])
+        self.assertEqual(completed(1, 11), ["STEP", "START"])
+        self.assertEqual(completed(2, 5), ["PIXEL"])
+        self.assertEqual(completed(3, 4), [])
 
     def test_a_line_that_no_run_reaches(self) -> None:
         client = self.opened("EXIT\nA: CLS\nJP A\n", options={"showsRuns": True})

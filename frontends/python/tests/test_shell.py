@@ -473,7 +473,7 @@ class Refusals(AtTerminal):
             ("x 5*5", "'5*5' is not a number: only + and - may stand between its parts"),
             ("print", "print takes a value: print V3, print BALL+1, print [#300]"),
             ("print 1-2", "'1-2' is below 0"),
-            ("profile chip", "no profile chip: schip or vip"),
+            ("profile chip", "no profile chip: schip, vip, chip48, schip10, schip-modern or octo"),
             ("edit", "which line? edit LINE [TEXT]"),
             ("edit 13 CLS", "no line 13: the source has 12 lines"),
             ("insert 14 CLS", "no line 14 to insert before: 1 to 13"),

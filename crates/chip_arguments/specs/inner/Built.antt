@@ -14,7 +14,7 @@ abbrev pub command_names : List (List ℕ)
 command_names =
     codes "debug" ∷ codes "asm" ∷ codes "list" ∷ codes "syms" ∷ codes "dis" ∷ codes "run"
     ∷ codes "trace" ∷ codes "picture" ∷ codes "check" ∷ codes "test" ∷ codes "explore"
-    ∷ codes "explain" ∷ []
+    ∷ codes "prove" ∷ codes "explain" ∷ []
 
 -- a name is one of these
 abbrev pub IsOneOf : List ℕ → List (List ℕ) → Type 0
@@ -48,6 +48,7 @@ rule_by argument.Rate = line.rate
 rule_by argument.Tape = line.tape
 rule_by argument.Seed = line.seed
 rule_by argument.Profile = line.profile
+rule_by argument.Quirks = line.quirks
 rule_by argument.Every = line.every
 rule_by argument.AsImage = line.as_image
 rule_by argument.SearchSteps = line.search_steps
@@ -55,8 +56,13 @@ rule_by argument.States = line.states
 rule_by argument.Deep = line.deep
 rule_by argument.AnySpeed = line.any_speed
 rule_by argument.Want = line.want
+rule_by argument.Never = line.never
+rule_by argument.Always = line.always
 rule_by argument.AllowedKeys = line.allowed_keys
 rule_by argument.KeysTo = line.keys_to
+rule_by argument.KeysToPath = line.keys_to
+rule_by argument.Only = line.only
+rule_by argument.Seconds = line.seconds
 rule_by argument.Sources = line.sources
 rule_by argument.Color = line.color
 rule_by argument.Json = line.json

@@ -12,7 +12,7 @@ use Rattle.chip_explore.specs.declared.question.Outcome.{Outcome}
 use Rattle.chip_explore.specs.declared.question.Outcome.TheVariants.{Found, Later, Within, Never}
 use Rattle.chip_machine.specs.Start.{start_of}
 use Rattle.chip_machine.specs.State.{State}
-use Rattle.chip_machine.specs.declared.profile.Profile.{Profile}
+use Rattle.chip_machine.specs.declared.quirks.Quirks.{Quirks}
 use Rattle.chip_bench.specs.Exploring.{usual_keys}
 use Rattle.chip_bench.specs.declared.covering.Covered.{Covered}
 
@@ -28,12 +28,12 @@ IsCoverage rate keys executed start None =
     (n : ℕ) → n < END → StaysAmong rate keys executed start n
 
 -- what `check` takes as executed: nothing, unless it is asked for and there is an image; then that of
--- its machine under the profile, with the tape 00 and the usual rate, for all keys
-abbrev pub IsCovered : (is_covering : Bool) → Profile → (image : Option (List ℕ)) → Option Covered
+-- its machine with these quirks, with the tape 00 and the usual rate, for all keys
+abbrev pub IsCovered : (is_covering : Bool) → Quirks → (image : Option (List ℕ)) → Option Covered
     → Type 0
-IsCovered true profile (Some image) (Some covered) =
-    IsCoverage default_arguments.rate usual_keys covered.executed (start_of image (0 ∷ []) profile)
+IsCovered true quirks (Some image) (Some covered) =
+    IsCoverage default_arguments.rate usual_keys covered.executed (start_of image (0 ∷ []) quirks)
     covered.within
-IsCovered true profile (Some image) None = ⊥
-IsCovered true profile None covered = covered ≡ None
-IsCovered false profile image covered = covered ≡ None
+IsCovered true quirks (Some image) None = ⊥
+IsCovered true quirks None covered = covered ≡ None
+IsCovered false quirks image covered = covered ≡ None

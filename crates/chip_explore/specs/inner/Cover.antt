@@ -8,7 +8,7 @@
 --                     of, and the addresses at which it saw steps made
 --     Grows           addresses stay noted
 --     IsFine          a state that doesn't meet the target, and has stopped or is at an address that
---                     is noted
+--                     is noted and has what is asked of it there: nothing of that is forgotten
 --     AreWithin       some parts are all among others
 --     Safe            from a state at a step on, of which some parts are forgotten, steps that tell
 --                     neither keys nor values of the delay timer apart and read nothing that is
@@ -33,6 +33,7 @@ use Rattle.chip_explore.specs.declared.leg.End.{End}
 use Rattle.chip_explore.specs.declared.leg.End.TheVariants.{Past, Wanted, Halted, Joined, Read}
 use Rattle.chip_explore.specs.inner.Kept.{state_at}
 use Rattle.chip_explore.specs.inner.Delays.{read_as, timed_register}
+use Rattle.chip_explore.specs.inner.Known.{are_known}
 use Rattle.chip_explore.specs.declared.members.Members.{Members}
 use Rattle.chip_explore.specs.declared.setting.Setting.{Setting}
 use Rattle.chip_explore.specs.declared.ways.Reading.{Reading}
@@ -56,13 +57,14 @@ pub record View : Type 0 where
 abbrev pub Grows : List Bool → List Bool → Type 0
 Grows early late = (pc : ℕ) → is_among early pc ≡ true → is_among late pc ≡ true
 
-pub record IsFine (p : Setting) (executed : List Bool) (s : State) : Type 0 where
+pub record IsFine (p : Setting) (executed : List Bool) (forgotten : ℕ) (s : State) : Type 0 where
   pub avoided : met_in p.target s ≡ None
   pub noted : is_at_one executed s ≡ true
+  pub known : is_some s.core.stopped ≡ false → are_known p forgotten s ≡ true
 
 -- the next step is the same whatever allowed keys are down, and whatever the delay timer has come to
-pub record Moves (p : Setting) (executed : List Bool) (s : State) : Type 0 where
-  pub fine : IsFine p executed s
+pub record Moves (p : Setting) (executed : List Bool) (forgotten : ℕ) (s : State) : Type 0 where
+  pub fine : IsFine p executed forgotten s
   pub same : Represents p.allowed 0 s
   pub untimed : timed_register p s ≡ None
   pub drawn : s.core.draws < 2 ^ 64 - 1
@@ -85,12 +87,12 @@ pub record Joins (p : Setting) (v : View) (forgotten : ℕ) (s : State) (t : ℕ
 abbrev pub Ends : Setting → View → (forgotten : ℕ) → State → ℕ → Type 0
 Ends p v forgotten s t =
     (v.limit ≤ t)
-    ⊎ (IsFine p v.executed s × ((is_some s.core.stopped ≡ true) ⊎ Joins p v forgotten s t))
+    ⊎ (IsFine p v.executed forgotten s × ((is_some s.core.stopped ≡ true) ⊎ Joins p v forgotten s t))
 
 abbrev pub SafeFor : Setting → View → ℕ → (forgotten : ℕ) → State → ℕ → Type 0
 SafeFor p v zero forgotten s t = Ends p v forgotten s t
 SafeFor p v (suc k) forgotten s t =
-    Moves p v.executed s × IsUnread forgotten s
+    Moves p v.executed forgotten s × IsUnread forgotten s
     × ((after : ℕ) × IsForgottenAfter forgotten s (step_of s 0 (tick_at p t)).core.pc after
     × SafeFor p v k after (step_of s 0 (tick_at p t)) (t + 1))
 
@@ -196,12 +198,13 @@ LeadsAs p m n place step value =
     (read_as value ((view_of m).member place)) step
 
 -- why some steps in a row ended at a state
-abbrev pub IsEnd : Setting → List Bool → ℕ → State → ℕ → End → Type 0
-IsEnd p executed limit s t Past = limit ≤ t
-IsEnd p executed limit s t Wanted = Unit {0}
-IsEnd p executed limit s t Halted = IsFine p executed s × (is_some s.core.stopped ≡ true)
-IsEnd p executed limit s t Joined = IsFine p executed s
-IsEnd p executed limit s t Read = Unit {0}
+abbrev pub IsEnd : Setting → List Bool → (limit forgotten : ℕ) → State → ℕ → End → Type 0
+IsEnd p executed limit forgotten s t Past = limit ≤ t
+IsEnd p executed limit forgotten s t Wanted = Unit {0}
+IsEnd p executed limit forgotten s t Halted =
+    IsFine p executed forgotten s × (is_some s.core.stopped ≡ true)
+IsEnd p executed limit forgotten s t Joined = IsFine p executed forgotten s
+IsEnd p executed limit forgotten s t Read = Unit {0}
 
 -- what a run under some events shows
 pub record Confirms (p : Setting) (start : State) (keys : Events) (step : ℕ) (met : Met) : Type 0 where

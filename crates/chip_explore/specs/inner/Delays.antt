@@ -7,7 +7,7 @@
 --                      but a timer that has come to 0 stays there
 --     AlikeTicks       a state of a search that is like one of a run, but for the delay timer: where
 --                      the ticks are free it is at least that of the run, and else the same
-use Rattle.std.specs.Prelude.{◌≡◌, ◌≤◌, ℕ, ◌==◌, ◌&&◌, not, Bool, false, is_some, Option, Some, None, if◌then◌else◌}
+use Rattle.std.specs.Prelude.{◌≡◌, ◌≤◌, ℕ, ◌==◌, ◌&&◌, not, false, is_some, Option, Some, None, if◌then◌else◌}
 use Rattle.chip_lang.specs.declared.instr.Instr.{Instr}
 use Rattle.chip_lang.specs.declared.instr.Instr.TheVariants as row
 use Rattle.chip_machine.specs.Forgotten.{next_instr}

@@ -3,9 +3,9 @@
 use Rattle.std.specs.Prelude.{ℕ, Bool, List, Option, refl}
 use Rattle.std.specs.Coded.{Coded, code_by, coded×, coded_ℕ, coded_bool, coded_list, coded_option}
 use Rattle.chip_machine.specs.contracts.stop.Stop as stops
-use Rattle.chip_machine.specs.contracts.profile.Profile as profiles
+use Rattle.chip_machine.specs.contracts.quirks.Quirks as quirks
 use Rattle.chip_machine.specs.declared.stop.Stop.{Stop}
-use Rattle.chip_machine.specs.declared.profile.Profile.{Profile}
+use Rattle.chip_machine.specs.declared.quirks.Quirks.{Quirks}
 use Rattle.chip_machine.specs.Points.{Points, points_code}
 use Rattle.chip_machine.specs.State.{Core, State}
 
@@ -17,7 +17,7 @@ abbrev Parts : Type 0
 Parts =
     List ℕ
     × (ℕ × (ℕ × (List ℕ
-    × (ℕ × (ℕ × (List ℕ × (List ℕ × (ℕ × (Points × (Bool × (Option Stop × (Profile))))))))))))
+    × (ℕ × (ℕ × (List ℕ × (List ℕ × (ℕ × (Points × (Bool × (Option Stop × Quirks)))))))))))
 
 abbrev parts_code : Coded Parts
 parts_code =
@@ -27,7 +27,7 @@ parts_code =
     (coded× numbers (coded× numbers
     (coded× coded_ℕ (coded× points_code
     (coded× coded_bool
-    (coded× (coded_option stops.the_row.coded) (profiles.the_row.coded))))))))))))
+    (coded× (coded_option stops.the_row.coded) quirks.the_row.coded)))))))))))
 
 abbrev parts : Core → Parts
 parts c = (
@@ -40,7 +40,7 @@ parts c = (
         c.frames,
         (
           c.delay,
-          (c.sound, (c.flags, (c.tape, (c.draws, (c.lit, (c.high, (c.stopped, c.profile))))))),
+          (c.sound, (c.flags, (c.tape, (c.draws, (c.lit, (c.high, (c.stopped, c.quirks))))))),
         ),
       ),
     ),
@@ -62,7 +62,7 @@ core_of p =
       lit = p.1.1.1.1.1.1.1.1.1.0;
       high = p.1.1.1.1.1.1.1.1.1.1.0;
       stopped = p.1.1.1.1.1.1.1.1.1.1.1.0;
-      profile = p.1.1.1.1.1.1.1.1.1.1.1.1;
+      quirks = p.1.1.1.1.1.1.1.1.1.1.1.1;
     }
 
 abbrev pub core_code : Coded Core

@@ -3,19 +3,26 @@
 use Rattle.std.specs.Prelude.{ℕ, ◌+◌, ◌*◌, ◌/◌, ◌%◌, ◌<◌, ◌≤◌, Bool, ◌&&◌, ◌==◌, List, length, if◌then◌else◌}
 use Rattle.chip_machine.specs.declared.limits.TheConstants.{SPRITE_BYTES}
 use Rattle.chip_machine.specs.Points.{Points, points_where}
-use Rattle.chip_machine.specs.Sprite.{draws_over, scale}
+use Rattle.chip_machine.specs.Sprite.{clipped_over, draws_over, scale}
 use Rattle.chip_machine.specs.declared.sprite.Half.{Half}
 use Rattle.chip_machine.specs.declared.sprite.Half.TheVariants.{Left, Middle, Right}
 
--- the bytes in a row: in the high size so many bytes are sixteen rows
+-- the bytes in a row of a sprite that is clipped: in the high size so many bytes are sixteen rows
 unfoldable pub row_bytes_by_length : Bool → List ℕ → ℕ
 row_bytes_by_length high sprite = if high && (length sprite == SPRITE_BYTES) then 2 else 1
 
 abbrev pub covers_by_length : Bool → ℕ → ℕ → List ℕ → ℕ → ℕ → Bool
-covers_by_length high x y sprite = draws_over high x y (row_bytes_by_length high sprite) sprite
+covers_by_length high x y sprite = clipped_over high x y (row_bytes_by_length high sprite) sprite
 
-abbrev pub covered_by_length : Bool → ℕ → ℕ → List ℕ → Points
-covered_by_length high x y sprite = points_where (covers_by_length high x y sprite)
+-- the bytes in a row in both sizes: so many bytes are sixteen wide rows
+unfoldable pub sprite_row_bytes : List ℕ → ℕ
+sprite_row_bytes sprite = if length sprite == SPRITE_BYTES then 2 else 1
+
+abbrev pub covers : (wraps high : Bool) → ℕ → ℕ → List ℕ → ℕ → ℕ → Bool
+covers wraps high x y sprite = draws_over wraps high x y (sprite_row_bytes sprite) sprite
+
+abbrev pub covered_by_bytes : (wraps high : Bool) → ℕ → ℕ → List ℕ → Points
+covered_by_bytes wraps high x y sprite = points_where (covers wraps high x y sprite)
 
 -- the stored column at which a sprite drawn at x begins
 abbrev pub first_column : Bool → ℕ → ℕ

@@ -2,8 +2,8 @@
 use Rattle.std.specs.Prelude.{ℕ, List}
 use Rattle.std.specs.Coded.{Coded, code_by, coded×, coded_ℕ, coded_list}
 use Rattle.std.proofs.Common.{refl}
-use Rattle.chip_machine.specs.contracts.profile.Profile as profiles
-use Rattle.chip_machine.specs.declared.profile.Profile.{Profile}
+use Rattle.chip_machine.specs.contracts.quirks.Quirks as quirks
+use Rattle.chip_machine.specs.declared.quirks.Quirks.{Quirks}
 use Rattle.chip_replay.specs.Keys.{Events, coded_events}
 use Rattle.chip_session.specs.Settings.{SessionSettings}
 use Rattle.chip_session.specs.Kept.{KeptRun}
@@ -11,10 +11,10 @@ use Rattle.chip_session.specs.Workbench.{Workbench}
 
 abbrev pub settings_code : Coded SessionSettings
 settings_code =
-    code_by (ℕ × (List ℕ × (Profile × ℕ)))
-    (coded× coded_ℕ (coded× (coded_list coded_ℕ) (coded× profiles.the_row.coded coded_ℕ)))
-    (λ s. (s.rate, (s.tape, (s.profile, s.spacing))))
-    (λ p. record { rate = p.0; tape = p.1.0; profile = p.1.1.0; spacing = p.1.1.1 })
+    code_by (ℕ × (List ℕ × (Quirks × ℕ)))
+    (coded× coded_ℕ (coded× (coded_list coded_ℕ) (coded× quirks.the_row.coded coded_ℕ)))
+    (λ s. (s.rate, (s.tape, (s.quirks, s.spacing))))
+    (λ p. record { rate = p.0; tape = p.1.0; quirks = p.1.1.0; spacing = p.1.1.1 })
     (λ _. refl)
 
 -- the parts of a kept run, one beside another

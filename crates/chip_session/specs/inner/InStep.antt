@@ -23,7 +23,7 @@ kept_run settings replay last =
 -- the replay starts from the last image, and has the session's rate and spacing
 pub record Replays (settings : SessionSettings) (last : List ℕ)
     (replay : History State) : Type 0 where
-  pub start : replay.start ≡ start_of last settings.tape settings.profile
+  pub start : replay.start ≡ start_of last settings.tape settings.quirks
   pub rate : replay.rate ≡ settings.rate
   pub spacing : replay.spacing ≡ settings.spacing
   pub fits : length last ≤ IMAGE_BYTES

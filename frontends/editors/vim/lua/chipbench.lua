@@ -7,6 +7,7 @@
 local M = {}
 
 local RUN_TO = 'chipbench.runTo'
+local PROVE = 'chipbench.prove'
 local clients = {}
 
 -- Shows a text in a window of its own, which `q` closes.
@@ -21,15 +22,28 @@ local function show(text)
   vim.api.nvim_buf_set_keymap(buffer, 'n', 'q', '<Cmd>close<CR>', { silent = true })
 end
 
--- Asks for the machine at the first step on a line (counted from 0), and hands the result to `done`.
-function M.run_to(buffer, line, done)
-  local params = { command = RUN_TO, arguments = { vim.uri_from_bufnr(buffer), line } }
+local function carry_out(command, buffer, line, done)
+  local params = { command = command, arguments = { vim.uri_from_bufnr(buffer), line } }
   vim.lsp.buf_request(buffer, 'workspace/executeCommand', params, function(failure, result)
     if failure then
       vim.notify('chipbench: ' .. failure.message, vim.log.levels.WARN)
     elseif result then
       (done or show)(result.text)
     end
+  end)
+end
+
+-- Asks for the machine at the first step on a line (counted from 0), and hands the result to `done`.
+function M.run_to(buffer, line, done)
+  carry_out(RUN_TO, buffer, line, done)
+end
+
+-- Asks for the answer to the property of a line (counted from 0), and hands it to `done`; the lens of the line then has it.
+function M.prove(buffer, line, done)
+  carry_out(PROVE, buffer, line, function(text)
+    vim.lsp.codelens.refresh()
+    local show_it = done or function(answer) vim.notify('chipbench: ' .. answer) end
+    show_it(text)
   end)
 end
 
@@ -134,6 +148,9 @@ function M.setup(options)
   options = options or {}
   vim.lsp.commands[RUN_TO] = function(command)
     M.run_to(vim.uri_to_bufnr(command.arguments[1]), command.arguments[2])
+  end
+  vim.lsp.commands[PROVE] = function(command)
+    M.prove(vim.uri_to_bufnr(command.arguments[1]), command.arguments[2])
   end
   vim.api.nvim_create_autocmd('FileType', {
     pattern = 'chip8',

@@ -12,6 +12,9 @@ syntax match chip8Label /^\s*\h\w*\s*:/
 syntax region chip8Text start=/'/ end=/'/ oneline
 syntax region chip8Text start=/"/ end=/"/ oneline
 syntax match chip8Comment /;.*$/
+syntax match chip8Property /^\s*;!.*$/ contains=chip8PropertyWord,chip8PropertyItem,chip8Number
+syntax match chip8PropertyWord /\c\<\%(always\|never\|ever\|can\|here\|at\|and\|or\)\>/ contained
+syntax match chip8PropertyItem /\c\<\%(V\x\|I\|PC\|DT\|DEPTH\|HIGH\|KEYS\|PIXEL\)\>/ contained
 highlight default link chip8Instruction Statement
 highlight default link chip8Directive PreProc
 highlight default link chip8Switch Constant
@@ -20,4 +23,7 @@ highlight default link chip8Number Number
 highlight default link chip8Label Label
 highlight default link chip8Text String
 highlight default link chip8Comment Comment
+highlight default link chip8Property SpecialComment
+highlight default link chip8PropertyWord Statement
+highlight default link chip8PropertyItem Identifier
 let b:current_syntax = "chip8"

@@ -140,6 +140,12 @@ function makeEditor(settings) {
     CodeActionKind: { Source: 'source', QuickFix: 'quickfix' },
     DocumentHighlight: record('range'),
     ProgressLocation: { Notification: 15 },
+    EventEmitter: class {
+      #listeners = [];
+      event = (listener) => this.#listeners.push(listener);
+      fire = () => this.#listeners.forEach((listener) => listener());
+      dispose() {}
+    },
     commands: {
       registerCommand: (name, work) => {
         editor.commands[name] = work;

@@ -125,6 +125,19 @@ test('run to here is shown in the output', options, async () => {
   assert.match(editor.output.at(-1), /step 2/);
 });
 
+test('a property is proved at its lens, which then has the answer', options, async () => {
+  const { editor, document } = await opened(';! always V0 <= 5\nLD V0, 5\n');
+  const lenses = editor.providers.CodeLens;
+  let changes = 0;
+  lenses.onDidChangeCodeLenses(() => (changes += 1));
+  const [before] = await lenses.provideCodeLenses(document);
+  assert.deepStrictEqual([before.command.title, before.command.command], ['prove', 'chipbench.prove']);
+  await editor.commands['chipbench.prove'](...before.command.arguments);
+  assert.match(editor.output.at(-1), /never broken/);
+  const [after] = await lenses.provideCodeLenses(document);
+  assert.deepStrictEqual([after.command.title, changes], ['never broken', 1]);
+});
+
 test('a server that dies is restarted, and nothing is lost', options, async () => {
   const { editor, server, document } = await opened();
   editor.type(document, 0, 0, 0, 'X');

@@ -15,6 +15,6 @@ returns c = λ named.
       is_json = flag_is found (codes "json") c.get_flag.result c.get_flag.ensures.value c.get_flag.ensures.other c.get_flag.ensures.none;
       allowed = first_is found (codes "allow") _ c.get_str.ensures;
       color = c.color_asked.ensures ∙ ap color_asked (first_is found (codes "color") _ c.get_str-2.ensures);
-      profile = named;
+      quirks = named;
       is_covering = flag_is found (codes "cover") c.get_flag-2.result c.get_flag-2.ensures.value c.get_flag-2.ensures.other c.get_flag-2.ensures.none;
     }

@@ -61,3 +61,8 @@ pub returns-in-Explore : goal.returns-in-Explore
 returns-in-Explore g c =
     does_it g.I.Read.remaining g.O.Write.contents c.args.input.now c.explore.new.input c.args.output.now c.explore.new.output c.args.host.takes_color c.args.line.now _ c.explore.result
     c.in-Explore.is c.explore.ensures
+
+pub returns-in-Prove : goal.returns-in-Prove
+returns-in-Prove g c =
+    does_it g.I.Read.remaining g.O.Write.contents c.args.input.now c.prove_in_time.new.input c.args.output.now c.prove_in_time.new.output c.args.host.takes_color c.args.line.now _ c.prove_in_time.result
+    c.in-Prove.is c.prove_in_time.ensures

@@ -6,12 +6,12 @@ pub returns-clause-searched : goal.returns-clause-searched
 returns-clause-searched g c =
     let question = c.args.question.now in
     search_printed g.O.Write.contents c.args.output.now c.print.new.output c.args.arguments.now c.args.source.now.lines question.rate question.allowed
-    question.target c.args.start.now c.explore-explored.result c.deref.result.now c.in_ok-text.ensures.0 c.search_ending.result c.print.result
-    c.explore-explored.ensures.answers c.explore-explored.ensures.executed c.explore-explored.ensures.any_speed (c.deref.ensures.value ∙ c.in_ok-text.ensures.1) c.search_ending.ensures
+    question.target c.args.start.now c.explore-explored.result c.deref-2.result.now _ c.in_ok-text.ensures.0 c.search_ending.result c.print.result
+    c.explore-explored.ensures.answers c.explore-explored.ensures.executed c.explore-explored.ensures.any_speed (c.deref-2.ensures.value ∙ c.in_ok-text.ensures.1) c.search_ending.ensures
     c.print.ensures
 
 pub returns-clause-written : goal.returns-clause-written
 returns-clause-written g c = λ asked.
     let printed = rw asked at c.print.ensures in
-    found_written (g.F.FileAccess.wrote c.args.files.now) c.explore-explored.result.outcome c.explore-explored.result.is_short c.args.arguments.now.keys_to
+    found_written (g.F.FileAccess.wrote c.args.files.now) c.explore-explored.result.outcome c.explore-explored.result.is_short c.args.arguments.now.search.keys_to
     (printed.0 ∙ c.search_ending.ensures) c.in_ok-write_script.ensures.ok

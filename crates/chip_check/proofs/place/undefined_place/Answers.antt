@@ -15,7 +15,7 @@ returns-in-Some-clause-span c =
     let tokens = c.deref.result.now in
     let found : first_unknown known c.in_ok-last.last line start tokens ≡ Some c.in-Some.found = search rules in
     ap (λ o. or_span o c.args.span) (sym found ∙ same-unknown known all c.in_ok-last.last line start tokens c.requires.known)
-    ∙ ap (λ last. or_span (first_unknown all last line start tokens) c.args.span) (c.in_ok-last.ensures ∙ ap (λ count. last_seen c.args.number count (reading_of line)) c.lines.ensures)
+    ∙ ap (λ last. or_span (first_unknown all last line start tokens) c.args.span) (c.in_ok-last.ensures ∙ ap (λ count. last_seen c.args.number count (reading_of line)) c.lines.ensures.value)
     ∙ ap (λ ts. or_span (first_unknown all (last_seen c.args.number (length c.args.source.now.lines) (reading_of line)) line start ts) c.args.span) (c.deref.ensures.value ∙ c.in_ok-tokens.ensures.list)
 
 pub returns-clause-span : goal.returns-clause-span
@@ -27,5 +27,5 @@ returns-clause-span c =
     let tokens = c.deref.result.now in
     let found : first_unknown known c.in_ok-last.last line start tokens ≡ None = search rules in
     ap (λ o. or_span o c.args.span) (sym found ∙ same-unknown known all c.in_ok-last.last line start tokens c.requires.known)
-    ∙ ap (λ last. or_span (first_unknown all last line start tokens) c.args.span) (c.in_ok-last.ensures ∙ ap (λ count. last_seen c.args.number count (reading_of line)) c.lines.ensures)
+    ∙ ap (λ last. or_span (first_unknown all last line start tokens) c.args.span) (c.in_ok-last.ensures ∙ ap (λ count. last_seen c.args.number count (reading_of line)) c.lines.ensures.value)
     ∙ ap (λ ts. or_span (first_unknown all (last_seen c.args.number (length c.args.source.now.lines) (reading_of line)) line start ts) c.args.span) (c.deref.ensures.value ∙ c.in_ok-tokens.ensures.list)

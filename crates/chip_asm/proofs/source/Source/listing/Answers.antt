@@ -1,13 +1,29 @@
-use Rattle.std.proofs.Common.{◌≡◌, ◌∙◌, ap}
-use Rattle.chip_asm.specs.computed.Walk.{placed}
-use Rattle.chip_asm.specs.Listing.{lines_shown, listing_of}
-use Rattle.chip_asm.specs.inner.Records.{readings_in, texts_in}
-use Rattle.chip_asm.proofs.Views.{listing-view}
+use Rattle.std.proofs.Common.{◌≡◌, ◌∙◌, ◌<◌, ◌++◌, ℕ, List, length, ap, arith, sym, slice_get}
+use Rattle.std.proofs.lemmas.List.{take_all}
+use Rattle.std.specs.Fmt.{signed_decimal}
+use Rattle.std.specs.List.{flat_map}
+use Rattle.chip_asm.specs.LineViews.{LineFacts, line_facts}
+use Rattle.chip_asm.specs.Listing.{listing_of, row_by}
+use Rattle.chip_asm.proofs.FactsFound.{line-at-place}
+use Rattle.chip_asm.proofs.ListingSteps.{past-rows, rows-more}
 use Rattle.chip_asm.proofs.source.Source.listing.Goals as goal
+use Rattle.chip_asm.proofs.source.Source.listing.Goals.{in-Some+in_ok-push_decimal_row, in_default}
+
+pub loop-place-preserved : goal.loop-place-preserved
+loop-place-preserved c =
+    let facts : List LineFacts = line_facts c.args.self.now.lines in
+    let place : ℕ = c.loop-place.place in
+    let inside : place < length facts = omega (arith, c.loop-place-test.true, c.lines-place-end.ensures.told) in
+    let read : c.line.result ≡ slice_get facts place = c.line.ensures.value ∙ line-at-place c.args.self.now.lines place in
+    elim c.match-line.branch [
+      | in-Some+in_ok-push_decimal_row w ↦
+          ap (λ v. v.items) w.listing-is ∙ w.in_ok-push_decimal_row.ensures ∙ ap (λ l. l ++ row_by signed_decimal w.in-Some.line) c.loop-place.invariant
+          ∙ sym (rows-more (row_by signed_decimal) facts place w.in-Some.line (sym read ∙ w.in-Some.is))
+      | in_default w ↦ absurd (omega (arith, inside, past-rows facts place (sym read ∙ w.in_default.is)))
+    ]
 
 pub returns : goal.returns
+unfolding listing_of
 returns c =
-    let same : lines_shown (placed (readings_in c.deref.result.now)) (texts_in c.deref.result.now) ≡ listing_of c.args.self.now.lines
-    = ap (λ lines. lines_shown (placed (readings_in lines)) (texts_in lines)) c.deref.ensures.value
-    ∙ listing-view c.self.inside.kept.lines.items c.args.self.now.lines c.self.invariant.are_read (ap (λ t. t.lines) c.self.view_is) in
-    rw (← same) c.listing_in.ensures
+    c.loop-place.invariant
+    ∙ ap (flat_map (row_by signed_decimal)) (take_all c.loop-place.place (line_facts c.args.self.now.lines) (omega (arith, c.loop-place-test.false, c.lines-place-end.ensures.told)))

@@ -1,4 +1,4 @@
-use Rattle.std.proofs.Common.{◌≡◌, Bool, true, ap, ◌∙◌}
+use Rattle.std.proofs.Common.{ap, ◌∙◌}
 use Rattle.std.proofs.lemmas.Result.{IfOk-weaker}
 use Rattle.chip_machine.specs.declared.parts.Parts.{Parts}
 use Rattle.chip_explore.specs.declared.backdrop.Backdrop.{Backdrop}

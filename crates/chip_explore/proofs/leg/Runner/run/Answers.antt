@@ -29,6 +29,6 @@ loop-end-preserved c =
       grows = λ pc h. c.end.ensures.grows pc (c.loop-end.invariant.grows pc h);
       path = λ v more safe.
           c.loop-end.invariant.path v (λ pc h. more pc (c.end.ensures.grows pc h))
-          (one_move p v f s t (still_moves p noted v.executed more s (c.in_default.ensures.moves refl)) unread
+          (one_move p v f s t (still_moves p noted v.executed more f s (c.in_default.ensures.moves refl)) unread
           (record { after = after; is_after = is_after; safe = subst (λ (s : State). Safe p v after s (t + 1)) made safe }));
     }

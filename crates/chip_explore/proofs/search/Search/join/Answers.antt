@@ -1,7 +1,7 @@
 use Rattle.std.proofs.Common.{rules, ◌≡◌, Result, Ok, Err, OnOk, ap, subst}
 use Rattle.chip_explore.specs.declared.members.Members.{Members}
 use Rattle.chip_explore.specs.inner.Cover.{Goes}
-use Rattle.chip_explore.proofs.Growth.{safe_joined, safe_lowered}
+use Rattle.chip_explore.proofs.Growth.{goes_more, safe_joined, safe_lowered}
 use Rattle.chip_explore.proofs.search.Search.join.Goals as goal
 use Rattle.chip_explore.proofs.search.Search.join.Goals.{in_default-via-in-None-1, in_default-via-in-Some+in_ok-is_at+else-branch}
 
@@ -31,3 +31,15 @@ returns-2-clause-safe c =
     let goes : Goes p m c.add.new.self = subst (λ (m : Members). Goes p m c.add.new.self) same c.in_ok-add.ensures.goes in
     whatever c.note.result
     (safe_joined p m c.add.new.self goes runner.forgotten runner.machine c.args.step c.requires.fine (c.in_ok-add.ensures.joins (search rules)))
+
+pub returns-then-not-branch-clause-goes : goal.returns-then-not-branch-clause-goes
+returns-then-not-branch-clause-goes c =
+    let p = c.args.setting.now in
+    let m = c.args.self.now.members in
+    let same : c.in_default.self.1.0 ≡ m =
+    elim c.in_default.branch [
+      | in_default-via-in-None-1 w ↦ ap (λ there. there.1.0) w.self-is
+      | in_default-via-in-Some+in_ok-is_at+else-branch w ↦ ap (λ there. there.1.0) w.self-is
+    ] in
+    let goes : Goes p m c.add.new.self = subst (λ (m : Members). Goes p m c.add.new.self) same c.in_ok-add.ensures.goes in
+    goes_more p m c.add.new.self _ goes c.lower_limit-then-not-branch.ensures.goes

@@ -8,6 +8,6 @@ use Rattle.chip_machine.proofs.screen.Screen.scroll_left.Goals as goal
 pub returns : goal.returns
 returns c =
     ap in_rows (with_items_is c.self.inside.rows c.to_the_left.new.rows (omega arith))
-    ∙ in_rows-scrolled_left c.deref_mut.result.now c.to_the_left.new.rows (λ row h. c.to_the_left.ensures row (omega arith))
-    ∙ ap (λ rows. scrolled_left 4 (in_rows rows)) c.deref_mut.ensures.value
-    ∙ ap (scrolled_left 4) c.self.view_is
+    ∙ in_rows-scrolled_left c.args.columns c.deref_mut.result.now c.to_the_left.new.rows (λ row h. c.to_the_left.ensures row (omega arith))
+    ∙ ap (λ rows. scrolled_left c.args.columns (in_rows rows)) c.deref_mut.ensures.value
+    ∙ ap (scrolled_left c.args.columns) c.self.view_is

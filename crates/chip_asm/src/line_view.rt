@@ -1,0 +1,144 @@
+//! What a source tells of a line.
+ghost use Rattle.std.specs.Prelude.{◌≡◌, ◌<◌, ◌≤◌, length};
+ghost use Rattle.chip_lang.specs.Line.{reading_of};
+ghost use Rattle.chip_lang.specs.SeenLine.{seen_line};
+ghost use Rattle.chip_lang.specs.declared.limits.TheConstants.{MEMORY_BYTES};
+ghost use Rattle.chip_asm.specs.LineViews.{definition_of};
+ghost use Rattle.chip_asm.specs.inner.Facts.{facts_in};
+ghost use Rattle.chip_asm.specs.inner.Records.{reading_in};
+
+use crate::kept_line::BoxedLine;
+use crate::placement::Placement;
+use chip_lang::{Body, Fault, Line};
+use std::marker::Model;
+
+/// A line of a source, and what holds of it there. It is lent by the source.
+#[derive(Drop)]
+pub struct LineView<'a> {
+    pub(crate) number: usize,
+    pub(crate) text: &'a [u8],
+    pub(crate) reading: &'a Line,
+    pub(crate) placement: Placement,
+    pub(crate) bytes: &'a [u8],
+}
+
+impl<'a> Model for LineView<'a> {
+    ghost use Rattle.chip_asm.specs.LineViews.{LineFacts};
+    ghost use Rattle.chip_asm.specs.inner.Facts.{IsView, facts_in};
+
+    ghost Value = { LineFacts };
+
+    ghost view = { λ v. facts_in v.number v.text.now v.placement v.bytes.now };
+
+    ghost invariant = { λ v. IsView v.number v.text.now v.reading.now v.placement };
+}
+
+impl<'a> LineView<'a> {
+    /// That of a kept line of a number, which is placed so and takes these bytes of the image.
+    pub(crate) fn of(
+        number: usize,
+        kept: &'a BoxedLine,
+        placement: &Placement,
+        bytes: &'a [u8],
+    ) -> LineView<'a>
+        requires number { number < 10000 }
+        requires is_read { reading_in kept.now ≡ reading_of kept.now.text }
+        requires high { placement.now.here ≤ MEMORY_BYTES }
+        ensures { result ≡ facts_in number kept.now.text placement.now bytes.now }
+    {
+        LineView {
+            number,
+            text: kept.text(),
+            reading: kept.line(),
+            placement: *placement,
+            bytes,
+        }
+    }
+
+    /// The number of the line, counted from 1.
+    pub fn number(&self) -> usize
+        ensures value { result ≡ self.now.number }
+        ensures bound { result < 10000 }
+    {
+        self.number
+    }
+
+    /// The text of the line, without its end.
+    pub fn text(&self) -> &'a [u8]
+        ensures { result.now ≡ self.now.text }
+    {
+        self.text
+    }
+
+    /// What the text says.
+    pub fn reading(&self) -> &'a Line
+        ensures { seen_line result.now ≡ reading_of self.now.text }
+    {
+        self.reading
+    }
+
+    /// Whether the line is active: no IF block leaves it out, and no END stands before it.
+    pub fn is_active(&self) -> bool
+        ensures { result ≡ self.now.active }
+    {
+        self.placement.is_active()
+    }
+
+    /// The address at which the line stands, or would if it were active.
+    pub fn address(&self) -> usize
+        ensures value { result ≡ self.now.address }
+        ensures bound { result ≤ MEMORY_BYTES }
+    {
+        self.placement.address()
+    }
+
+    /// The value of the expression of an EQU, ORG or DS line; 0 where it has none, and for another
+    /// line.
+    pub fn value(&self) -> i32
+        ensures { result ≡ self.now.value }
+    {
+        self.placement.value
+    }
+
+    /// The fault of the line.
+    pub fn fault(&self) -> Option<Fault>
+        ensures { result ≡ self.now.fault }
+    {
+        self.placement.status.fault()
+    }
+
+    /// The bytes that the line takes in the image: its own, and zeros up to its size. An inactive
+    /// line and one with a fault of the first pass take none.
+    pub fn bytes(&self) -> &'a [u8]
+        ensures { result.now ≡ self.now.bytes }
+    {
+        self.bytes
+    }
+
+    /// How many bytes the line takes.
+    pub fn size(&self) -> usize
+        ensures { result ≡ length self.now.bytes }
+    {
+        self.bytes.len()
+    }
+
+    /// The value that an active line without a fault gives a name by EQU or DEFINE.
+    pub fn definition(&self) -> Option<i32>
+        ensures { result ≡ definition_of self.now }
+    {
+        if !self.placement.is_active() || self.placement.status.fault().is_some() {
+            return None;
+        }
+        match self.reading {
+            Line::Read {
+                body: Body::Equ(_),
+                ..
+            } => Some(self.placement.value),
+            Line::Read {
+                body: Body::Define,
+                ..
+            } => Some(0),
+            _ => None,
+        }
+    }
+}

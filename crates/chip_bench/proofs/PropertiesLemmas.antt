@@ -1,0 +1,92 @@
+-- Which of a source's properties `prove` is asked for, as its code has them.
+use Rattle.std.proofs.Common.{◌≡◌, ℕ, ◌<◌, ◌+◌, ◌==◌, Bool, true, false, List, [], ◌∷◌, Option, Some, None, length, map, refl, sym, ◌∙◌, ap, subst, arith, eqb-true}
+use Rattle.std.specs.Prelude.{nat_lt, if◌then◌else◌}
+use Rattle.std.specs.List.{remove}
+use Rattle.std.specs.Vec.{vec_len}
+use Rattle.std.proofs.lemmas.Bool.{ltb-true}
+use Rattle.std.proofs.lemmas.List.{length-map}
+use Rattle.std.proofs.lemmas.List.Edits.{length-remove}
+use Rattle.chip_arguments.specs.declared.command_line.ProveArguments.{ProveArguments}
+use Rattle.chip_explore.specs.declared.property.Property.{Property}
+use Rattle.chip_explore.specs.declared.question.Outcome.{Outcome as SearchOutcome}
+use Rattle.chip_explore.specs.declared.question.Outcome.TheVariants.{Found, Later, Within, Never}
+use Rattle.chip_explore.specs.declared.target.Met.{Met}
+use Rattle.chip_explore.specs.declared.target.Met.TheVariants as met
+use Rattle.chip_machine.specs.State.{State}
+use Rattle.chip_properties.specs.declared.properties.Properties.{Properties}
+use Rattle.chip_properties.specs.declared.stated.Stated.{Stated}
+use Rattle.chip_session.specs.Tally.{Tally}
+use Rattle.chip_bench.specs.Doing.{Fails, IsNoProperty, Outcome, ProvesFrom, ProvesUnless, ProvesWith}
+use Rattle.chip_bench.specs.Proving.{asked_of, has_faults, is_missing}
+use Rattle.chip_bench.specs.declared.proving.Head.{Head}
+use Rattle.chip_bench.specs.declared.proving.Left.{Left}
+use Rattle.chip_bench.specs.inner.Proofs.{IsLeft, head_of, met_property}
+use Rattle.chip_bench.proofs.ProvingLemmas.{is_place}
+
+pub nothing_in : {X : Type 0} (xs : List X) → length xs ≡ 0 → xs ≡ []
+nothing_in [] none = refl
+nothing_in (x ∷ xs) none = absurd (omega arith)
+
+pub no_heads : (left : Left) → (vec_len left.heads == 0) ≡ true → left.heads.items ≡ []
+no_heads left none =
+    let zero = eqb-true (vec_len left.heads) 0 none in
+    nothing_in left.heads.items (omega (arith, zero, left.heads.ok.0))
+
+heads_count : (asked : List Stated) (left : Left) → IsLeft asked left → length left.heads.items ≡ length asked
+heads_count asked left is = ap length is.heads ∙ length-map asked head_of
+
+-- as many heads as properties
+pub same_count : (asked : List Stated) (left : Left) → IsLeft asked left → length left.properties.items ≡ length left.heads.items
+same_count asked left is =
+    ap length is.properties ∙ length-map asked (λ (one : Stated). one.property) ∙ sym (heads_count asked left is)
+
+-- none is asked for
+pub asked_none : (asked : List Stated) (left : Left) (is_empty : Bool) → IsLeft asked left → is_empty ≡ (vec_len left.heads == 0) → is_empty ≡ true → asked ≡ []
+asked_none asked left is_empty is empty none =
+    nothing_in asked (sym (heads_count asked left is) ∙ ap length (no_heads left (sym empty ∙ none)))
+
+pub left_none : (asked : List Stated) (left : Left) (is_empty : Bool) → IsLeft asked left → is_empty ≡ (vec_len left.heads == 0) → asked ≡ [] → is_empty ≡ true
+left_none asked left is_empty is empty none =
+    let zero : length left.heads.items ≡ 0 = heads_count asked left is ∙ ap length none in
+    let count : vec_len left.heads ≡ 0 = omega (arith, zero, left.heads.ok.0) in
+    empty ∙ ap (λ (n : ℕ). n == 0) count
+
+by_place : (k place count : ℕ) → Some k ≡ (if nat_lt place count then Some place else None) → k < count
+by_place k place count e = by (nat_lt place count) refl
+  where
+    by : (b : Bool) → nat_lt place count ≡ b → k < count
+    by true is = subst (λ (n : ℕ). n < count) (is_place k place count e) (ltb-true place count is)
+    by false is = absurd (let none : Some k ≡ None = rw is at e in cc)
+
+-- what was met is one of the properties
+pub place_within : (k count : ℕ) (outcome : SearchOutcome) → Some k ≡ met_property outcome count → k < count
+place_within k count (Found events step (met.Property place)) e = by_place k place count e
+place_within k count (Found events step (met.Cause cause)) e = cc
+place_within k count (Found events step met.Address) e = cc
+place_within k count (Later events step (met.Property place) covered) e = by_place k place count e
+place_within k count (Later events step (met.Cause cause) covered) e = cc
+place_within k count (Later events step met.Address covered) e = cc
+place_within k count (Within n) e = cc
+place_within k count Never e = cc
+
+pub fewer : {X : Type 0} (xs : List X) (k : ℕ) → k < length xs → length (remove xs k) < length xs
+fewer xs k within = let one = length-remove xs k within in omega (arith, one)
+
+module _ {W : Type 0} (contents : W → Option (List ℕ)) (old new : Tally W) (arguments : ProveArguments) (lines : List (List ℕ)) (rate keys : ℕ)
+    (start : State) (properties : Properties) (ended : Outcome) where
+  abbrev asked : List Stated
+  asked = asked_of arguments.only properties.stated.items
+
+  abbrev faulty : Bool
+  faulty = has_faults arguments.only properties.faults.items
+
+  pub with_none : is_missing arguments.only asked faulty ≡ true → Fails contents old new IsNoProperty ended →
+      ProvesWith contents old new arguments lines rate keys start properties ended
+  with_none e fails = subst (λ (b : Bool). ProvesUnless contents old new b arguments lines rate keys start asked faulty ended) (sym e) fails
+
+  pub with_some : (is_faulty : Bool) → is_faulty ≡ faulty → is_missing arguments.only asked faulty ≡ false →
+      ProvesFrom contents old new arguments lines rate keys start asked is_faulty ended →
+      ProvesWith contents old new arguments lines rate keys start properties ended
+  with_some is_faulty same e did =
+      subst (λ (b : Bool). ProvesUnless contents old new b arguments lines rate keys start asked faulty ended) (sym e)
+      (subst (λ (b : Bool). ProvesFrom contents old new arguments lines rate keys start asked b ended) same did)

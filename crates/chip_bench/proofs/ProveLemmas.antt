@@ -1,0 +1,113 @@
+-- What the command `prove` did with a source.
+use Rattle.std.proofs.Common.{◌≡◌, ◌⊎◌, inl, inr, ℕ, Bool, true, false, List, Option, Some, None, Ok, Err, refl, sym, ◌∙◌, ap, subst}
+use Rattle.std.specs.Prelude.{option_copied}
+use Rattle.chip_arguments.specs.declared.command_line.ProveArguments.{ProveArguments}
+use Rattle.chip_asm.specs.Lines.{lines_of, open_fault}
+use Rattle.chip_asm.specs.Program.{image_of}
+use Rattle.chip_asm.specs.declared.refusal.OpenError.{OpenError}
+use Rattle.chip_asm.specs.declared.refusal.OpenError.TheVariants as unopened
+use Rattle.chip_properties.specs.Properties.{AreProperties}
+use Rattle.chip_properties.specs.declared.properties.Properties.{Properties}
+use Rattle.chip_session.specs.Settings.{SessionSettings}
+use Rattle.chip_session.specs.Tally.{Tally}
+use Rattle.chip_bench.specs.Doing.{Fails, FromSource, GivesSource, IfSet, IfSettled, IsBadSet, IsShort, IsSourceUnread, Outcome, Proves, ProvesAsked, ProvesBy, image_if_opened, image_in}
+use Rattle.chip_bench.specs.Exploring.{AsksSet, key_named, usual_keys}
+use Rattle.chip_bench.specs.Printing.{IsCheckText, IsPrintedCheckOf, Prints, PrintsSuch, ending_with, printed, unopened_check}
+use Rattle.chip_bench.specs.SettingArguments.{settings_asked}
+use Rattle.chip_bench.specs.declared.ending.Ending.TheVariants.{Faulty}
+use Rattle.chip_bench.specs.declared.ending.Failure.{Failure}
+use Rattle.chip_bench.specs.declared.ending.Failure.TheVariants as failure
+use Rattle.chip_bench.proofs.DoingLemmas.{Unsettles, declines, fails, settles, source_unread, unsettles}
+
+module _ {W : Type 0} (contents : W → Option (List ℕ)) (out_old out_new : Tally W) (arguments : ProveArguments) (settings : SessionSettings) (keys : ℕ)
+    (bytes : List ℕ) (ended : Outcome) where
+  abbrev pub By : Option (List ℕ) → Type 0
+  By image = ProvesBy contents out_old out_new arguments settings keys image bytes ended
+
+  abbrev pub Faulted : Type 0
+  Faulted = PrintsSuch contents out_old out_new (IsPrintedCheckOf arguments.is_json false true arguments.search.source.now (open_fault bytes) (lines_of bytes)) ended
+
+  -- memory ran out
+  pub by_short : (image : Option (List ℕ)) → ended ≡ Err failure.OutOfMemory → out_new ≡ out_old → By image
+  by_short None e same = inr (e, same)
+  by_short (Some image) e same = inr (fails IsShort ended failure.OutOfMemory e refl, same)
+
+  -- the source doesn't open
+  pub by_unopened : (error : OpenError) → (error ≡ unopened.OutOfMemory) ⊎ (open_fault bytes ≡ Some error) →
+      Prints contents out_old out_new (printed (unopened_check arguments.is_json true arguments.search.source.now error) Faulty) ended →
+      (error ≡ unopened.OutOfMemory → (ended ≡ Err failure.OutOfMemory) × (out_new ≡ out_old)) → By (image_in bytes)
+  by_unopened error (inl memory) prints short = let s = short memory in by_short (image_in bytes) s.0 s.1
+  by_unopened error (inr fault) prints short =
+      let none : image_in bytes ≡ None = ap (λ (o : Option OpenError). image_if_opened o (image_of (lines_of bytes))) fault in
+      let is = subst (λ (o : Option OpenError). IsPrintedCheckOf arguments.is_json false true arguments.search.source.now o (lines_of bytes)
+      (printed (unopened_check arguments.is_json true arguments.search.source.now error) Faulty)) (sym fault) refl in
+      subst (λ (image : Option (List ℕ)). By image) (sym none) (inl (printed (unopened_check arguments.is_json true arguments.search.source.now error) Faulty, is, prints))
+
+  -- it opens, and has no image
+  pub by_faults : (lines : List (List ℕ)) (text : List ℕ) → open_fault bytes ≡ None → lines ≡ lines_of bytes → None ≡ image_of lines →
+      IsCheckText arguments.is_json false arguments.search.source.now lines text → Prints contents out_old out_new (printed text Faulty) ended →
+      By (image_in bytes)
+  by_faults lines text opens same none is prints =
+      let none_there : image_of (lines_of bytes) ≡ None = sym (subst (λ (l : List (List ℕ)). None ≡ image_of l) same none) in
+      let is_there = subst (λ (l : List (List ℕ)). IsCheckText arguments.is_json false arguments.search.source.now l text) same is in
+      let none : image_in bytes ≡ None = ap (λ (o : Option OpenError). image_if_opened o (image_of (lines_of bytes))) opens ∙ none_there in
+      let shown = subst (λ (o : Option OpenError). IsPrintedCheckOf arguments.is_json false true arguments.search.source.now o (lines_of bytes) (printed text Faulty))
+      (sym opens) (record { text = is_there; ending = sym (ap ending_with none_there) }) in
+      subst (λ (image : Option (List ℕ)). By image) (sym none) (inl (printed text Faulty, shown, prints))
+
+  -- it opens, and has one
+  pub by_machine : (lines : List (List ℕ)) (image : List ℕ) → open_fault bytes ≡ None → lines ≡ lines_of bytes → Some image ≡ image_of lines →
+      ((properties : Properties) × AreProperties lines properties × ProvesAsked contents out_old out_new arguments settings keys image lines properties ended)
+      ⊎ Fails contents out_old out_new IsShort ended → By (image_in bytes)
+  by_machine lines image opens same some did =
+      let there : image_of (lines_of bytes) ≡ Some image = sym (subst (λ (l : List (List ℕ)). Some image ≡ image_of l) same some) in
+      rw (opens, there)
+      (subst (λ (l : List (List ℕ)).
+      ((properties : Properties) × AreProperties l properties × ProvesAsked contents out_old out_new arguments settings keys image l properties ended)
+      ⊎ Fails contents out_old out_new IsShort ended) same did)
+
+module _ {R W : Type 0} (remaining : R → Option (List ℕ)) (contents : W → Option (List ℕ)) (in_old in_new : Tally R) (out_old out_new : Tally W)
+    (arguments : ProveArguments) (ended : Outcome) where
+  abbrev Did : SessionSettings → ℕ → Outcome → Type 0
+  Did settings keys =
+      FromSource remaining in_old in_new (out_new ≡ out_old) arguments.search.source (λ source.
+      ProvesBy contents out_old out_new arguments settings keys (image_in source) source)
+
+  abbrev WithKeys : SessionSettings → Outcome → Type 0
+  WithKeys settings ended =
+      (keys : Option ℕ) × AsksSet key_named usual_keys (option_copied arguments.search.allowed_keys) keys
+      × IfSet remaining in_old in_new (out_new ≡ out_old) keys (Did settings) ended
+
+  -- there are no settings
+  pub proves_unsettled : (why : Failure) → ended ≡ Err why → in_new ≡ in_old → out_new ≡ out_old → Unsettles (settings_asked arguments.search.settings) why →
+      Proves remaining contents in_old in_new out_old out_new arguments ended
+  proves_unsettled why e same quiet u =
+      unsettles remaining in_old in_new (out_new ≡ out_old) quiet (settings_asked arguments.search.settings) WithKeys ended why e same u
+
+  module _ (settings : SessionSettings) (settled : settings_asked arguments.search.settings ≡ Some settings) where
+    with_keys : WithKeys settings ended → Proves remaining contents in_old in_new out_old out_new arguments ended
+    with_keys did =
+        subst (λ (o : Option SessionSettings). IfSettled remaining in_old in_new (out_new ≡ out_old) o WithKeys ended) (sym settled) (inl did)
+
+    -- the keys are none
+    pub proves_bad : (why : Failure) → ended ≡ Err why → in_new ≡ in_old → out_new ≡ out_old → IsBadSet why →
+        AsksSet key_named usual_keys (option_copied arguments.search.allowed_keys) None → Proves remaining contents in_old in_new out_old out_new arguments ended
+    proves_bad why e same quiet bad asks = with_keys (None, asks, declines remaining in_old in_new (out_new ≡ out_old) quiet IsBadSet ended why e bad same)
+
+    module _ (keys : ℕ) (asks : AsksSet key_named usual_keys (option_copied arguments.search.allowed_keys) (Some keys)) where
+      -- the source can't be read
+      pub proves_unread : (why : Failure) → ended ≡ Err why → out_new ≡ out_old → IsSourceUnread in_old in_new arguments.search.source why →
+          Proves remaining contents in_old in_new out_old out_new arguments ended
+      proves_unread why e quiet unread =
+          with_keys (
+            Some keys,
+            asks,
+            source_unread remaining in_old in_new (out_new ≡ out_old) quiet arguments.search.source
+                (λ source. ProvesBy contents out_old out_new arguments settings keys (image_in source) source) ended why e unread,
+          )
+
+      -- it was read
+      pub proves_done : (bytes : List ℕ) → GivesSource remaining in_old in_new arguments.search.source.now bytes →
+          ProvesBy contents out_old out_new arguments settings keys (image_in bytes) bytes ended →
+          Proves remaining contents in_old in_new out_old out_new arguments ended
+      proves_done bytes gives did = with_keys (Some keys, asks, inl (bytes, gives, did))

@@ -1,0 +1,14 @@
+use Rattle.chip_check.proofs.Pieces.{no_more, one_more}
+use Rattle.chip_bench.specs.Proving.{further_event}
+use Rattle.chip_bench.proofs.answer.push_further_events.Goals as goal
+
+pub loop-event-preserved : goal.loop-event-preserved
+loop-event-preserved c =
+    one_more further_event c.args.text.now.items c.loop-event.text.items c.args.events.now c.loop-event.event-index _ _
+    c.loop-event-test.true c.loop-event.invariant
+    c.in_ok-push_further_event.ensures
+
+pub returns : goal.returns
+returns c =
+    no_more further_event c.args.text.now.items c.loop-event.text.items c.args.events.now c.loop-event.event-index
+    c.loop-event-test.false c.loop-event.invariant

@@ -1,0 +1,12 @@
+use Rattle.std.proofs.Common.{inl, sym}
+use Rattle.chip_bench.proofs.exploring.search_opened.Goals as goal
+
+pub returns : goal.returns
+returns g c =
+    let asks = rw (sym c.deref.ensures.value) at c.in_ok-properties.ensures.ok in
+    rw (sym c.in-Some.ensures.value) (inl (
+      c.deref.result,
+      asks,
+      rw (sym c.in-Some-target_of.ensures)
+          (rw (sym c.rate.ensures.value, sym c.tape.ensures.value, sym c.quirks.ensures, sym c.in_ok-start.ensures) c.search.ensures.searched),
+    ))

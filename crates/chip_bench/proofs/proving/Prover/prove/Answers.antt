@@ -1,0 +1,47 @@
+use Rattle.std.proofs.Common.{◌≡◌, ◌∙◌, ap, inl, refl, subst, true, false, Bool}
+use Rattle.chip_bench.specs.Doing.{IsNoProperty}
+use Rattle.chip_bench.specs.Proving.{asked_of, has_faults, is_missing}
+use Rattle.chip_bench.specs.declared.ending.Failure.TheVariants as failure
+use Rattle.chip_bench.specs.inner.Proofs.{IsLeft}
+use Rattle.chip_bench.proofs.DoingLemmas.{fails}
+use Rattle.chip_bench.proofs.PropertiesLemmas.{asked_none, left_none, with_none, with_some}
+use Rattle.chip_bench.proofs.ProvingLemmas.{missing, not_missing}
+use Rattle.chip_bench.proofs.proving.Prover.prove.Goals as goal
+
+pub returns-in-Some : goal.returns-in-Some
+returns-in-Some g c =
+    let p = c.args.self.now in
+    let properties = c.in_ok-stated.field-0 in
+    let asked = asked_of p.arguments.now.only properties.stated.items in
+    let is : IsLeft asked c.in_ok-left.left = c.in_ok-left.ensures in
+    let faulty : c.has_faults-is_faulty.result ≡ has_faults p.arguments.now.only properties.faults.items =
+    c.has_faults-is_faulty.ensures ∙ ap (has_faults p.arguments.now.only) c.deref.ensures.value in
+    let none : is_missing p.arguments.now.only asked c.has_faults-is_faulty.result ≡ true =
+    missing p.arguments.now.only c.in-Some.line c.is_empty-is_empty.result c.has_faults-is_faulty.result asked c.in-Some.ensures
+    (asked_none asked c.in_ok-left.left c.is_empty-is_empty.result is c.is_empty-is_empty.ensures) in
+    inl (
+      properties,
+      c.in_ok-stated.ensures,
+      with_none g.O.Write.contents c.args.output.now c.args.output.now p.arguments.now p.source.now.lines p.rate p.keys
+          p.start.now properties _ (subst (λ (b : Bool). is_missing p.arguments.now.only asked b ≡ true) faulty none)
+          (fails IsNoProperty _ (failure.NoProperty c.in-Some.line) refl (c.in-Some.line, refl), refl),
+    )
+
+pub returns : goal.returns
+returns g c =
+    let p = c.args.self.now in
+    let properties = c.in_ok-stated.field-0 in
+    let asked = asked_of p.arguments.now.only properties.stated.items in
+    let is : IsLeft asked c.in_ok-left.left = c.in_ok-left.ensures in
+    let faulty : c.has_faults-is_faulty.result ≡ has_faults p.arguments.now.only properties.faults.items =
+    c.has_faults-is_faulty.ensures ∙ ap (has_faults p.arguments.now.only) c.deref.ensures.value in
+    let some : is_missing p.arguments.now.only asked c.has_faults-is_faulty.result ≡ false =
+    not_missing p.arguments.now.only c.is_empty-is_empty.result c.has_faults-is_faulty.result asked c.in_default.ensures
+    (left_none asked c.in_ok-left.left c.is_empty-is_empty.result is c.is_empty-is_empty.ensures) in
+    inl (
+      properties,
+      c.in_ok-stated.ensures,
+      with_some g.O.Write.contents c.args.output.now c.prove_left.new.output p.arguments.now p.source.now.lines p.rate p.keys
+          p.start.now properties c.prove_left.result c.has_faults-is_faulty.result faulty
+          (subst (λ (b : Bool). is_missing p.arguments.now.only asked b ≡ false) faulty some) (c.prove_left.ensures asked is),
+    )

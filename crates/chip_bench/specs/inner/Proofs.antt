@@ -1,0 +1,86 @@
+-- What private contracts of `prove` say (own).
+--     head_of, IsLeft   the properties that aren't answered yet, as the code has them
+--     missing_line      the line that the arguments name, where no property is asked for
+--     met_property      which of so many properties a search met
+--     IsUnmet           a search met nothing
+--     WritesAll         a text was written; a front of it where a write failed or memory ran out
+--     WritesUpTo        the same, where something else may have hindered the rest
+--     printed_head      what is printed of a property
+--     IsAnswering       what the answers to some properties came to
+use Rattle.std.specs.Prelude.{◌≡◌, ◌⊎◌, ℕ, ◌&&◌, ◌||◌, Bool, true, false, List, [], map, nat_lt, Option, Some, None, Result, Ok, Err, IfOk, IsErrAnd, if◌then◌else◌}
+use Rattle.std.specs.List.{flat_map}
+use Rattle.chip_arguments.specs.declared.command_line.ProveArguments.{ProveArguments}
+use Rattle.chip_explore.specs.declared.property.Property.{Property}
+use Rattle.chip_explore.specs.declared.question.Explored.{Explored}
+use Rattle.chip_explore.specs.declared.question.Outcome.{Outcome}
+use Rattle.chip_explore.specs.declared.question.Outcome.TheVariants.{Found, Later, Within, Never}
+use Rattle.chip_explore.specs.declared.target.Met.{Met}
+use Rattle.chip_explore.specs.declared.target.Met.TheVariants as met
+use Rattle.chip_machine.specs.State.{State}
+use Rattle.chip_properties.specs.declared.stated.Stated.{Stated}
+use Rattle.chip_session.specs.Tally.{Tally}
+use Rattle.chip_session.specs.Writing.{Breaks, Writes}
+use Rattle.chip_bench.specs.Doing.{IsScriptUnwritten}
+use Rattle.chip_bench.specs.Printing.{WritesFront}
+use Rattle.chip_bench.specs.Proving.{Answered, AreAnswered, answer_text, has_bad, printed_answer, text_at}
+use Rattle.chip_bench.specs.declared.ending.Failure.{Failure}
+use Rattle.chip_bench.specs.declared.ending.Failure.TheVariants as failure
+use Rattle.chip_bench.specs.declared.proving.Head.{Head}
+use Rattle.chip_bench.specs.declared.proving.Left.{Left}
+use Rattle.chip_bench.specs.declared.proving.Told.{Told}
+
+abbrev pub head_of : Stated → Head
+head_of one = record { line = one.line; kind = one.kind }
+
+pub record IsLeft (asked : List Stated) (left : Left) : Type 0 where
+  pub heads : left.heads.items ≡ map head_of asked
+  pub properties : left.properties.items ≡ map (λ one. one.property) asked
+
+abbrev pub property_met : Met → (count : ℕ) → Option ℕ
+property_met (met.Property place) count = if nat_lt place count then Some place else None
+property_met other count = None
+
+abbrev pub met_property : Outcome → (count : ℕ) → Option ℕ
+met_property (Found events step met) count = property_met met count
+met_property (Later events step met covered) count = property_met met count
+met_property (Within n) count = None
+met_property Never count = None
+
+-- the line that the arguments name, where no property is asked for
+abbrev pub missing_line : (only : Option ℕ) → (is_empty is_faulty : Bool) → Option ℕ
+missing_line only true false = only
+missing_line only is_empty is_faulty = None
+
+abbrev pub IsUnmet : Outcome → Type 0
+IsUnmet (Within n) = Unit {0}
+IsUnmet Never = Unit {0}
+IsUnmet outcome = ⊥
+
+-- what is printed of the property of a head
+abbrev pub printed_head : ProveArguments → (lines : List (List ℕ)) → Explored → Head → List ℕ
+printed_head arguments lines explored head =
+    answer_text arguments.is_json arguments.search.source.now head.line (text_at lines head.line)
+    head.kind (arguments.search.is_any_speed && explored.is_at_any_speed) explored.outcome
+
+module _ {W : Type 0} (contents : W → Option (List ℕ)) (old new : Tally W) where
+  abbrev pub WritesAll : {T : Type 0} → (text : List ℕ) → Result T Failure → Type 0
+  WritesAll text (Ok value) = Writes contents old new text
+  WritesAll text (Err failure.Output) = Breaks contents old new text
+  WritesAll text (Err failure.OutOfMemory) = WritesFront contents old new text
+  WritesAll text (Err _) = ⊥
+
+  abbrev pub WritesUpTo : {T : Type 0} → (Why : Failure → Type 0) → (text : List ℕ)
+      → Result T Failure → Type 0
+  WritesUpTo Why text result =
+      WritesAll text result ⊎ (IsErrAnd result Why × WritesFront contents old new text)
+
+  pub record IsAnswering (arguments : ProveArguments) (lines : List (List ℕ)) (rate keys : ℕ)
+      (start : State) (asked : List Stated) (was_bad : Bool) (result : Result Told Failure)
+      : Type 0 where
+    pub given : List Answered
+    pub left : List Stated
+    pub answered : AreAnswered rate keys start asked given left
+    pub written : WritesUpTo (IsScriptUnwritten arguments.search.keys_to)
+        (flat_map (printed_answer arguments lines) given) result
+    pub whole : IfOk result (λ told. left ≡ [])
+    pub bad : IfOk result (λ told. told.is_bad ≡ (was_bad || has_bad given))

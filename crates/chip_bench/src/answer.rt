@@ -1,0 +1,254 @@
+//! What `prove` prints of a property that is answered.
+ghost use Rattle.std.specs.Prelude.{◌≡◌, ◌++◌, OnOk};
+ghost use Rattle.std.specs.Fmt.{decimal};
+ghost use Rattle.std.specs.List.{flat_map};
+ghost use Rattle.chip_bench.specs.Proving.{answer_line, answer_members, answer_object, answer_text, answer_word, answer_words, further_event, is_bad, key_event, key_events, met_at, met_words, never_words, unmet_up_to, unmet_words};
+
+use chip_check::push_quoted;
+use chip_explore::{KeyEvent, Outcome};
+use chip_properties::Kind;
+use chip_trace::push_decimal;
+use std::alloc::{AllocError, Global};
+
+/// What a search says of a property of this kind.
+#[derive(Clone, Copy)]
+pub(crate) struct Answer<'a> {
+    pub(crate) kind: Kind,
+    pub(crate) outcome: &'a Outcome,
+    /// It says so whenever the timers tick, and that is asked for.
+    pub(crate) is_at_any_speed: bool,
+}
+
+/// Where a property stands: the name of the source, its line's number, and its text.
+#[derive(Clone, Copy)]
+pub(crate) struct Place<'a> {
+    pub(crate) name: &'a [u8],
+    pub(crate) line: usize,
+    pub(crate) text: &'a [u8],
+}
+
+impl Answer<'_> {
+    /// Adds what is printed of the answer: a line, or a JSON object.
+    pub(crate) fn push(
+        &self,
+        alloc: Global,
+        text: &mut Vec<u8>,
+        is_json: bool,
+        place: &Place<'_>,
+    ) -> Result<(), AllocError>
+        ensures { OnOk result (text.new.items ≡ text.old.items ++ answer_text is_json
+            place.now.name.now place.now.line place.now.text.now self.now.kind
+            self.now.is_at_any_speed self.now.outcome.now) }
+    {
+        if is_json {
+            self.push_object(alloc, text, place)
+        } else {
+            self.push_line(text, place)
+        }
+    }
+
+    fn push_line(&self, text: &mut Vec<u8>, place: &Place<'_>) -> Result<(), AllocError>
+        ensures { OnOk result (text.new.items ≡ text.old.items ++ answer_line place.now.name.now
+            place.now.line place.now.text.now
+            (answer_words self.now.kind self.now.is_at_any_speed self.now.outcome.now)) }
+    {
+        text.extend_from_slice(place.name)?;
+        text.extend_from_slice(b":")?;
+        push_decimal(text, place.line as u64)?;
+        text.extend_from_slice(b": ")?;
+        self.push_words(text)?;
+        text.extend_from_slice(b": ")?;
+        text.extend_from_slice(place.text)?;
+        text.extend_from_slice(b"\n")
+    }
+
+    fn push_object(
+        &self,
+        alloc: Global,
+        text: &mut Vec<u8>,
+        place: &Place<'_>,
+    ) -> Result<(), AllocError>
+        ensures { OnOk result (text.new.items ≡ text.old.items ++ answer_object place.now.name.now
+            place.now.line place.now.text.now self.now.kind self.now.is_at_any_speed
+            self.now.outcome.now) }
+    {
+        text.extend_from_slice(b"{\"line\":")?;
+        push_decimal(text, place.line as u64)?;
+        text.extend_from_slice(b",\"property\":")?;
+        push_quoted(alloc, text, place.text)?;
+        text.extend_from_slice(b",\"answer\":\"")?;
+        self.push_word(text)?;
+        text.extend_from_slice(b"\"")?;
+        push_members(text, self.outcome)?;
+        text.extend_from_slice(b",\"file\":")?;
+        push_quoted(alloc, text, place.name)?;
+        text.extend_from_slice(b"}\n")
+    }
+
+    /// Adds what was found, in words.
+    fn push_words(&self, text: &mut Vec<u8>) -> Result<(), AllocError>
+        ensures { OnOk result (text.new.items ≡ text.old.items
+            ++ answer_words self.now.kind self.now.is_at_any_speed self.now.outcome.now) }
+    {
+        if self.is_at_any_speed {
+            return push_never(text, self.kind, true);
+        }
+        match self.outcome {
+            Outcome::Found { step, .. } => push_met(text, self.kind, *step),
+            Outcome::Later { step, covered, .. } => {
+                push_met(text, self.kind, *step)?;
+                text.extend_from_slice(b", ")?;
+                push_unmet(text, self.kind, *covered)
+            }
+            Outcome::Within(step) => push_unmet(text, self.kind, *step),
+            Outcome::Never => push_never(text, self.kind, false),
+        }
+    }
+
+    /// Adds what was found, without its steps.
+    fn push_word(&self, text: &mut Vec<u8>) -> Result<(), AllocError>
+        ensures { OnOk result (text.new.items ≡ text.old.items
+            ++ answer_word self.now.kind self.now.is_at_any_speed self.now.outcome.now) }
+    {
+        if self.is_at_any_speed {
+            return push_never(text, self.kind, true);
+        }
+        match self.outcome {
+            Outcome::Found { .. } | Outcome::Later { .. } => {
+                text.extend_from_slice(met_words(self.kind))
+            }
+            Outcome::Within(_) => text.extend_from_slice(unmet_words(self.kind)),
+            Outcome::Never => push_never(text, self.kind, false),
+        }
+    }
+}
+
+/// Whether a property is broken, or an `ever` isn't reached.
+pub(crate) fn is_bad(kind: Kind, outcome: &Outcome) -> bool
+    ensures { result ≡ is_bad kind outcome.now }
+{
+    match (kind, outcome) {
+        (Kind::Ever, Outcome::Found { .. } | Outcome::Later { .. }) => false,
+        (Kind::Ever, Outcome::Within(_) | Outcome::Never) => true,
+        (_, Outcome::Found { .. } | Outcome::Later { .. }) => true,
+        (_, Outcome::Within(_) | Outcome::Never) => false,
+    }
+}
+
+/// The words for a property that a script breaks or reaches.
+fn met_words(kind: Kind) -> &'static [u8]
+    ensures { result.now ≡ met_words kind }
+{
+    match kind {
+        Kind::Ever => b"reached",
+        Kind::Always | Kind::Never | Kind::Can => b"broken",
+    }
+}
+
+/// The words for one that no script does up to a step.
+fn unmet_words(kind: Kind) -> &'static [u8]
+    ensures { result.now ≡ unmet_words kind }
+{
+    match kind {
+        Kind::Ever => b"not reached",
+        Kind::Always | Kind::Never | Kind::Can => b"unbroken",
+    }
+}
+
+fn push_met(text: &mut Vec<u8>, kind: Kind, step: u32) -> Result<(), AllocError>
+    ensures { OnOk result (text.new.items ≡ text.old.items ++ met_at kind step) }
+{
+    text.extend_from_slice(met_words(kind))?;
+    text.extend_from_slice(b" at step ")?;
+    push_decimal(text, u64::from(step))
+}
+
+fn push_unmet(text: &mut Vec<u8>, kind: Kind, step: u64) -> Result<(), AllocError>
+    ensures { OnOk result (text.new.items ≡ text.old.items ++ unmet_up_to kind step) }
+{
+    text.extend_from_slice(unmet_words(kind))?;
+    text.extend_from_slice(b" up to step ")?;
+    push_decimal(text, step)
+}
+
+fn push_never(text: &mut Vec<u8>, kind: Kind, is_at_any_speed: bool) -> Result<(), AllocError>
+    ensures { OnOk result (text.new.items ≡ text.old.items ++ never_words kind is_at_any_speed) }
+{
+    let speed: &[u8] = if is_at_any_speed {
+        b" at any speed"
+    } else {
+        b""
+    };
+    text.extend_from_slice(b"never ")?;
+    text.extend_from_slice(met_words(kind))?;
+    text.extend_from_slice(speed)
+}
+
+/// Adds the members of an object for the steps and the key events of what was found.
+fn push_members(text: &mut Vec<u8>, outcome: &Outcome) -> Result<(), AllocError>
+    ensures { OnOk result (text.new.items ≡ text.old.items ++ answer_members outcome.now) }
+{
+    match outcome {
+        Outcome::Found { events, step, .. } => {
+            push_member(text, b",\"step\":", u64::from(*step))?;
+            push_key_events(text, events)
+        }
+        Outcome::Later {
+            events,
+            step,
+            covered,
+            ..
+        } => {
+            push_member(text, b",\"step\":", u64::from(*step))?;
+            push_member(text, b",\"covered\":", *covered)?;
+            push_key_events(text, events)
+        }
+        Outcome::Within(covered) => push_member(text, b",\"covered\":", *covered),
+        Outcome::Never => Ok(()),
+    }
+}
+
+fn push_member(text: &mut Vec<u8>, name: &[u8], number: u64) -> Result<(), AllocError>
+    ensures { OnOk result (text.new.items ≡ text.old.items ++ name.now ++ decimal number) }
+{
+    text.extend_from_slice(name)?;
+    push_decimal(text, number)
+}
+
+fn push_key_events(text: &mut Vec<u8>, events: &[KeyEvent]) -> Result<(), AllocError>
+    ensures { OnOk result (text.new.items ≡ text.old.items ++ key_events events.now) }
+{
+    text.extend_from_slice(b",\"keys\":[")?;
+    if let Some((first, others)) = events.split_first() {
+        push_key_event(text, first)?;
+        push_further_events(text, others)?;
+    }
+    text.extend_from_slice(b"]")
+}
+
+fn push_further_events(text: &mut Vec<u8>, events: &[KeyEvent]) -> Result<(), AllocError>
+    ensures { OnOk result (text.new.items ≡ text.old.items ++ flat_map further_event events.now) }
+{
+    for event in events {
+        push_further_event(text, event)?;
+    }
+    Ok(())
+}
+
+fn push_further_event(text: &mut Vec<u8>, event: &KeyEvent) -> Result<(), AllocError>
+    ensures { OnOk result (text.new.items ≡ text.old.items ++ further_event event.now) }
+{
+    text.extend_from_slice(b",")?;
+    push_key_event(text, event)
+}
+
+fn push_key_event(text: &mut Vec<u8>, event: &KeyEvent) -> Result<(), AllocError>
+    ensures { OnOk result (text.new.items ≡ text.old.items ++ key_event event.now) }
+{
+    let down: &[u8] = if event.down { b"true" } else { b"false" };
+    push_member(text, b"{\"step\":", u64::from(event.step))?;
+    push_member(text, b",\"key\":", u64::from(event.key))?;
+    text.extend_from_slice(b",\"down\":")?;
+    text.extend_from_slice(down)?;
+    text.extend_from_slice(b"}")
+}

@@ -1,0 +1,57 @@
+//! What is printed of a property that can't be read.
+
+ghost use Rattle.std.specs.Prelude.{◌≤◌, IfOk, length};
+
+use crate::finding::Finding;
+use crate::hint::push_help;
+use crate::printing::{Form, Style, push_finding};
+use chip_lang::Span;
+use chip_properties::PropertyFault;
+use std::alloc::{AllocError, Global};
+
+/// Adds what `check` prints of a property of this line that can't be read, in a file of this name:
+/// text, or a JSON object. A property that stands in no line has the number 1, and a place past the
+/// line's end is there.
+///
+/// # Errors
+///
+/// Out of memory.
+pub fn push_property_fault(
+    alloc: Global,
+    text: &mut Vec<u8>,
+    is_json: bool,
+    name: &[u8],
+    line: &[u8],
+    fault: &PropertyFault,
+) -> Result<(), AllocError> {
+    let form = if is_json {
+        Form::Json
+    } else {
+        Form::Text { is_painted: false }
+    };
+    let finding = Finding::of_property(alloc, line, fault)?;
+    let number = fault.line.max(1);
+    push_finding(alloc, text, Style { form, name }, number, line, &finding)
+}
+
+impl Finding {
+    /// What is said of a property that can't be read.
+    fn of_property(alloc: Global, line: &[u8], fault: &PropertyFault) -> Result<Finding, AllocError>
+        ensures rises { IfOk result (λ finding. finding.span.start ≤ finding.span.end) }
+        ensures inside { IfOk result (λ finding. finding.span.end ≤ length line.now) }
+    {
+        let end = fault.span.end.min(line.len());
+        let start = fault.span.start.min(end);
+        let mut hints = Vec::new(alloc);
+        if !fault.help.is_empty() {
+            push_help(alloc, &mut hints, &[&fault.help])?;
+        }
+        let number = fault.code.number();
+        Ok(Finding {
+            span: Span { start, end },
+            code: format!(in alloc; "P{number}")?.into_bytes(),
+            sentence: Vec::from_slice(alloc, fault.code.sentence())?,
+            hints,
+        })
+    }
+}

@@ -1,0 +1,90 @@
+-- The quirks by the names that users give them (own).
+--     choice_named     the choice of a name
+--     with_choice      quirks with one choice more, whose quirk was not chosen before
+--     parts_of         the parts of a text between its commas
+--     with_choices     quirks but for the choices of a list
+--     quirks_asked     the quirks of a profile but for those choices, where one or both are given
+use Rattle.std.specs.Prelude.{ℕ, ◌/◌, ◌%◌, ◌^◌, ◌==◌, List, [], ◌∷◌, fold, map, bit_or, Option, Some, None, option_and_then, option_map, if◌then◌else◌}
+use Rattle.std.specs.Str.{bytes_eq}
+use Rattle.chip_machine.specs.Profile.{profile_asked, quirks}
+use Rattle.chip_machine.specs.declared.quirks.Choice.{Choice}
+use Rattle.chip_machine.specs.declared.quirks.Choice.TheVariants as choice
+use Rattle.chip_machine.specs.declared.quirks.Chosen.{Chosen}
+use Rattle.chip_machine.specs.declared.quirks.Quirks.{Quirks}
+use Rattle.chip_machine.specs.declared.quirks.TheConstants.{CHOICES}
+
+-- the first of some choices that has a name
+abbrev pub first_named : List ℕ → List (List ℕ × Choice) → Option Choice
+first_named name [] = None
+first_named name (c ∷ more) = if bytes_eq c.0 name then Some c.1 else first_named name more
+
+abbrev pub choice_named : List ℕ → Option Choice
+choice_named name = first_named name (map (λ c. (c.0.now, c.1)) CHOICES)
+
+-- the number of a choice's quirk
+abbrev pub number_of : Choice → ℕ
+number_of (choice.ShiftsSecond value) = 0
+number_of (choice.IndexMove value) = 1
+number_of (choice.JumpsByFirst value) = 2
+number_of (choice.ClearsFlag value) = 3
+number_of (choice.Wraps value) = 4
+number_of (choice.LowSixteen value) = 5
+number_of (choice.ScrollsWhole value) = 6
+number_of (choice.ClearsAtSize value) = 7
+number_of (choice.FlagsOverflow value) = 8
+number_of (choice.HasSuperInstructions value) = 9
+
+-- quirks with a choice
+abbrev pub with_quirk : Choice → Quirks → Quirks
+with_quirk (choice.ShiftsSecond value) q = record q { shifts_second = value }
+with_quirk (choice.IndexMove value) q = record q { index_move = value }
+with_quirk (choice.JumpsByFirst value) q = record q { jumps_by_first = value }
+with_quirk (choice.ClearsFlag value) q = record q { clears_flag = value }
+with_quirk (choice.Wraps value) q = record q { wraps = value }
+with_quirk (choice.LowSixteen value) q = record q { low_sixteen = value }
+with_quirk (choice.ScrollsWhole value) q = record q { scrolls_whole = value }
+with_quirk (choice.ClearsAtSize value) q = record q { clears_at_size = value }
+with_quirk (choice.FlagsOverflow value) q = record q { flags_overflow = value }
+with_quirk (choice.HasSuperInstructions value) q = record q { has_super_instructions = value }
+
+-- no quirk is chosen twice
+abbrev pub with_choice : Option Chosen → Option Choice → Option Chosen
+with_choice None c = None
+with_choice (Some chosen) None = None
+with_choice (Some chosen) (Some c) =
+    if chosen.taken / 2 ^ number_of c % 2 == 1 then None
+    else Some (record {
+      quirks = with_quirk c chosen.quirks;
+      taken = bit_or chosen.taken (2 ^ number_of c);
+    })
+
+abbrev pub comma : ℕ
+comma = 44
+
+-- the parts of a text between its commas
+abbrev pub with_byte : ℕ → List (List ℕ) → List (List ℕ)
+with_byte byte [] = []
+with_byte byte (part ∷ parts) = (byte ∷ part) ∷ parts
+
+abbrev pub parts_of : List ℕ → List (List ℕ)
+parts_of [] = [] ∷ []
+parts_of (byte ∷ text) =
+    if byte == comma then [] ∷ parts_of text else with_byte byte (parts_of text)
+
+-- quirks with the choices of some names, one after another
+abbrev pub chosen_by : Option Chosen → List (List ℕ) → Option Chosen
+chosen_by chosen names = fold (λ chosen name. with_choice chosen (choice_named name)) chosen names
+
+-- none where a name is no choice, or a quirk is chosen twice
+abbrev pub with_choices : List ℕ → Quirks → Option Quirks
+with_choices list q =
+    option_map (λ c. c.quirks)
+    (chosen_by (Some (record { quirks = q; taken = 0 })) (parts_of list))
+
+-- the quirks that a user asks for: those of a profile, but for the choices of a list
+abbrev pub choices_asked : Option (List ℕ) → Quirks → Option Quirks
+choices_asked None q = Some q
+choices_asked (Some list) q = with_choices list q
+
+abbrev pub quirks_asked : (name list : Option (List ℕ)) → Option Quirks
+quirks_asked name list = option_and_then (λ p. choices_asked list (quirks p)) (profile_asked name)

@@ -1,0 +1,316 @@
+//! The points in which one machine differs from another.
+
+ghost use Rattle.std.specs.Prelude.{◌≡◌, ◌<◌, IsTrue, map, option_copied};
+ghost use Rattle.chip_machine.specs.QuirkList.{choice_named, choices_asked, first_named, number_of, with_choice, with_choices, with_quirk};
+ghost use Rattle.chip_machine.specs.inner.FirstPart.{IsFirstPart};
+
+use memchr::memchr;
+
+/// Where `FX55` and `FX65` leave I.
+#[derive(Clone, Copy, PartialEq, Eq)]
+pub enum IndexMove {
+    /// Where it was.
+    Stays,
+    /// At the byte of the last register, I + x.
+    AtLast,
+    /// Behind that byte, at I + x + 1.
+    PastLast,
+}
+
+/// What `DXY0` draws in the low size.
+#[derive(Clone, Copy, PartialEq, Eq)]
+pub enum LowSixteen {
+    /// Nothing.
+    Nothing,
+    /// Sixteen rows of 8 pixels.
+    Narrow,
+    /// Sixteen rows of 16 pixels.
+    Wide,
+}
+
+/// The points in which one machine differs from another. Each chooses between effects of the
+/// instructions that it names.
+#[derive(Clone, Copy, PartialEq, Eq)]
+pub struct Quirks {
+    /// `8XY6` and `8XYE` shift Vy into Vx, and not Vx itself.
+    pub shifts_second: bool,
+    /// `FX55` and `FX65` leave I where it was, at I + x, or at I + x + 1.
+    pub index_move: IndexMove,
+    /// `BNNN` adds V0, and not the register of the address's top digit.
+    pub jumps_by_first: bool,
+    /// `8XY1`, `8XY2` and `8XY3` end with VF 0, and don't leave it as it was.
+    pub clears_flag: bool,
+    /// `DXYN` draws what is past an edge at the other side, and doesn't leave it out.
+    pub wraps: bool,
+    /// `DXY0` in the low size draws nothing, sixteen rows of 8 pixels, or of 16.
+    pub low_sixteen: LowSixteen,
+    /// `00CN`, `00FB` and `00FC` in the low size move by pixels of that size, and not by stored
+    /// ones.
+    pub scrolls_whole: bool,
+    /// `00FE` and `00FF` make all pixels dark, and don't leave them as they were.
+    pub clears_at_size: bool,
+    /// `FX1E` sets VF to 1 where I + Vx is above `0FFF` and else to 0, and doesn't leave it as it
+    /// was.
+    pub flags_overflow: bool,
+    /// `00CN`, `00FB` to `00FF`, `FX30`, `FX75` and `FX85` are instructions, as on a SUPER-CHIP.
+    pub has_super_instructions: bool,
+}
+
+/// A choice of one quirk.
+#[derive(Clone, Copy, PartialEq, Eq)]
+pub enum Choice {
+    ShiftsSecond(bool),
+    IndexMove(IndexMove),
+    JumpsByFirst(bool),
+    ClearsFlag(bool),
+    Wraps(bool),
+    LowSixteen(LowSixteen),
+    ScrollsWhole(bool),
+    ClearsAtSize(bool),
+    FlagsOverflow(bool),
+    HasSuperInstructions(bool),
+}
+
+/// The choices by the names that users give them.
+pub const CHOICES: [(&str, Choice); 22] = [
+    ("shift=vx", Choice::ShiftsSecond(false)),
+    ("shift=vy", Choice::ShiftsSecond(true)),
+    ("memory=keep", Choice::IndexMove(IndexMove::Stays)),
+    ("memory=x", Choice::IndexMove(IndexMove::AtLast)),
+    ("memory=x+1", Choice::IndexMove(IndexMove::PastLast)),
+    ("jump=vx", Choice::JumpsByFirst(false)),
+    ("jump=v0", Choice::JumpsByFirst(true)),
+    ("logic=keep", Choice::ClearsFlag(false)),
+    ("logic=clear", Choice::ClearsFlag(true)),
+    ("edges=clip", Choice::Wraps(false)),
+    ("edges=wrap", Choice::Wraps(true)),
+    ("dxy0=none", Choice::LowSixteen(LowSixteen::Nothing)),
+    ("dxy0=8x16", Choice::LowSixteen(LowSixteen::Narrow)),
+    ("dxy0=16x16", Choice::LowSixteen(LowSixteen::Wide)),
+    ("scroll=stored", Choice::ScrollsWhole(false)),
+    ("scroll=whole", Choice::ScrollsWhole(true)),
+    ("size=keep", Choice::ClearsAtSize(false)),
+    ("size=clear", Choice::ClearsAtSize(true)),
+    ("fx1e=keep", Choice::FlagsOverflow(false)),
+    ("fx1e=flag", Choice::FlagsOverflow(true)),
+    ("instructions=super", Choice::HasSuperInstructions(true)),
+    ("instructions=base", Choice::HasSuperInstructions(false)),
+];
+
+/// The quirks, each with its values, as texts for users show them.
+pub const QUIRKS: [&str; 10] = [
+    "shift=vx|vy",
+    "memory=keep|x|x+1",
+    "jump=vx|v0",
+    "logic=keep|clear",
+    "edges=clip|wrap",
+    "dxy0=none|8x16|16x16",
+    "scroll=stored|whole",
+    "size=keep|clear",
+    "fx1e=keep|flag",
+    "instructions=super|base",
+];
+
+/// Quirks, and which of them were chosen, quirk k at bit k.
+#[derive(Clone, Copy)]
+pub struct Chosen {
+    pub quirks: Quirks,
+    pub taken: u16,
+}
+
+impl Choice {
+    /// The choice of a name, such as `shift=vy`, and `None` for another text.
+    fn from_name(name: &[u8]) -> Option<Choice>
+        ensures { result ≡ choice_named name.now }
+    {
+        first_named(&CHOICES, name)
+    }
+
+    /// The number of the quirk, 0 to 9.
+    fn number(self) -> u32
+        ensures value { result ≡ number_of self }
+        ensures few { result < 10 }
+    {
+        match self {
+            Choice::ShiftsSecond(_) => 0,
+            Choice::IndexMove(_) => 1,
+            Choice::JumpsByFirst(_) => 2,
+            Choice::ClearsFlag(_) => 3,
+            Choice::Wraps(_) => 4,
+            Choice::LowSixteen(_) => 5,
+            Choice::ScrollsWhole(_) => 6,
+            Choice::ClearsAtSize(_) => 7,
+            Choice::FlagsOverflow(_) => 8,
+            Choice::HasSuperInstructions(_) => 9,
+        }
+    }
+
+    /// Quirks with this choice.
+    fn put_in(self, quirks: Quirks) -> Quirks
+        ensures { result ≡ with_quirk self quirks }
+    {
+        match self {
+            Choice::ShiftsSecond(shifts_second) => Quirks {
+                shifts_second,
+                ..quirks
+            },
+            Choice::IndexMove(index_move) => Quirks {
+                index_move,
+                ..quirks
+            },
+            Choice::JumpsByFirst(jumps_by_first) => Quirks {
+                jumps_by_first,
+                ..quirks
+            },
+            Choice::ClearsFlag(clears_flag) => Quirks {
+                clears_flag,
+                ..quirks
+            },
+            Choice::Wraps(wraps) => Quirks { wraps, ..quirks },
+            Choice::LowSixteen(low_sixteen) => Quirks {
+                low_sixteen,
+                ..quirks
+            },
+            Choice::ScrollsWhole(scrolls_whole) => Quirks {
+                scrolls_whole,
+                ..quirks
+            },
+            Choice::ClearsAtSize(clears_at_size) => Quirks {
+                clears_at_size,
+                ..quirks
+            },
+            Choice::FlagsOverflow(flags_overflow) => Quirks {
+                flags_overflow,
+                ..quirks
+            },
+            Choice::HasSuperInstructions(has_super_instructions) => Quirks {
+                has_super_instructions,
+                ..quirks
+            },
+        }
+    }
+}
+
+impl Quirks {
+    /// Those of the profile `schip`.
+    pub const SCHIP: Quirks = Quirks {
+        shifts_second: false,
+        index_move: IndexMove::Stays,
+        jumps_by_first: false,
+        clears_flag: false,
+        wraps: false,
+        low_sixteen: LowSixteen::Narrow,
+        scrolls_whole: false,
+        clears_at_size: false,
+        flags_overflow: false,
+        has_super_instructions: true,
+    };
+
+    /// Whether others are the same: true only where they are.
+    pub(crate) fn is_same(self, other: Quirks) -> bool
+        ensures { IsTrue result → self ≡ other }
+    {
+        if self.shifts_second != other.shifts_second {
+            return false;
+        }
+        if self.index_move != other.index_move {
+            return false;
+        }
+        if self.jumps_by_first != other.jumps_by_first {
+            return false;
+        }
+        if self.clears_flag != other.clears_flag {
+            return false;
+        }
+        if self.wraps != other.wraps {
+            return false;
+        }
+        if self.low_sixteen != other.low_sixteen {
+            return false;
+        }
+        if self.scrolls_whole != other.scrolls_whole {
+            return false;
+        }
+        if self.clears_at_size != other.clears_at_size {
+            return false;
+        }
+        if self.flags_overflow != other.flags_overflow {
+            return false;
+        }
+        if self.has_super_instructions != other.has_super_instructions {
+            return false;
+        }
+        true
+    }
+
+    /// These quirks but for the choices of a list, if one is given. `None` where the list isn't one.
+    pub fn asked(self, list: Option<&str>) -> Option<Quirks>
+        ensures { result ≡ choices_asked (option_copied list.entry) self }
+    {
+        match list {
+            Some(list) => self.with_choices(list),
+            None => Some(self),
+        }
+    }
+
+    /// These quirks but for the choices of a list, which has commas between them. `None` where a
+    /// text between two commas is no choice, or a quirk stands there twice.
+    pub fn with_choices(self, list: &str) -> Option<Quirks>
+        ensures { result ≡ with_choices list.now self }
+    {
+        let mut chosen = Some(Chosen {
+            quirks: self,
+            taken: 0,
+        });
+        let mut rest = list.as_bytes();
+        loop {
+            let (part, more) = first_part(rest);
+            chosen = with_choice(chosen, Choice::from_name(part));
+            match more {
+                Some(next) => rest = next,
+                None => {
+                    return match chosen {
+                        Some(chosen) => Some(chosen.quirks),
+                        None => None,
+                    };
+                }
+            }
+        }
+    }
+}
+
+/// The first of some choices that has a name.
+fn first_named(choices: &[(&str, Choice)], name: &[u8]) -> Option<Choice>
+    ensures { result ≡ first_named name.now (map (λ c. (c.0.now, c.1)) choices.now) }
+{
+    for i in 0..choices.len() {
+        let choice = &choices[i];
+        if choice.0.as_bytes() == name {
+            return Some(choice.1);
+        }
+    }
+    None
+}
+
+/// The part before the first comma, and what follows the comma.
+fn first_part(text: &[u8]) -> (&[u8], Option<&[u8]>)
+    ensures { IsFirstPart text.now result.0.now (option_copied result.1) }
+{
+    match memchr(b',', text) {
+        Some(place) => (&text[..place], Some(&text[place + 1..])),
+        None => (text, None),
+    }
+}
+
+/// Quirks with one choice more, where there is one, and its quirk wasn't chosen before.
+fn with_choice(chosen: Option<Chosen>, choice: Option<Choice>) -> Option<Chosen>
+    ensures { result ≡ with_choice chosen choice }
+{
+    match (chosen, choice) {
+        (Some(chosen), Some(choice)) if chosen.taken >> choice.number() & 1 != 1 => Some(Chosen {
+            quirks: choice.put_in(chosen.quirks),
+            taken: chosen.taken | 1 << choice.number(),
+        }),
+        _ => None,
+    }
+}

@@ -1,0 +1,13 @@
+-- Lemmas.
+--     Ends      tokens that end with a sign; bytes without the blanks at the end
+--     Pieces    tokens between separators
+--     Loops     a sum and a condition, piece by piece
+--     Sound, SoundSums, SoundProperties     what is found is what the grammar says
+--     Told      what is read line by line
+mod Ends
+mod Loops
+mod Pieces
+mod Sound
+mod SoundProperties
+mod SoundSums
+mod Told

@@ -1,0 +1,13 @@
+use Rattle.chip_lang.specs.Line.{lexemes_of}
+use Rattle.chip_asm.specs.Names.{values_of}
+use Rattle.chip_asm.specs.Program.{symbols_of}
+use Rattle.chip_properties.proofs.SoundProperties.{kind_kept, text_states}
+use Rattle.chip_properties.proofs.properties.property_of_text.Goals as goal
+
+pub returns-clause-kind : goal.returns-clause-kind
+returns-clause-kind c =
+    kind_kept (values_of (symbols_of c.args.source.now.lines)) c.args.kind (lexemes_of c.args.text.now) c.read.result c.read.ensures.stated
+
+pub returns-clause-stated : goal.returns-clause-stated
+returns-clause-stated c =
+    text_states (values_of (symbols_of c.args.source.now.lines)) c.args.kind (lexemes_of c.args.text.now) c.read.result c.read.ensures.stated

@@ -1,0 +1,12 @@
+use Rattle.chip_properties.proofs.Told.{answered, refused}
+use Rattle.chip_properties.proofs.properties.property_on.Goals as goal
+
+pub returns-then-has_room : goal.returns-then-has_room
+returns-then-has_room c =
+    answered c.args.source.now.lines c.args.number c.args.start c.args.line.now c.read.result c.address.result c.text.result.now
+    c.requires.there c.requires.begins c.address.ensures.value c.text.ensures c.read.ensures.stated c.read.ensures.stands
+
+pub returns : goal.returns
+returns c =
+    refused c.args.source.now.lines c.args.number c.args.start c.args.line.now c.in_ok-fault.fault c.requires.there c.requires.begins
+    (rw c.text-2.ensures at c.in_ok-fault.ensures)

@@ -1,0 +1,19 @@
+-- The language of `;!` lines.
+-- Source: own.
+--     Words           the words of the language
+--     SeenProperty    properties without where their parts lie in memory
+--     Language        which tokens are a property, and what it states
+--     Lines           which lines state properties
+--     Properties      the properties of a source
+--     Faults          the numbers of faults
+--     computed        the property that tokens are, found step by step; a law says that it is that of
+--                     Language
+--     inner           what the functions inside say; no public clause cites it
+pub mod Faults
+pub mod Language
+pub mod Lines
+pub mod Properties
+pub mod SeenProperty
+pub mod Words
+pub mod computed
+pub mod inner

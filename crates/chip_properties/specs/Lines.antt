@@ -1,0 +1,79 @@
+-- Which lines state properties (own).
+use Rattle.std.specs.Prelude.{◌≡◌, ◌≤◌, ℕ, true, length, ◌+◌, ◌==◌, ◌&&◌, if◌then◌else◌, List, [], ◌∷◌, Option, Some, None, drop, filter_map, option_map, reverse}
+use Rattle.std.specs.List.{prefix_len}
+use Rattle.chip_lang.specs.Token.{is_blank}
+use Rattle.chip_lang.specs.Line.{lexemes_of}
+use Rattle.chip_asm.specs.LineViews.{LineFacts, line_at}
+use Rattle.chip_asm.specs.Names.{values_of}
+use Rattle.chip_asm.specs.Program.{symbols_of}
+use Rattle.chip_properties.specs.declared.fault.PropertyFault.{PropertyFault}
+use Rattle.chip_properties.specs.declared.stated.Stated.{Stated}
+use Rattle.chip_properties.specs.Language.{IsStated}
+use Rattle.chip_properties.specs.SeenProperty.{seen_property}
+use Rattle.chip_lang.specs.declared.lexeme.Lexeme.{Lexeme}
+use Rattle.chip_lang.specs.declared.lexeme.Lexeme.TheVariants.{Word}
+
+-- bytes without the blanks in front
+abbrev pub without_blanks : List ℕ → List ℕ
+without_blanks bytes = drop (prefix_len is_blank bytes) bytes
+
+-- without those at both ends
+abbrev pub trimmed : List ℕ → List ℕ
+trimmed bytes = reverse (without_blanks (reverse (without_blanks bytes)))
+
+-- where what stands after `;!` begins, if that is what stands after so many blanks
+abbrev pub after_mark : ℕ → List ℕ → Option ℕ
+after_mark blanks [] = None
+after_mark blanks (a ∷ []) = None
+after_mark blanks (a ∷ b ∷ bytes) = if a == 59 && b == 33 then Some (blanks + 2) else None
+
+-- where the text of a property begins in its line, after `;!`; none where the first bytes but blanks
+-- aren't that
+abbrev pub mark_end : List ℕ → Option ℕ
+mark_end line = after_mark (prefix_len is_blank line) (without_blanks line)
+
+-- the text of a property, without blanks at both ends
+abbrev pub property_text_of : List ℕ → Option (List ℕ)
+property_text_of line = option_map (λ end. trimmed (drop end line)) (mark_end line)
+
+abbrev pub word_of : Lexeme → Option (List ℕ)
+word_of (Word w) = Some w
+word_of t = None
+
+abbrev pub words_after : List ℕ → Option ℕ → List (List ℕ)
+words_after line None = []
+words_after line (Some end) = filter_map word_of (lexemes_of (drop end line))
+
+-- the words of a property, by its line
+abbrev pub words_in : List ℕ → List (List ℕ)
+words_in line = words_after line (mark_end line)
+
+-- where the property of an active line begins in its text
+abbrev pub property_start : LineFacts → Option ℕ
+property_start f = if f.active then mark_end f.text else None
+
+-- a line of a source states a property, which begins at a place of its text
+pub record States (lines : List (List ℕ)) (number start : ℕ) (f : LineFacts) : Type 0 where
+  pub there : line_at lines number ≡ Some f
+  pub begins : property_start f ≡ Some start
+
+-- what is stated on a line of a source, by the names that have values there
+pub record IsStatedOn (lines : List (List ℕ)) (s : Stated) : Type 0 where
+  pub start : ℕ
+  pub facts : LineFacts
+  pub on : States lines s.line start facts
+  pub states : IsStated (values_of (symbols_of lines)) (Some facts.address)
+      (lexemes_of (drop start facts.text)) s.kind (seen_property s.property)
+
+-- a fault stands at bytes of a line of a number
+pub record StandsAt (number : ℕ) (line : List ℕ) (fault : PropertyFault) : Type 0 where
+  pub there : fault.line ≡ number
+  pub rises : fault.span.start ≤ fault.span.end
+  pub inside : fault.span.end ≤ length line
+
+-- a fault stands on a line of a source that states a property
+pub record StandsOn (lines : List (List ℕ)) (fault : PropertyFault) : Type 0 where
+  pub start : ℕ
+  pub facts : LineFacts
+  pub on : States lines fault.line start facts
+  pub at : StandsAt fault.line facts.text fault

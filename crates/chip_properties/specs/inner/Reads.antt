@@ -1,0 +1,21 @@
+-- What is read of tokens (own).
+use Rattle.std.specs.Prelude.{◌≡◌, ◌⊎◌, Option, Some, None, Result, Ok, Err}
+use Rattle.chip_lang.specs.Value.{Symbols}
+use Rattle.chip_asm.specs.Names.{values_of}
+use Rattle.chip_asm.specs.Program.{symbols_of}
+use Rattle.chip_properties.specs.declared.fault.Failure.{Failure}
+use Rattle.chip_properties.specs.declared.fault.Failure.TheVariants.{OutOfMemory}
+use Rattle.chip_properties.specs.declared.reader.Reader.{Reader}
+
+-- the names that have values
+abbrev pub symbols_read : Reader → Symbols
+symbols_read reader = values_of (symbols_of reader.source.now.lines)
+
+-- what was read is what was expected, as it is seen without where it lies; where something is wrong
+-- with the tokens, nothing was
+abbrev pub IsReadAs : {A B : Type 0} → (A → B) → Option B → Result A Failure → Type 0
+IsReadAs seen expected (Ok x) = expected ≡ Some (seen x)
+IsReadAs seen expected (Err e) = (e ≡ OutOfMemory) ⊎ (expected ≡ None)
+
+abbrev pub IsRead : {A : Type 0} → Option A → Result A Failure → Type 0
+IsRead expected result = IsReadAs (λ x. x) expected result

@@ -1,0 +1,263 @@
+//! Where a fault of a property is shown, and what helps.
+
+ghost use Rattle.std.specs.Prelude.{◌≤◌, IfOk, length};
+ghost use Rattle.chip_properties.specs.Lines.{StandsAt};
+
+use crate::fault::{FaultCode, Found, PropertyFault};
+use crate::limits::{MOST_COMPARISONS, MOST_PROPERTIES, MOST_TERMS};
+use crate::near::{fewest_edits, most_edits};
+use crate::reader::Reader;
+use crate::words::is_property_word;
+use chip_asm::Source;
+use chip_lang::limits::OPEN_PARENTHESES;
+use chip_lang::{Fault, Lexeme, Span, Token, is_sign_of, is_the, lexemes, tokens};
+use std::alloc::AllocError;
+
+/// A fault that was found in the property of a line, which begins at a place of its text.
+pub(crate) fn fault_found(
+    reader: &Reader<'_>,
+    number: usize,
+    line: &[u8],
+    start: usize,
+    found: Found,
+) -> Result<PropertyFault, AllocError>
+    requires { start ≤ length line.now }
+    ensures { IfOk result (λ fault. StandsAt number line.now fault) }
+{
+    let alloc = reader.alloc;
+    let text = &line[start..];
+    let parts = lexemes(alloc, text)?;
+    let found = narrowed(reader.source, &parts, found);
+    let span = span_of(&tokens(alloc, text)?, line, start, found);
+    let help = if line[span.start..span.end].starts_with(b"!") {
+        Vec::from_slice(alloc, b"write <> for unequal")?
+    } else {
+        help_for(reader, &parts, found)?
+    };
+    Ok(PropertyFault {
+        line: number,
+        code: found.code,
+        span,
+        help,
+    })
+}
+
+/// The bytes of a line at which some tokens stand, of those from a place on. Where there are none,
+/// it is the mark before them, and past the last one the place after that.
+fn span_of(tokens: &[Token], line: &[u8], start: usize, found: Found) -> Span
+    ensures rises { result.start ≤ result.end }
+    ensures inside { result.end ≤ length line.now }
+{
+    let (first, end) = match (tokens.get(found.first), tokens.last()) {
+        (Some(first), Some(last)) => match tokens.get(found.end.saturating_sub(1)) {
+            Some(token) => (first.start, token.end.max(first.end)),
+            None => (first.start, last.end),
+        },
+        (None, Some(last)) => (last.end, last.end),
+        (_, None) => (0, 0),
+    };
+    let first = match tokens.is_empty() {
+        true => start.saturating_sub(2),
+        false => start.saturating_add(first),
+    };
+    let end = start.saturating_add(end).min(line.len());
+    Span {
+        start: first.min(end),
+        end,
+    }
+}
+
+/// A fault at fewer tokens, or with another code, where that says more.
+fn narrowed(source: &Source, tokens: &[Lexeme], found: Found) -> Found {
+    match found.code {
+        FaultCode::NoComparison => match first_bad(tokens) {
+            Some(bad) => bad,
+            None => misplaced(tokens, found),
+        },
+        FaultCode::UndefinedName => undefined(source, tokens, found),
+        FaultCode::NothingStated => Found::at(found.code, 0),
+        FaultCode::NotAsked if !is_here(tokens, found) => Found::at(found.code, 0),
+        _ => found,
+    }
+}
+
+/// Whether a fault is at `here`.
+fn is_here(tokens: &[Lexeme], found: Found) -> bool {
+    match tokens.get(found.first) {
+        Some(token) => is_the(b"HERE", token),
+        None => false,
+    }
+}
+
+/// A fault at the first token that is none.
+fn first_bad(tokens: &[Lexeme]) -> Option<Found> {
+    for (index, token) in tokens.iter().enumerate() {
+        match token {
+            Lexeme::Bad(Fault::NumberTooLarge) => {
+                return Some(Found::at(FaultCode::OutOfRange, index));
+            }
+            Lexeme::Bad(_) => return Some(Found::at(FaultCode::NoComparison, index)),
+            _ => {}
+        }
+    }
+    None
+}
+
+/// A fault at the first of some tokens that can't be asked, or else at the one after a value, which
+/// can't stand there.
+fn misplaced(tokens: &[Lexeme], found: Found) -> Found {
+    for index in found.first..found.end.min(tokens.len()) {
+        if why_not_asked(&tokens[index]).is_some() {
+            return Found::at(FaultCode::NotAsked, index);
+        }
+    }
+    let second = found.first.saturating_add(1);
+    match (tokens.get(found.first), tokens.get(second)) {
+        (Some(Lexeme::Sign(b'(' | b'[')), _) => found,
+        (Some(Lexeme::Sign(_)), _) => Found::at(found.code, found.first),
+        (Some(_), Some(Lexeme::Sign(b'+' | b'*' | b'('))) => found,
+        (Some(_), Some(_)) if second < found.end => Found::at(found.code, second),
+        _ => found,
+    }
+}
+
+/// A fault at the first of some tokens that is a name without a value.
+fn undefined(source: &Source, tokens: &[Lexeme], found: Found) -> Found {
+    for index in found.first..found.end.min(tokens.len()) {
+        if let Lexeme::Word(word) = &tokens[index] {
+            if source.symbol(word.get()).is_none() {
+                let code = match word.get() == b"DRAWS".as_slice() {
+                    true => FaultCode::NotAsked,
+                    false => FaultCode::UndefinedName,
+                };
+                return Found::at(code, index);
+            }
+        }
+    }
+    found
+}
+
+/// Why a value can't be asked for, if a token is the word for it.
+fn why_not_asked(token: &Lexeme) -> Option<&'static [u8]> {
+    if is_the(b"ST", token) {
+        Some(b"states that differ in the sound alone are not told apart: ask DT or a register")
+    } else if is_the(b"K", token) {
+        Some(b"KEYS is 1 where the next instruction asks for a key")
+    } else if is_the(b"DRAWS", token) {
+        Some(b"how many random bytes were used is not kept: ask the register that RND sets")
+    } else {
+        None
+    }
+}
+
+/// Why a token stands for what can't be asked.
+fn why_not(token: &Lexeme) -> &'static [u8] {
+    if is_the(b"HERE", token) {
+        b"here is the address of a line of the source: write at, and a name or a number"
+    } else if is_the(b"CAN", token) {
+        b"can is not answered yet: ever asks whether a player comes there"
+    } else {
+        why_not_asked(token).unwrap_or(b"")
+    }
+}
+
+/// What helps with a fault, or nothing.
+fn help_for(reader: &Reader<'_>, tokens: &[Lexeme], found: Found) -> Result<Vec<u8>, AllocError> {
+    let alloc = reader.alloc;
+    let token = tokens.get(found.first);
+    let help: &[u8] = match (found.code, token) {
+        (FaultCode::NothingStated, _) =>
+            b"write a condition, as V0 <= 8, or a place, as never at BUG",
+        (FaultCode::NoComparison, Some(token)) => {
+            help_at(token, &tokens[..found.first.min(tokens.len())])
+        }
+        (FaultCode::UndefinedName, Some(Lexeme::Word(word))) => {
+            return near_help(reader, word.get());
+        }
+        (FaultCode::OutOfRange, _) => {
+            b"values go from 0 on, addresses to 4095, columns to 127, rows to 63"
+        }
+        (FaultCode::NotAsked, Some(token)) => why_not(token),
+        (FaultCode::TooMany, _) => {
+            let text = format!(in alloc;
+                "at most {MOST_COMPARISONS} comparisons, {MOST_TERMS} terms in a sum, \
+                {MOST_PROPERTIES} properties and {OPEN_PARENTHESES} open parentheses"
+            )?;
+            return Ok(text.into_bytes());
+        }
+        _ => b"",
+    };
+    Vec::from_slice(alloc, help)
+}
+
+/// What helps where a token can't stand after those before it, or nothing.
+fn help_at(token: &Lexeme, before: &[Lexeme]) -> &'static [u8] {
+    let follows = |sign: u8| match before.last() {
+        Some(last) => is_sign_of(sign, last),
+        None => false,
+    };
+    match token {
+        Lexeme::Sign(b'=') if follows(b'=') => b"write = for equal",
+        Lexeme::Sign(b'<') if follows(b'=') => b"write <=",
+        Lexeme::Sign(b'>') if follows(b'=') => b"write >=",
+        Lexeme::Sign(b'=' | b'<' | b'>') if has_relation(before) => {
+            b"write two comparisons, with and between them"
+        }
+        Lexeme::Sign(b'-') => b"put what is subtracted on the other side",
+        Lexeme::Sign(b'/' | b'&' | b'|' | b'^' | b'~' | b'\\' | b'*') => {
+            b"put a calculation with names and numbers into parentheses"
+        }
+        Lexeme::Number(_) if follows(b'*') => {
+            b"write the number before * and what is asked after it"
+        }
+        Lexeme::Word(word) => help_at_word(word.get(), before),
+        _ => b"",
+    }
+}
+
+/// Whether a relation is among tokens.
+fn has_relation(tokens: &[Lexeme]) -> bool {
+    tokens
+        .iter()
+        .any(|token| matches!(token, Lexeme::Sign(b'=' | b'<' | b'>')))
+}
+
+/// What helps where a word can't stand after the tokens before it, or nothing.
+fn help_at_word(word: &[u8], before: &[Lexeme]) -> &'static [u8] {
+    let follows_at = match before.last() {
+        Some(last) => is_the(b"AT", last),
+        None => false,
+    };
+    if word == b"AND".as_slice() || word == b"OR".as_slice() {
+        b"a condition has and alone, or or alone: write two properties"
+    } else if word == b"HERE".as_slice() && follows_at {
+        b"write here without at"
+    } else if word == b"HERE".as_slice() || word == b"AT".as_slice() {
+        b"write a comparison before the place, and an address after at"
+    } else if is_property_word(word) {
+        b"put a name that is spelled so into parentheses"
+    } else {
+        b""
+    }
+}
+
+/// The name of the source that a word comes nearest to, as help.
+fn near_help(reader: &Reader<'_>, word: &[u8]) -> Result<Vec<u8>, AllocError> {
+    let mut help = Vec::new(reader.alloc);
+    let mut most = most_edits(word);
+    for place in 0..reader.source.symbol_count() {
+        if let Some((name, _)) = reader.source.symbol_at(place) {
+            if let Some(edits) = fewest_edits(most, word, name) {
+                help.clear();
+                help.extend_from_slice(b"did you mean ")?;
+                help.extend_from_slice(name)?;
+                help.push(b'?')?;
+                if edits <= 1 {
+                    break;
+                }
+                most = edits - 1;
+            }
+        }
+    }
+    Ok(help)
+}

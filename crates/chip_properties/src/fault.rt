@@ -1,0 +1,105 @@
+//! The faults of properties.
+
+ghost use Rattle.std.specs.Prelude.{◌≡◌, ◌≤◌};
+ghost use Rattle.chip_properties.specs.Faults.{number_of_property_fault};
+
+use chip_lang::Span;
+use std::alloc::AllocError;
+
+/// Why a line can't be read as a property.
+#[derive(Clone, Copy, PartialEq, Eq)]
+pub enum FaultCode {
+    /// P1: it states nothing.
+    NothingStated,
+    /// P2: no comparison, or no place, stands where one is expected.
+    NoComparison,
+    /// P3: a name without a value.
+    UndefinedName,
+    /// P4: a value below 0, an address past the memory, or a point off the screen.
+    OutOfRange,
+    /// P5: what can't be asked.
+    NotAsked,
+    /// P6: too many comparisons, terms, properties, or open parentheses.
+    TooMany,
+}
+
+impl FaultCode {
+    /// The number that a fault has: 1 to 6.
+    pub fn number(self) -> u32
+        ensures value { result ≡ number_of_property_fault self }
+        ensures bound { result ≤ 6 }
+    {
+        match self {
+            FaultCode::NothingStated => 1,
+            FaultCode::NoComparison => 2,
+            FaultCode::UndefinedName => 3,
+            FaultCode::OutOfRange => 4,
+            FaultCode::NotAsked => 5,
+            FaultCode::TooMany => 6,
+        }
+    }
+
+    /// What it says, in a sentence without a newline.
+    pub fn sentence(self) -> &'static [u8] {
+        match self {
+            FaultCode::NothingStated => {
+                b"a property has always, never, ever or can, a condition or a place"
+            }
+            FaultCode::NoComparison => b"a comparison, a value or a place is expected",
+            FaultCode::UndefinedName => b"undefined name",
+            FaultCode::OutOfRange => b"a value out of range",
+            FaultCode::NotAsked => b"this can't be asked",
+            FaultCode::TooMany => b"too many comparisons, terms, properties or parentheses",
+        }
+    }
+}
+
+/// Why a line can't be read as a property, and where.
+#[derive(Drop)]
+pub struct PropertyFault {
+    /// The number of the line, from 1; 0 for a text of its own.
+    pub line: usize,
+    pub code: FaultCode,
+    /// The bytes of the line's text at which it is.
+    pub span: Span,
+    /// What to write, or nothing: one sentence without a newline.
+    pub help: Vec<u8>,
+}
+
+/// A fault at some tokens of a property, from the one of an index up to another one.
+#[derive(Clone, Copy)]
+pub(crate) struct Found {
+    pub(crate) code: FaultCode,
+    pub(crate) first: usize,
+    pub(crate) end: usize,
+}
+
+impl Found {
+    /// A fault at the token of an index.
+    pub(crate) fn at(code: FaultCode, index: usize) -> Found {
+        Found {
+            code,
+            first: index,
+            end: index.saturating_add(1),
+        }
+    }
+}
+
+/// Why tokens aren't read.
+#[derive(Drop)]
+pub(crate) enum Failure {
+    OutOfMemory,
+    /// They aren't what is read there.
+    Fault(Found),
+}
+
+impl From<AllocError> for Failure {
+    ghost use Rattle.std.specs.Prelude.{◌≡◌};
+    ghost use Rattle.chip_properties.specs.declared.fault.Failure.{Failure};
+
+    ghost from_gives = { λ _ r. r ≡ Failure.OutOfMemory };
+
+    fn from(_: AllocError) -> Self {
+        Failure::OutOfMemory
+    }
+}

@@ -1,0 +1,21 @@
+//! The language of `;!` lines: what the author of a game states of it.
+#![tactic(auto)]
+
+mod advice;
+mod fault;
+pub mod limits;
+mod line;
+pub mod near;
+mod part;
+mod properties;
+mod reader;
+mod relation;
+mod separator;
+mod stated;
+mod sums;
+mod words;
+
+pub use fault::{FaultCode, PropertyFault};
+pub use line::{names_used, property_text};
+pub use properties::{Properties, properties_of, property_of_text};
+pub use stated::{Kind, Stated};

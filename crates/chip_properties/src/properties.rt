@@ -1,0 +1,186 @@
+//! The properties of a source.
+
+ghost use Rattle.std.specs.Prelude.{◌≡◌, ◌≤◌, IfErr, IfOk, IfSome, None, OnOk, Some, drop, length};
+ghost use Rattle.chip_lang.specs.Line.{lexemes_of};
+ghost use Rattle.chip_asm.specs.LineViews.{line_at};
+ghost use Rattle.chip_asm.specs.Names.{values_of};
+ghost use Rattle.chip_asm.specs.Program.{symbols_of};
+ghost use Rattle.chip_properties.specs.Language.{IsProperty};
+ghost use Rattle.chip_properties.specs.Lines.{StandsAt, property_start};
+ghost use Rattle.chip_properties.specs.Properties.{AreProperties};
+ghost use Rattle.chip_properties.specs.SeenProperty.{seen_property};
+ghost use Rattle.chip_properties.specs.computed.Reading.{stated_in};
+ghost use Rattle.chip_properties.specs.inner.Reads.{symbols_read};
+ghost use Rattle.chip_properties.specs.inner.Told.{IsAnswer, IsRead};
+
+use crate::advice::fault_found;
+use crate::fault::{Failure, FaultCode, Found, PropertyFault};
+use crate::limits::MOST_PROPERTIES;
+use crate::line::mark_end;
+use crate::reader::Reader;
+use crate::stated::{Kind, Stated};
+use chip_asm::{LineView, Source};
+use chip_explore::Property;
+use chip_lang::lexemes;
+use std::alloc::{AllocError, Global};
+
+/// What a source states, and what of it can't be read, each in the order of the lines.
+#[derive(Drop)]
+pub struct Properties {
+    pub stated: Vec<Stated>,
+    pub faults: Vec<PropertyFault>,
+}
+
+/// The properties of a source: those of its active lines that begin with `;!`, of which at most
+/// `MOST_PROPERTIES` are read.
+///
+/// # Errors
+///
+/// Out of memory.
+pub fn properties_of(alloc: Global, source: &Source) -> Result<Properties, AllocError>
+    ensures { IfOk result (AreProperties source.now.lines) }
+{
+    let mut found = Properties {
+        stated: Vec::new(alloc),
+        faults: Vec::new(alloc),
+    };
+    for index in 0..source.lines() {
+        found.read_line(alloc, source, index + 1)?;
+    }
+    Ok(found)
+}
+
+impl Properties {
+    /// How many lines were read.
+    fn count(&self) -> usize {
+        self.stated.len().saturating_add(self.faults.len())
+    }
+
+    /// Adds what the line of a number states, if it states something.
+    fn read_line(&mut self, alloc: Global, source: &Source, number: usize) -> Result<(), AllocError>
+        ensures { OnOk result (IsRead source.now.lines number self.old self.new) }
+    {
+        let Some(line) = source.line(number) else {
+            return Ok(());
+        };
+        let Some(start) = property_start(&line) else {
+            return Ok(());
+        };
+        let has_room = self.count() < MOST_PROPERTIES;
+        match property_on(alloc, source, number, &line, start, has_room)? {
+            Ok(stated) => {
+                self.stated.reserve(1)?;
+                self.stated.push_reserved(stated);
+            }
+            Err(fault) => {
+                self.faults.reserve(1)?;
+                self.faults.push_reserved(fault);
+            }
+        }
+        Ok(())
+    }
+}
+
+/// What a line states, whose property begins at a place of its text. Where there is no room for one
+/// more property it isn't read.
+fn property_on(
+    alloc: Global,
+    source: &Source,
+    number: usize,
+    line: &LineView<'_>,
+    start: usize,
+    has_room: bool,
+) -> Result<Result<Stated, PropertyFault>, AllocError>
+    requires there { line_at source.now.lines number ≡ Some line.now }
+    requires begins { property_start line.now ≡ Some start }
+    requires within { start ≤ length line.now.text }
+    ensures { IfOk result (IsAnswer source.now.lines number) }
+{
+    let reader = Reader {
+        alloc,
+        source,
+        here: Some(line.address()),
+    };
+    if has_room {
+        return reader.read(None, number, line.text(), start);
+    }
+    let found = Found::at(FaultCode::TooMany, 0);
+    let fault = fault_found(&reader, number, line.text(), start, found)?;
+    Ok(Err(fault))
+}
+
+/// Where the property of an active line begins in its text.
+fn property_start(line: &LineView<'_>) -> Option<usize>
+    ensures value { result ≡ property_start line.now }
+    ensures within { IfSome result (λ start. start ≤ length line.now.text) }
+{
+    if line.is_active() {
+        mark_end(line.text())
+    } else {
+        None
+    }
+}
+
+/// What a text states of a source, by itself: a property without `;!` and without the word for its
+/// kind, in which `here` has no place.
+///
+/// # Errors
+///
+/// Out of memory.
+pub fn property_of_text(
+    alloc: Global,
+    text: &[u8],
+    kind: Kind,
+    source: &Source,
+) -> Result<Result<Stated, PropertyFault>, AllocError>
+    ensures line { IfOk result (λ read. IfOk read (λ s. s.line ≡ 0)) }
+    ensures kind { IfOk result (λ read. IfOk read (λ s. s.kind ≡ kind)) }
+    ensures stated { IfOk result (λ read. IfOk read (λ s.
+        IsProperty (values_of (symbols_of source.now.lines)) None kind (lexemes_of text.now)
+        (seen_property s.property))) }
+    ensures stands { IfOk result
+        (λ read. IfErr read (λ fault. StandsAt 0 text.now fault)) }
+{
+    let reader = Reader {
+        alloc,
+        source,
+        here: None,
+    };
+    reader.read(Some(kind), 0, text, 0)
+}
+
+impl<'a> Reader<'a> {
+    /// What a line of a number states, whose property begins at a place of its text. Where no kind
+    /// is given the property may begin with one.
+    fn read(
+        &self,
+        kind: Option<Kind>,
+        number: usize,
+        line: &[u8],
+        start: usize,
+    ) -> Result<Result<Stated, PropertyFault>, AllocError>
+        requires { start ≤ length line.now }
+        ensures stated { IfOk result (λ read. IfOk read (λ s. (s.line ≡ number)
+            × (stated_in (symbols_read self.now) self.now.here kind
+            (lexemes_of (drop start line.now)) ≡ Some (s.kind, seen_property s.property)))) }
+        ensures refused { IfOk result (λ read. IfErr read (λ _.
+            stated_in (symbols_read self.now) self.now.here kind
+            (lexemes_of (drop start line.now)) ≡ None)) }
+        ensures stands { IfOk result
+            (λ read. IfErr read (λ fault. StandsAt number line.now fault)) }
+    {
+        let tokens = lexemes(self.alloc, &line[start..])?;
+        match self.stated(kind, &tokens) {
+            Ok((kind, property)) => Ok(Ok(Stated {
+                line: number,
+                kind,
+                property,
+            })),
+            Err(Failure::OutOfMemory) => Err(AllocError),
+            Err(Failure::Fault(found)) => {
+                let fault = fault_found(self, number, line, start, found)?;
+                Ok(Err(fault))
+            }
+        }
+    }
+}

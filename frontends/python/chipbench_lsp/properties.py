@@ -1,0 +1,127 @@
+"""Properties that a source states of its game, in lines that begin with `;!`: a lens for each with its last answer, the words that may
+stand in them, and `prove`, which answers one."""
+
+from __future__ import annotations
+
+import json
+import re
+import subprocess
+import threading
+from typing import Any
+
+from .document import Document
+from .tables import REGISTERS
+from .wire import REQUEST_CANCELLED, REQUEST_FAILED, Failed
+
+COMMAND = "chipbench.prove"
+MARK = re.compile(r"[ \t]*;!")
+# the words of a property, and what each says
+WORDS = {
+    "always": "the condition holds before each step, at its place",
+    "never": "the condition holds before no step, at its place",
+    "ever": "some player comes to a step before which the condition holds, at its place",
+    "here": "the place: the address of the next statement",
+    "at": "the place: the value of a name or a number",
+    "and": "all comparisons hold",
+    "or": "one comparison holds",
+    "I": "the register I",
+    "PC": "the address of the next instruction",
+    "DT": "the delay timer",
+    "DEPTH": "how many calls are open",
+    "HIGH": "1 where the screen has its high size",
+    "KEYS": "1 where the next instruction reads keys",
+    "PIXEL": "1 where this pixel is lit: PIXEL(column, row)",
+}
+OPTIONS = {"rate": "--rate", "seed": "--seed", "profile": "--profile", "quirks": "--quirks"}
+# how often it is looked whether a search was cancelled
+LOOK_SECONDS = 0.1
+
+
+def is_property(line: str) -> bool:
+    return MARK.match(line) is not None
+
+
+def text_of(line: str) -> str:
+    return line.split(";!", 1)[1].strip(" \t\r\f")
+
+
+class Answers:
+    """The last answer to each property of a document, by its text, and of which edition it is."""
+
+    def __init__(self) -> None:
+        self._found: dict[str, tuple[int, str]] = {}
+
+    def learn(self, text: str, edition: int, answer: str) -> None:
+        self._found[text] = (edition, answer)
+
+    def title(self, text: str, edition: int) -> str:
+        answered, answer = self._found.get(text, (edition, "prove"))
+        return answer if answered == edition else f"{answer} (before the last edit)"
+
+
+def lenses(document: Document, answers: Answers) -> list[dict[str, Any]]:
+    """A lens above each property."""
+    found = []
+    for number in range(document.line_count):
+        line = document.line(number)
+        if is_property(line):
+            span = document.columns.range(number, line, 0, len(line))
+            command = {"title": answers.title(text_of(line), document.edition), "command": COMMAND, "arguments": [document.uri, number]}
+            found.append({"range": span, "command": command})
+    return found
+
+
+def words() -> list[dict[str, Any]]:
+    """What may be named in a property but the names of the source."""
+    keyword, variable = 14, 6
+    found = [{"label": word, "kind": keyword, "detail": text, "is_reserved": word.isupper()} for word, text in WORDS.items()]
+    return [*found, *({"label": name, "kind": variable, "detail": "register"} for name in REGISTERS)]
+
+
+def options_of(settings: dict[str, Any]) -> list[str]:
+    """The options of `prove` from those of a bench."""
+    found = [part for name, option in OPTIONS.items() if name in settings for part in (option, str(settings[name]))]
+    if "tape" in settings:
+        found += ["--tape", bytes(settings["tape"]).hex()]
+    return found
+
+
+def prove(
+    program: str, source: bytes, settings: dict[str, Any], number: int, cancelled: threading.Event
+) -> dict[str, Any]:
+    """The answer to the property of a line, counted from 0."""
+    command = [program, "prove", "--json", "--only", str(number + 1), *options_of(settings), "-"]
+    with subprocess.Popen(command, stdin=subprocess.PIPE, stdout=subprocess.PIPE, stderr=subprocess.PIPE) as process:
+        given: bytes | None = source
+        while True:
+            try:
+                output, errors = process.communicate(given, timeout=LOOK_SECONDS)
+                break
+            except subprocess.TimeoutExpired:
+                given = None
+            if cancelled.is_set():
+                process.kill()
+                raise Failed(REQUEST_CANCELLED, "cancelled")
+    told = [json.loads(line) for line in output.decode().splitlines() if line.startswith("{")]
+    for answer in told:
+        if answer.get("line") == number + 1:
+            return {**answer, "text": shown(answer)}
+    raise Failed(REQUEST_FAILED, errors.decode("utf-8", "replace").strip() or "the source has faults")
+
+
+def shown(answer: dict[str, Any]) -> str:
+    """An answer in words, as `prove` prints it.
+
+    >>> shown({"answer": "broken", "step": 9, "covered": 5})
+    'broken at step 9, not broken up to step 5'
+    >>> shown({"answer": "unbroken", "covered": 5})
+    'unbroken up to step 5'
+    """
+    if "code" in answer:
+        return f"{answer['code']}: {answer['message']}"
+    word = str(answer["answer"])
+    if "step" in answer:
+        further = f", not {word} up to step {answer['covered']}" if "covered" in answer else ""
+        return f"{word} at step {answer['step']}{further}"
+    return f"{word} up to step {answer['covered']}" if "covered" in answer else word
+
