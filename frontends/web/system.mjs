@@ -120,6 +120,14 @@ class System {
       rattle_env: (name, place, room) =>
         this.copied(this.host.variable(new TextDecoder().decode(this.text(name))), place, room),
       rattle_env_at: () => -1n,
+      // whole seconds and nanoseconds, of a clock that goes evenly and is never set
+      clock_gettime: (_clock, place) => {
+        const now = performance.now();
+        const view = new DataView(this.exports.memory.buffer);
+        view.setBigInt64(Number(place), BigInt(Math.floor(now / 1000)), true);
+        view.setBigInt64(Number(place) + 8, BigInt(Math.floor((now % 1000) * 1e6)), true);
+        return 0;
+      },
       getentropy: (place, count) => this.guarded(() => this.host.fillRandom(this.part(place, count))),
       __xpg_strerror_r: (error, place, room) => {
         this.copied(`${TEXTS.get(error) ?? `Unknown error ${error}`}\0`, place, room);
