@@ -5,7 +5,7 @@ use chip_asm::{LineView, Source};
 use chip_explore::{KeyEvent, Met, Outcome};
 use chip_lang::tokens;
 use chip_machine::Machine;
-use chip_replay::{LEAST_SPACING, Replay};
+use chip_replay::{AtError, KeyFault, LEAST_SPACING, Replay};
 use chip_trace::push_decimal;
 use std::alloc::{AllocError, Global};
 
@@ -58,16 +58,16 @@ fn address_at(
 {
     let mut replay = Replay::new(alloc, start.copy_of()?, rate, LEAST_SPACING)?;
     for event in events {
-        if replay
-            .insert_key(event.step, event.key, event.down)
-            .is_err()
-        {
-            return Ok(None);
+        match replay.insert_key(event.step, event.key, event.down) {
+            Ok(()) => {}
+            Err(KeyFault::OutOfMemory) => return Err(AllocError),
+            Err(_) => return Ok(None),
         }
     }
     match replay.at(step) {
         Ok(machine) => Ok(Some(machine.pc())),
-        Err(_) => Ok(None),
+        Err(AtError::OutOfMemory) => Err(AllocError),
+        Err(AtError::StepTooLarge) => Ok(None),
     }
 }
 
