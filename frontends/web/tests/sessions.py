@@ -101,10 +101,10 @@ def written(program, name, source, script, settings, folder):
 
 
 def from_tests(program, folder):
-    """The cases of tests/sessions. A tape that comes of a seed is asked of no module, so they are left out."""
+    """The cases of tests/sessions but those with a seed or with single quirks: a module takes a tape and a profile."""
     for file in sorted((TOP / "tests/sessions").glob("**/*.test")):
         for case in read_sessions(file):
-            if "seed" in case.settings:
+            if {"seed", "quirks"} & set(case.settings):
                 continue
             source = case.source
             if case.is_image:

@@ -57,7 +57,7 @@ test('what a command does not take of the settings makes no difference to it', {
 test('a search over all keys is told of while it goes on, and gives the keys that it found', { skip }, () => {
   const requests = new ProgramRequests(moduleOf(program));
   const found = requests.explore({ source: 'LOOP: LD V0, K\nSE V0, 3\nJP LOOP\nRET\n', options: { rate: '10', every: '1000' } }, () => {});
-  assert.match(found.output, /^S5 3\n/);
+  assert.match(found.output, /^S5 3, line 4: RET\n/);
   assert.equal(found.keys, '0 3 down\n1 3 up\n');
   const source = fs.readFileSync(new URL('../../../examples/breaker.asm', import.meta.url), 'latin1');
   const first = { told: null };
