@@ -38,11 +38,6 @@ class Workers {
     return this.#workers.get(kind);
   }
 
-  // Has workers of these kinds begin, so that each takes its module while the page is made.
-  begin(...kinds) {
-    for (const kind of kinds) this.#worker(kind);
-  }
-
   end(kind) {
     const ended = this.#workers.get(kind);
     if (ended === undefined) return;
@@ -107,15 +102,14 @@ class LongRuns {
   }
 }
 
-export function carryByWorkers(script, modules, { examples, documents, game, program }) {
+export function carryByWorkers(script, modules, { examples, documents, game }) {
   const workers = new Workers(script, modules);
-  workers.begin('program', 'session');
   const files = new PageFiles(examples);
   const runs = Object.fromEntries(LONG_RUNS.map((name) => [name, new LongRuns(workers, name)]));
   // a tab that is loaded anew comes back to what it had open
   const about = { name: null, path: null, text: null, digest: null, isImage: false, start: 'one file', folder: 'this browser', settings: {}, exportsGames: true };
   const own = {
-    about: () => ({ ...about, ...program, picks: files.picks }),
+    about: async () => ({ ...about, picks: files.picks, ...(await workers.ask('program', 'about', {})) }),
     files: () => ({ folder: 'this browser', files: files.list() }),
     read: ({ name }) => files.read(name),
     save: (body) => files.save(body),

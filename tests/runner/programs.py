@@ -2,7 +2,7 @@
 import subprocess
 from dataclasses import dataclass
 
-# No run takes as long, where nothing else is said.
+# No run takes as long.
 SECONDS = 120
 
 
@@ -20,11 +20,10 @@ class Program:
     """A built program."""
 
     file: str
-    seconds: float = SECONDS
 
     def run(self, arguments, stdin=b"", folder=None):
         """A run with these arguments, in that folder."""
         ran = subprocess.run(
-            [self.file, *arguments], cwd=folder, input=stdin, capture_output=True, timeout=self.seconds, check=False
+            [self.file, *arguments], cwd=folder, input=stdin, capture_output=True, timeout=SECONDS, check=False
         )
         return Ran(ran.returncode, ran.stdout, ran.stderr)

@@ -253,13 +253,12 @@ alike_silent f delay sound a b h =
     record {
       proper = record { memory_size = h.proper.memory_size };
       others = h.others;
-      size = h.size;
+      memory = h.memory;
       draws = h.draws;
       count = h.count;
       registers = h.registers;
       index = h.index;
       screen = h.screen;
-      memory = h.memory;
     }
 
 pub alike_delayed : (f d : ℕ) (a b : State) → Alike f a b → Alike f (with_delay d a) (with_delay d b)
@@ -267,13 +266,12 @@ alike_delayed f d a b h =
     record {
       proper = record { memory_size = h.proper.memory_size };
       others = ap (λ (o : Core). record o { delay = d }) h.others;
-      size = h.size;
+      memory = h.memory;
       draws = h.draws;
       count = h.count;
       registers = h.registers;
       index = h.index;
       screen = h.screen;
-      memory = h.memory;
     }
 
 pub within_bound : (value bound : ℕ) → value ≤ bound → value ≤ bound_after value bound

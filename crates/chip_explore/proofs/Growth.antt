@@ -7,7 +7,7 @@ use Rattle.std.proofs.Math.Seq.{get_or-append_seam}
 use Rattle.std.proofs.Common.{◌==◌}
 use Rattle.std.proofs.lemmas.Nat.Bits.{bit_at_above}
 use Rattle.chip_machine.specs.Choices.{IsChoice}
-use Rattle.chip_machine.specs.Forgotten.{AreWithin, IsUnread}
+use Rattle.chip_machine.specs.Forgotten.{IsUnread}
 use Rattle.chip_machine.specs.Relevant.{Alike}
 use Rattle.chip_machine.specs.State.{State}
 use Rattle.chip_machine.specs.Step.{is_key_down, step_of}
@@ -18,9 +18,8 @@ use Rattle.chip_explore.specs.declared.setting.Setting.{Setting}
 use Rattle.chip_explore.specs.declared.ways.Reading.{Reading}
 use Rattle.chip_explore.specs.Executed.{is_among, is_at_one}
 use Rattle.chip_explore.specs.inner.Kept.{state_at}
-use Rattle.chip_explore.specs.inner.Cover.{phase, tick_at, View, Grows, IsFine, Moves, forgotten_at, Joins, SafeFor, Safe, IsTaken, Extends, GoesTo, GoesOn, GoesBy, HasChoices, HasValues, Holds, IsAt, Goes, Leads, LeadsAs, view_of}
+use Rattle.chip_explore.specs.inner.Cover.{phase, tick_at, View, Grows, IsFine, Moves, AreWithin, forgotten_at, Joins, SafeFor, Safe, IsTaken, Extends, GoesTo, GoesOn, GoesBy, HasChoices, HasValues, Holds, IsAt, Goes, Leads, LeadsAs, view_of}
 use Rattle.chip_explore.specs.inner.Delays.{read_as, timed_register}
-use Rattle.chip_explore.proofs.Alike.{alike_through, alike_within, within_both}
 
 -- what is fine stays so where more addresses are noted
 or_more : (stopped early late : Bool) → (early ≡ true → late ≡ true) → (stopped || early) ≡ true → (stopped || late) ≡ true
@@ -245,29 +244,6 @@ safe_lowered p m n more place f s t fine at lowered =
       within = still_within p (view_of m) (view_of n) more.extends f place kept at.within;
       alike = still_alike p (view_of m) (view_of n) more.extends s place kept at.alike;
     })
-
--- what is known of a state in which bytes that are forgotten are other ones
-pub joins_as : (p : Setting) (v : View) (f g : ℕ) (s erased : State) (t : ℕ) → AreWithin f g → Alike g erased s → Joins p v g erased t → Joins p v f s t
-joins_as p v f g s erased t within same joins =
-    let all = forgotten_at v joins.place in
-    record {
-      place = joins.place;
-      kept = joins.kept;
-      early = joins.early;
-      phased = joins.phased;
-      within = within_both f g all within joins.within;
-      alike = alike_through all (v.member joins.place) erased joins.alike s (alike_within g erased s same all joins.within);
-    }
-
-pub at_as : (p : Setting) (m : Members) (place f g : ℕ) (s erased : State) (t : ℕ) → AreWithin f g → Alike g erased s → IsAt p m place g erased t → IsAt p m place f s t
-at_as p m place f g s erased t within same at =
-    let all = forgotten_at (view_of m) place in
-    record {
-      kept = at.kept;
-      phased = at.phased;
-      within = within_both f g all within at.within;
-      alike = alike_through all ((view_of m).member place) erased at.alike s (alike_within g erased s same all at.within);
-    }
 
 pub goes_more : (p : Setting) (l m n : Members) → Goes p l m → Goes p m n → Goes p l n
 goes_more p l m n one two = record { start = two.start ∙ one.start; extends = extends_more p (view_of l) (view_of m) (view_of n) one.extends two.extends; holds = two.holds }

@@ -1,16 +1,12 @@
 //! Some steps in a row that tell neither keys nor values of the delay timer apart, and read nothing
 //! that is forgotten, nor do the properties that are asked of the states on the way.
 
-ghost use Rattle.std.specs.Prelude.{◌≡◌, ◌<◌, ◌≤◌, ◌-◌, ◌^◌, length, IfOk, IfSome, IsNone};
-ghost use Rattle.chip_machine.specs.Relevant.{Alike};
+ghost use Rattle.std.specs.Prelude.{◌≡◌, ◌<◌, ◌≤◌, ◌-◌, ◌^◌, IfOk, IfSome, IsNone};
 ghost use Rattle.chip_explore.specs.inner.Cover.{Grows, IsEnd, Moves, Safe, View};
 
 use crate::executed::Executed;
-use crate::kept::Base;
 use crate::limits::MOST_QUIET_STEPS;
 use crate::setting::Setting;
-use chip_machine::forgotten::WINDOW_BYTES;
-use chip_machine::limits::MEMORY_BYTES;
 use chip_machine::{Forgotten, Machine, Touch};
 use std::alloc::{AllocError, Global};
 
@@ -108,15 +104,6 @@ impl Runner {
         }
     }
 
-    /// Puts bytes of a base in the place of those that are to be forgotten, so that states that differ in
-    /// these alone are the same.
-    pub(crate) fn erase(&mut self, parts: Forgotten, base: &Base)
-        ensures alike { Alike parts self.new.machine self.old.machine }
-        ensures same { self.new.forgotten ≡ self.old.forgotten }
-    {
-        erase(&mut self.machine, parts, base.machine.memory());
-    }
-
     /// Why the steps in a row end at a step, if they do. Where the machine makes a step, its address
     /// is noted.
     fn end(
@@ -163,32 +150,4 @@ impl Runner {
             Some(End::Joined)
         }
     }
-}
-
-/// Puts bytes of another memory in the place of those that are to be forgotten.
-fn erase(machine: &mut Machine, parts: Forgotten, memory: &[u8])
-    requires { length memory.now ≡ MEMORY_BYTES }
-    ensures { Alike parts machine.new machine.old }
-{
-    if machine.memory() == memory || !parts.has_bytes() {
-        return;
-    }
-    for place in 0..WINDOW_BYTES {
-        let at = usize::from(parts.window()) + usize::from(place);
-        if at < MEMORY_BYTES {
-            erase_byte(machine, parts, at, memory);
-        }
-    }
-}
-
-/// Does so at one address.
-fn erase_byte(machine: &mut Machine, parts: Forgotten, at: usize, memory: &[u8])
-    requires size { length memory.now ≡ MEMORY_BYTES }
-    requires in_memory { at < MEMORY_BYTES }
-    ensures { Alike parts machine.new machine.old }
-{
-    if machine.memory()[at] == memory[at] || !parts.has_byte(at) {
-        return;
-    }
-    machine.poke(at as u16, memory[at]);
 }

@@ -14,12 +14,6 @@ pub(crate) const FREE_SHARE: usize = 12;
 /// In so many ways it goes on from a state then at most, on average.
 pub(crate) const MOST_WAYS: u64 = 4;
 
-/// How often the window of bytes that may be forgotten is moved at most.
-pub(crate) const MOST_MOVES: u32 = 8;
-
-/// A search begins anew with another window where it keeps so many states at most.
-pub(crate) const MOST_STATES_BEFORE_A_MOVE: usize = 10_000;
-
 /// How often a search begins anew at most, since a step refuted what it took for granted.
 pub(crate) const MOST_ATTEMPTS: u32 = 10_000;
 

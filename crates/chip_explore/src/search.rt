@@ -6,7 +6,7 @@ ghost use Rattle.chip_machine.specs.Step as spec;
 ghost use Rattle.chip_explore.specs.Answers.{most_ways};
 ghost use Rattle.chip_explore.specs.inner.Cover.{forgotten_at, view_of, Holds, HasChoices, Goes, HasValues, HasWays, IsFine, Leads, LeadsAs, Safe};
 
-use crate::backdrop::{Backdrop, Backdrops};
+use crate::backdrop::Backdrops;
 use crate::finder::{Finder, Origin, Turn};
 use crate::kept::{Base, Kept};
 use crate::keys::{alone, is_down};
@@ -81,13 +81,12 @@ impl Search {
             self.refute(origin, forgotten.without(parts));
             return Ok(());
         }
-        self.runner.erase(parts, &self.members.base);
         let machine = &self.runner.machine;
         let sums = Sums::of(machine, parts, setting.phase(step));
         if let Some(place) = self.finder.place(sums.state)
             && self
                 .members
-                .is_at(setting, place, parts, machine, step, &mut self.probe)?
+                .is_at(setting, place, forgotten, machine, step, &mut self.probe)?
         {
             let before = self.members.step(place);
             if step < before {
@@ -105,14 +104,15 @@ impl Search {
             &mut self.backdrops,
             sums.backdrop,
         )?;
-        if self.backdrops.is_new {
-            let backdrop: &Backdrop = &kept.backdrop;
-            self.finder.guesses.note_changed(&backdrop.bytes, place);
-        }
-        if !self
-            .members
-            .add(setting, kept, parts, machine, step, &mut self.probe)?
-        {
+        if !self.members.add(
+            setting,
+            kept,
+            parts,
+            forgotten,
+            machine,
+            step,
+            &mut self.probe,
+        )? {
             self.members.lower_limit(setting, step);
             return Ok(());
         }

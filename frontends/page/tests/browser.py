@@ -16,7 +16,6 @@ from browser_play import PlayTests
 from browser_run import RunTests
 from browser_shape import ShapeTests
 from browser_source import SourceTests
-from browser_speed import SpeedTests
 from browser_typing import TypingTests
 from chromium import Chromium
 from driver import Browser
@@ -40,7 +39,7 @@ OF_THE_BRIDGE = {
 OF_ONE_FILE = {"test_files_without_a_bridge"}
 
 
-class Tests(SourceTests, TypingTests, RunTests, FileTests, ShapeTests, LayoutTests, PlayTests, SpeedTests):
+class Tests(SourceTests, TypingTests, RunTests, FileTests, ShapeTests, LayoutTests, PlayTests):
     """Each method whose name begins with `test_` is one test."""
 
 

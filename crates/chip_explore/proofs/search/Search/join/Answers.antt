@@ -1,7 +1,7 @@
 use Rattle.std.proofs.Common.{rules, ◌≡◌, Result, Ok, Err, OnOk, ap, subst}
 use Rattle.chip_explore.specs.declared.members.Members.{Members}
-use Rattle.chip_explore.specs.inner.Cover.{Goes, view_of}
-use Rattle.chip_explore.proofs.Growth.{at_as, goes_more, joins_as, safe_joined, safe_lowered}
+use Rattle.chip_explore.specs.inner.Cover.{Goes}
+use Rattle.chip_explore.proofs.Growth.{goes_more, safe_joined, safe_lowered}
 use Rattle.chip_explore.proofs.search.Search.join.Goals as goal
 use Rattle.chip_explore.proofs.search.Search.join.Goals.{in_default-via-in-None-1, in_default-via-in-Some+in_ok-is_at+else-branch}
 
@@ -16,9 +16,7 @@ returns-then-step-before-clause-safe c =
     let runner = c.args.self.now.runner in
     whatever c.note_earlier.result
     (safe_lowered p m c.lower.new.self c.lower.ensures.goes c.in-Some.place runner.forgotten runner.machine c.args.step
-    c.requires.fine
-    (at_as p m c.in-Some.place runner.forgotten c.parts_to_forget-parts.result runner.machine c.erase.new.self.machine c.args.step (c.is_within.ensures (search rules)) c.erase.ensures.alike
-    (c.in_ok-is_at.ensures (search rules))) c.lower.ensures.step)
+    c.requires.fine (c.in_ok-is_at.ensures (search rules)) c.lower.ensures.step)
 
 pub returns-2-clause-safe : goal.returns-2-clause-safe
 returns-2-clause-safe c =
@@ -32,9 +30,7 @@ returns-2-clause-safe c =
     ] in
     let goes : Goes p m c.add.new.self = subst (λ (m : Members). Goes p m c.add.new.self) same c.in_ok-add.ensures.goes in
     whatever c.note.result
-    (safe_joined p m c.add.new.self goes runner.forgotten runner.machine c.args.step c.requires.fine
-    (joins_as p (view_of c.add.new.self) runner.forgotten c.parts_to_forget-parts.result runner.machine c.erase.new.self.machine c.args.step (c.is_within.ensures (search rules)) c.erase.ensures.alike
-    (c.in_ok-add.ensures.joins (search rules))))
+    (safe_joined p m c.add.new.self goes runner.forgotten runner.machine c.args.step c.requires.fine (c.in_ok-add.ensures.joins (search rules)))
 
 pub returns-then-not-branch-clause-goes : goal.returns-then-not-branch-clause-goes
 returns-then-not-branch-clause-goes c =
