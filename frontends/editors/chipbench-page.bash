@@ -3,10 +3,10 @@ _chipbench_page() {
     local word=${COMP_WORDS[COMP_CWORD]} before=${COMP_WORDS[COMP_CWORD-1]}
     case $before in
         --profile) COMPREPLY=($(compgen -W "schip vip chip48 schip10 schip-modern octo" -- "$word")); return ;;
-        --port | --rate | --tape | --seed | --every) return ;;
+        --port | --rate | --tape | --seed | --quirks | --every) return ;;
     esac
     case $word in
-        -*) COMPREPLY=($(compgen -W "--help --image --program --port --no-open --rate --tape --seed --profile --every" -- "$word")) ;;
+        -*) COMPREPLY=($(compgen -W "--help --image --program --port --no-open --rate --tape --seed --profile --quirks --every" -- "$word")) ;;
         *) COMPREPLY=($(compgen -f -- "$word")) ;;
     esac
 }

@@ -8,4 +8,5 @@ complete -c chipbench-page -l rate -x -d 'at the start: how many steps lie betwe
 complete -c chipbench-page -l tape -x -d 'at the start: the random bytes'
 complete -c chipbench-page -l seed -x -d 'at the start: a number that makes the random bytes'
 complete -c chipbench-page -l profile -x -a 'schip vip chip48 schip10 schip-modern octo' -d 'at the start: schip'
+complete -c chipbench-page -l quirks -x -d 'at the start: what differs from the profile'
 complete -c chipbench-page -l every -x -d 'at the start: how many steps lie between two checkpoints'

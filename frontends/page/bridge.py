@@ -48,6 +48,7 @@ SETTINGS = {
     "tape": ("HEX", "the random bytes"),
     "seed": ("N", "a number that makes the random bytes"),
     "profile": ("NAME", "schip, vip, chip48, schip10, schip-modern or octo"),
+    "quirks": ("LIST", "what differs from the profile, such as shift=vy,edges=wrap"),
     "every": ("P", "how many steps lie between two checkpoints"),
 }
 

@@ -15,6 +15,7 @@ OPTION_VALUES = {
     "tape": re.compile(r"[0-9a-fA-F]{2,8192}"),
     "seed": re.compile(r"[0-9]{1,20}"),
     "profile": re.compile(r"[a-z0-9-]{1,20}"),
+    "quirks": re.compile(r"[a-z0-9=,+]{1,300}"),
     "every": re.compile(r"[0-9]{1,9}"),
 }
 

@@ -38,6 +38,11 @@ class Workers {
     return this.#workers.get(kind);
   }
 
+  // Has workers of these kinds begin, so that each takes its module while the page is made.
+  begin(...kinds) {
+    for (const kind of kinds) this.#worker(kind);
+  }
+
   end(kind) {
     const ended = this.#workers.get(kind);
     if (ended === undefined) return;
@@ -102,14 +107,15 @@ class LongRuns {
   }
 }
 
-export function carryByWorkers(script, modules, { examples, documents, game }) {
+export function carryByWorkers(script, modules, { examples, documents, game, program }) {
   const workers = new Workers(script, modules);
+  workers.begin('program', 'session');
   const files = new PageFiles(examples);
   const runs = Object.fromEntries(LONG_RUNS.map((name) => [name, new LongRuns(workers, name)]));
   // a tab that is loaded anew comes back to what it had open
   const about = { name: null, path: null, text: null, digest: null, isImage: false, start: 'one file', folder: 'this browser', settings: {}, exportsGames: true };
   const own = {
-    about: async () => ({ ...about, picks: files.picks, ...(await workers.ask('program', 'about', {})) }),
+    about: () => ({ ...about, ...program, picks: files.picks }),
     files: () => ({ folder: 'this browser', files: files.list() }),
     read: ({ name }) => files.read(name),
     save: (body) => files.save(body),

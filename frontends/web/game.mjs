@@ -22,11 +22,11 @@ const byId = (id) => document.getElementById(id);
 
 // The game's session: key events, and the screen and the timers at a step.
 export class Game {
-  constructor(module, { source, rate, tape, profile }) {
+  constructor(module, { source, rate, tape, profile, quirks }) {
     this.session = new Session(new WebAssembly.Instance(module, {}).exports);
     this.rate = rate;
     const bytes = Uint8Array.from(source, (character) => character.charCodeAt(0));
-    const status = this.session.open(bytes, { rate, profile: PROFILES.includes(profile) ? profile : 'schip', tape: Uint8Array.from(tape.match(/../g), (digits) => parseInt(digits, 16)) });
+    const status = this.session.open(bytes, { rate, profile: PROFILES.includes(profile) ? profile : 'schip', quirks, tape: Uint8Array.from(tape.match(/../g), (digits) => parseInt(digits, 16)) });
     if (status !== STATUS.done) throw new Error(`the game doesn't open: status ${status}`);
     this.held = new Set();
     this.step = 0;

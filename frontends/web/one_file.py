@@ -6,6 +6,10 @@ import os
 import re
 
 HERE = os.path.dirname(os.path.abspath(__file__))
+IMPORT = re.compile(r"^import (\{[^}]*\}) from '\./([\w.]+)';\n", re.M)
+# what a module gives, where it is made and at its end
+GIVEN = re.compile(r"^export (?:async )?(?:class|function\*?|const) (\w+)", re.M)
+SHARED = re.compile(r"^export \{ (\w+) \};\n", re.M)
 GAME_SCRIPT = """
 const bytes = Uint8Array.from(atob(document.getElementById('session-module').textContent), (byte) => byte.charCodeAt(0));
 const about = JSON.parse(document.getElementById('game').textContent);
@@ -29,10 +33,37 @@ def bundle(modules):
     parts = []
     for name in modules:
         text = re.sub(r"^import [^;]*;\n", "", text_of(HERE, name), flags=re.M)
-        names = ", ".join(re.findall(r"^export (?:async )?(?:class|function\*?|const) (\w+)", text, re.M))
+        names = ", ".join(GIVEN.findall(text))
         plain = re.sub(r"^export ", "", text, flags=re.M)
         parts.append(f"const {{ {names} }} = (() => {{\n{plain}return {{ {names} }};\n}})();\n")
     return "'use strict';\n" + "".join(parts)
+
+
+def in_order(names, texts, before=()):
+    """Modules and those that they import, each after what it imports itself."""
+    order = list(before)
+    for name in names:
+        if name not in order:
+            order = [*in_order(imports_of(texts[name]), texts, order), name]
+    return order
+
+
+def imports_of(text):
+    return [name for _, name in IMPORT.findall(text)]
+
+
+def module_table(names, texts):
+    """Modules of the page with all that they import: `modules` has what each gives, by its name. Each has a scope of its own."""
+    parts = ["const modules = {};\n"]
+    for name in in_order(names, texts):
+        given = ", ".join(GIVEN.findall(texts[name]) + SHARED.findall(texts[name]))
+        parts.append(f"modules['{name}'] = (() => {{\n{without_imports(SHARED.sub('', texts[name]))}return {{ {given} }};\n}})();\n")
+    return "".join(parts)
+
+
+def without_imports(text):
+    """A module's text, which takes from `modules` what it imports, and gives nothing."""
+    return re.sub(r"^export ", "", IMPORT.sub(r"const \1 = modules['\2'];\n", text), flags=re.M)
 
 
 def policy(scripts, styles, others):

@@ -7,10 +7,11 @@ import { findSteps } from './trace_search.mjs';
 
 const MOST_COMMANDS = 25_000;
 const MOST_ANSWERS = 64_000_000;
-const OPTIONS = ['rate', 'tape', 'seed', 'profile', 'every'];
+// What the page asks of the program: settings and commands. The page in one file has both lists, since its program is that of these sources.
+export const OPTIONS = ['rate', 'tape', 'seed', 'profile', 'quirks', 'every'];
 const TAPE_BYTES = 256;
 const FIRST_REGISTER = 3;
-const WORDS = ['dis', 'explain', 'check', 'trace', 'test', 'explore', 'prove'];
+export const WORDS = ['dis', 'explain', 'check', 'trace', 'test', 'explore', 'prove'];
 // So many states of a search take some 150 megabytes.
 const STATES = 1_000_000;
 const PROGRESS = /step (\d+), (\d+) states/;
@@ -46,11 +47,12 @@ export function argumentsOf(options) {
   return Object.entries(options ?? {}).map(([name, value]) => `--${name}=${value}`);
 }
 
-function settingsOf({ rate, tape, profile, every }) {
+function settingsOf({ rate, tape, profile, quirks, every }) {
   const settings = {};
   if (rate !== undefined) settings.rate = Number(rate);
   if (tape !== undefined) settings.tape = Uint8Array.from(tape.match(/../g) ?? [], (digits) => parseInt(digits, 16));
   if (profile !== undefined) settings.profile = profile;
+  if (quirks !== undefined) settings.quirks = quirks;
   if (every !== undefined) settings.spacing = Number(every);
   return settings;
 }
@@ -152,11 +154,6 @@ export class ProgramRequests {
   // The arguments of the settings that a command takes: the others make no difference to it.
   argumentsFor(word, options) {
     return argumentsOf(Object.fromEntries(Object.entries(options ?? {}).filter(([name]) => this.optionsOf(word).includes(name))));
-  }
-
-  about() {
-    const { output } = this.runOnce(['--help']);
-    return { options: this.optionsOf('debug'), words: WORDS.filter((word) => new RegExp(`^ +${word}\\b`, 'm').test(output)) };
   }
 
   // A game to begin with: its text, and the screen after some steps.

@@ -19,6 +19,7 @@ export const STATUS = {
   spacingOutOfRange: 5,
   unknownProfile: 6,
   tooManyLines: 7,
+  unknownQuirks: 8,
   lineTooLong: 1000,
 };
 export const PROFILES = ['schip', 'vip', 'chip48', 'schip10', 'schip-modern', 'octo'];
@@ -74,8 +75,8 @@ export class Session {
   }
 
   // Opens a session on a source in the place of the last one. Answers a status; that of a line that is too long has the
-  // line's number added.
-  open(source, { rate = 10, tape = new Uint8Array(1), profile = 'schip', spacing = 1000, nameSeed = 0n } = {}) {
+  // line's number added. `quirks` is the text of `--quirks`, such as 'shift=vy,edges=wrap'.
+  open(source, { rate = 10, tape = new Uint8Array(1), profile = 'schip', quirks = '', spacing = 1000, nameSeed = 0n } = {}) {
     const view = new DataView(this.exports.memory.buffer, this.asked, ASKED_BYTES);
     [rate, PROFILES.indexOf(profile), spacing].forEach((value, place) => view.setUint32(4 * place, value, true));
     view.setBigUint64(16, nameSeed, true);
@@ -83,7 +84,8 @@ export class Session {
     try {
       return this.withBytes(source, (at, count) =>
         this.withBytes(tape, (tapeAt, tapeCount) =>
-          this.exports.session_open(handle, at, count, tapeAt, tapeCount, BigInt(this.asked))));
+          this.withBytes(new TextEncoder().encode(quirks), (listAt, listCount) =>
+            this.exports.session_open(handle, at, count, tapeAt, tapeCount, listAt, listCount, BigInt(this.asked)))));
     } catch (error) {
       if (!(error instanceof OutOfMemory)) throw error;
       this.close();

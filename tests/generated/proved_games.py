@@ -1,6 +1,7 @@
 """Ten small games, most with a planted fault: at an edge, by a wrap, below 0, in the stack, past a table, on the screen, in a score of
-two bytes, with the timer, in a sum, and by a screen that keeps its size. `prove` answers their properties, and so does a search over all
-states of the machine of tests/trace/emulator.py, which goes on until no state is new: what it never meets is never met.
+two bytes, with the timer, in a sum, and by a screen that keeps its size. With them goes examples/road.asm. `prove` answers their
+properties, and so does a search over all states of the machine of tests/trace/emulator.py, which goes on until no state is new: what it
+never meets is never met.
 
 A property is text for the program and a test of such a machine here. Each script is replayed by that machine, and by `run --keys`: the
 property is broken at its step and at no earlier one. What is put right in a game is never broken.
@@ -11,6 +12,7 @@ import pathlib
 import tempfile
 
 PROGRAMS = pathlib.Path(__file__).with_name("proved_programs.py")
+EXAMPLE = pathlib.Path(__file__).parents[2] / "examples" / "road.asm"
 RATE = 10
 TAPE = "3b5a91c7042fe866"
 
@@ -227,6 +229,9 @@ DONE:   LOW
 LOST:   JP LOST
 """, lambda m, at: m.pc == at["MENU"] and m.high, lambda m, at: m.pc == at["MENU"],
      lambda m, at: m.high and m.pc in (at["MENU"], at["PLAY"]), lambda m, at: m.pc == at["LOST"], lambda m, at: m.pc == at["LOST"])
+
+game("road", (4, 6), EXAMPLE.read_text(encoding="utf-8"), lambda m, at: m.v[0] > 7, lambda m, at: m.pc == at["LOOP"] and m.v[1] > 3,
+     lambda m, at: m.pc == at["OVER"], lambda m, at: m.pc == at["TRAP"] + 4 and m.v[1] >= 3 and m.v[0] == 5)
 
 
 def loaded():

@@ -2,7 +2,7 @@
 import subprocess
 from dataclasses import dataclass
 
-# No run takes as long.
+# No run takes as long, where nothing else is said.
 SECONDS = 120
 
 
@@ -20,10 +20,11 @@ class Program:
     """A built program."""
 
     file: str
+    seconds: float = SECONDS
 
     def run(self, arguments, stdin=b"", folder=None):
         """A run with these arguments, in that folder."""
         ran = subprocess.run(
-            [self.file, *arguments], cwd=folder, input=stdin, capture_output=True, timeout=SECONDS, check=False
+            [self.file, *arguments], cwd=folder, input=stdin, capture_output=True, timeout=self.seconds, check=False
         )
         return Ran(ran.returncode, ran.stdout, ran.stderr)

@@ -595,7 +595,7 @@ fn allow_argument<'a>(alloc: Global) -> Arg<'a>
         alloc,
         "allow",
         "CODES",
-        "The warnings that are not printed, W1 to W8 with commas between them [default: none]",
+        "The warnings that are not printed, W1 to W8 and P1 to P6 with commas between them [default: none]",
     )
 }
 

@@ -603,7 +603,7 @@ impl Processor {
 
     /// Draws a sprite of as many rows as its bytes tell, and sets VF where it covers a pixel that
     /// was lit.
-    #[inline(never)]
+    #[inline(always)]
     pub(crate) fn draw(&mut self, x: u8, y: u8, sprite: &[u8])
         ensures { (n : ℕ) → n < 16
             → length sprite.now ≡ sprite_bytes (has_wide_sixteen self.old) n

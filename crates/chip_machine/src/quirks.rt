@@ -248,21 +248,21 @@ impl Quirks {
         ensures { result ≡ choices_asked (option_copied list.entry) self }
     {
         match list {
-            Some(list) => self.with_choices(list),
+            Some(list) => self.with_choices(list.as_bytes()),
             None => Some(self),
         }
     }
 
     /// These quirks but for the choices of a list, which has commas between them. `None` where a
     /// text between two commas is no choice, or a quirk stands there twice.
-    pub fn with_choices(self, list: &str) -> Option<Quirks>
+    pub fn with_choices(self, list: &[u8]) -> Option<Quirks>
         ensures { result ≡ with_choices list.now self }
     {
         let mut chosen = Some(Chosen {
             quirks: self,
             taken: 0,
         });
-        let mut rest = list.as_bytes();
+        let mut rest = list;
         loop {
             let (part, more) = first_part(rest);
             chosen = with_choice(chosen, Choice::from_name(part));

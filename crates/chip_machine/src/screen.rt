@@ -164,8 +164,24 @@ fn lower(rows: &mut [u128], n: usize)
     darken(&mut rows[..n]);
 }
 
-/// Moves the columns of each row right by `n`.
+/// Moves the columns of each row right by `n`. The same call stands twice, since a shift by a
+/// constant, as the usual four, is faster.
 fn to_the_right(rows: &mut [u128], n: usize)
+    requires { n < 128 }
+    ensures bits { (row : ℕ) → slice_index rows.old row < 2 ^ 128 }
+    ensures moved { (row : ℕ) → row < length rows.old
+        → slice_index rows.new row ≡ slice_index rows.old row / 2 ^ n }
+{
+    if n == 4 {
+        shift_right(rows, 4);
+    } else {
+        shift_right(rows, n);
+    }
+}
+
+/// Shifts each row right by `n`.
+#[inline(always)]
+fn shift_right(rows: &mut [u128], n: usize)
     requires { n < 128 }
     ensures bits { (row : ℕ) → slice_index rows.old row < 2 ^ 128 }
     ensures moved { (row : ℕ) → row < length rows.old
@@ -176,8 +192,22 @@ fn to_the_right(rows: &mut [u128], n: usize)
     }
 }
 
-/// Moves the columns of each row left by `n`.
+/// Moves the columns of each row left by `n`, as `to_the_right`.
 fn to_the_left(rows: &mut [u128], n: usize)
+    requires { n < 128 }
+    ensures { (row : ℕ) → row < length rows.old
+        → slice_index rows.new row ≡ slice_index rows.old row * 2 ^ n % 2 ^ 128 }
+{
+    if n == 4 {
+        shift_left(rows, 4);
+    } else {
+        shift_left(rows, n);
+    }
+}
+
+/// Shifts each row left by `n`.
+#[inline(always)]
+fn shift_left(rows: &mut [u128], n: usize)
     requires { n < 128 }
     ensures { (row : ℕ) → row < length rows.old
         → slice_index rows.new row ≡ slice_index rows.old row * 2 ^ n % 2 ^ 128 }
@@ -264,7 +294,7 @@ fn toggle_all_lines(rows: &mut [u128], wraps: bool, high: bool, x: u8, y: u8, sp
 
 /// Turns each pixel that a clipped sprite covers, and says whether one of them was lit. The same
 /// call stands twice, since each is compiled for its own width.
-#[inline(always)]
+#[inline(never)]
 fn toggle_clipped(rows: &mut [u128], high: bool, x: u8, y: u8, sprite: &[u8]) -> bool
     requires { length rows.old ≡ 64 }
     ensures turned { (row column : ℕ) → row < 64 → column < 128

@@ -19,7 +19,8 @@ use Rattle.chip_properties.specs.declared.limits.TheConstants.{MOST_COMPARISONS,
 use Rattle.chip_properties.specs.declared.separator.Separator.{Separator}
 use Rattle.chip_properties.specs.declared.separator.Separator.TheVariants.{Place, And, Or, Relation as relation, Plus, Times, Comma}
 use Rattle.chip_properties.specs.Words.{is_property_word, item_of_word, kind_of_word}
-use Rattle.chip_properties.specs.computed.Separated.{separates, level_after, count_before, before_first, from_first, after_first, tail_of, ended, enclosed}
+use Rattle.chip_properties.specs.Nesting.{level_after}
+use Rattle.chip_properties.specs.computed.Separated.{separates, count_before, before_first, from_first, after_first, tail_of, ended, enclosed}
 use Rattle.chip_properties.specs.computed.Reading.{natural, natural_of, number_in, if_below, number_below_in, enclosed_number, value_in, point_in, pixel_in, byte_in, item_in, alone_in, times_in, addend_in}
 use Rattle.chip_properties.specs.Language.{IsNumber, IsFree, IsValue, one_token, in_parentheses, IsItem, named, a_byte, a_pixel}
 

@@ -15,7 +15,8 @@ use Rattle.chip_properties.specs.declared.fault.PropertyFault.{PropertyFault}
 use Rattle.chip_properties.specs.declared.stated.Stated.{Stated}
 use Rattle.chip_properties.specs.SeenProperty.{SeenCondition, SeenProperty, seen_property}
 use Rattle.chip_properties.specs.Words.{kind_of_word}
-use Rattle.chip_properties.specs.computed.Separated.{is_deep, before_first, from_first}
+use Rattle.chip_properties.specs.Nesting.{is_deep}
+use Rattle.chip_properties.specs.computed.Separated.{before_first, from_first}
 use Rattle.chip_properties.specs.computed.Reading.{if_below, value_in, condition_in, here_in, at_in, place_in, no_condition, is_always, is_can, given_in, property_in, kind_in_front, of_kind, begun_by, stated_in}
 use Rattle.chip_properties.specs.Language.{IsValue, IsCondition, IsPlace, nowhere, at_here, at_address, IsGiven, a_condition, no_condition as without_condition, is_wanted, IsProperty, IsStated, with_kind, without}
 use Rattle.chip_properties.proofs.Sound.{nothing_is, Then, then_some, Mapped, mapped_some, if_some, unless_some, word_is, below_is, value_sound}
@@ -87,6 +88,7 @@ property_sound symbols here kind ts p h =
       place = place_sound symbols here back at.found at.is;
       wanted = wanted_is kind;
       answered = not_can kind answered.0;
+      shallow = shallow.0;
     })
 
 -- ---- kinds

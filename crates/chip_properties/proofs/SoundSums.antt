@@ -1,5 +1,5 @@
 -- What sums, comparisons and conditions are found to be is what they are by the grammar.
-use Rattle.std.proofs.Common.{◌≡◌, ◌⊎◌, inl, inr, ℕ, zero, suc, ◌+◌, ◌^◌, ◌<◌, ◌≤◌, ◌==◌, Bool, true, false, not, if◌then◌else◌, List, [], ◌∷◌, ◌++◌, length, take, drop, Option, Some, None, refl, sym, ◌∙◌, ap, append_assoc, add-one, arith}
+use Rattle.std.proofs.Common.{◌≡◌, ◌⊎◌, inl, inr, ℕ, zero, suc, ◌+◌, ◌^◌, ◌<◌, ◌≤◌, ◌==◌, Bool, true, false, not, if◌then◌else◌, List, [], ◌∷◌, ◌++◌, length, take, drop, Option, Some, None, refl, sym, subst, ◌∙◌, ap, append_assoc, add-one, arith}
 use Rattle.std.specs.Prelude.{◌&&◌, codes, fold, nat_lt, option_map, option_and_then}
 use Rattle.std.proofs.lemmas.Bool.Decides.{nat_tests}
 use Rattle.std.proofs.lemmas.List.{append-nil, length-append, take-append-drop}
@@ -14,9 +14,11 @@ use Rattle.chip_properties.specs.declared.limits.TheConstants.{MOST_COMPARISONS,
 use Rattle.chip_properties.specs.declared.separator.Separator.{Separator}
 use Rattle.chip_properties.specs.declared.separator.Separator.TheVariants.{And, Or, Relation as relation, Plus, Times}
 use Rattle.chip_properties.specs.SeenProperty.{SeenSum, SeenComparison, SeenCondition}
-use Rattle.chip_properties.specs.computed.Separated.{separates, level_after, before_first, from_first, after_first, with_front, pieces}
+use Rattle.chip_properties.specs.Nesting.{level_after}
+use Rattle.chip_properties.specs.computed.Separated.{separates, count_before, before_first, from_first, after_first, tail_of, with_front, pieces, pieces_in}
 use Rattle.chip_properties.specs.computed.Reading.{is_item, item_in, value_in, alone_in, times_in, addend_in, with_addend, added_in, summed, no_sum, sum_in, less_in, greater_in, relation_in, compared, comparison_in, found_with, comparisons_in, condition_in, has_no_or, joint}
 use Rattle.chip_properties.specs.Language.{IsValue, IsItem, Addend, a_number, times, IsAddend, a_value, an_item, a_product, joined, AreEach, with, total, IsSum, signs_of, IsComparison, word_between, IsCondition}
+use Rattle.chip_properties.proofs.Pieces.{pieces_split}
 use Rattle.chip_properties.proofs.Sound.{nothing_is, Then, then_some, Mapped, mapped_some, if_some, unless_some, sign_is, word_is, value_sound, item_sound, alone_is, Around, around}
 
 pub some_is : {A : Type 0} (x y : A) → Some x ≡ Some y → x ≡ y
@@ -247,9 +249,41 @@ between_is : (is_all : Bool) (t : Lexeme) → separates (joint is_all) t ≡ tru
 between_is true t h = word_is (codes "AND") t h
 between_is false t h = word_is (codes "OR") t h
 
-condition_of : (symbols : Symbols) (ts : List Lexeme) (is_all : Bool) (cs : List SeenComparison) → comparisons_in symbols (joint is_all) ts ≡ Some cs
-    → IsCondition symbols ts (record { is_all = is_all; comparisons = cs })
-condition_of symbols ts is_all cs is =
+-- one comparison alone, of which all hold
+counted_all : (s : Separator) (depth : ℕ) (ts : List Lexeme) → tail_of (drop (count_before s depth ts) ts) ≡ None → count_before s depth ts ≡ length ts
+counted_all s depth [] h = refl
+counted_all s depth (t ∷ ts) h = by_test (depth == 0 && separates s t) refl (counted_all s (level_after depth t) ts)
+  where
+    by_test : (b : Bool) → (depth == 0 && separates s t) ≡ b
+        → (tail_of (drop (count_before s (level_after depth t) ts) ts) ≡ None → count_before s (level_after depth t) ts ≡ length ts)
+        → count_before s depth (t ∷ ts) ≡ length (t ∷ ts)
+    by_test true e again = let at = rw e at h in absurd (nothing_is ts (sym at))
+    by_test false e again =
+        let n = count_before s (level_after depth t) ts in
+        let is : count_before s depth (t ∷ ts) ≡ suc n = rw e (add-one n) in
+        let at = subst (λ k. tail_of (drop k (t ∷ ts)) ≡ None) is h in
+        is ∙ ap suc (again at)
+
+same_count : (n m : ℕ) → n ≡ m → (n == m) ≡ true
+same_count n m h = grind (arith, nat_tests)
+
+no_pieces : (s : Separator) (ts : List Lexeme) → pieces s 0 ts ≡ [] → ⊥
+no_pieces s ts h = let some = sym (pieces_split s ts) ∙ h in cc
+
+alone_all : (ts : List Lexeme) (is_all : Bool) → has_no_or ts ≡ is_all → (first : List Lexeme) (more : List (List Lexeme))
+    → pieces (joint is_all) 0 ts ≡ first ∷ more → more ≡ [] → is_all ≡ true
+alone_all ts true e first more are none = refl
+alone_all ts false e first more are none = by_rest (after_first Or ts) refl
+  where
+    by_rest : (o : Option (List Lexeme)) → after_first Or ts ≡ o → false ≡ true
+    by_rest None h = sym e ∙ same_count (count_before Or 0 ts) (length ts) (counted_all Or 0 ts h)
+    by_rest (Some back) h =
+        let cut : before_first Or ts ∷ pieces Or 0 back ≡ first ∷ more = ap (λ o. before_first Or ts ∷ pieces_in Or o) (sym h) ∙ sym (pieces_split Or ts) ∙ are in
+        absurd (no_pieces Or back (ap (drop 1) cut ∙ none))
+
+condition_of : (symbols : Symbols) (ts : List Lexeme) (is_all : Bool) (cs : List SeenComparison) → has_no_or ts ≡ is_all
+    → comparisons_in symbols (joint is_all) ts ≡ Some cs → IsCondition symbols ts (record { is_all = is_all; comparisons = cs })
+condition_of symbols ts is_all cs all is =
     let cut = parts (joint is_all) (word_between is_all) (between_is is_all) ts 0 in
     let at = compared_is symbols [] cs (cut.first ∷ cut.more) (rw cut.are at is) in
     record {
@@ -258,10 +292,11 @@ condition_of symbols ts is_all cs is =
       tokens = cut.tokens;
       each = rw at.all at.each;
       few = rw at.all (omega (arith, at.few (omega arith)));
+      alone = alone_all ts is_all all cut.first cut.more cut.are;
     }
 
 pub condition_sound : (symbols : Symbols) (ts : List Lexeme) (c : SeenCondition) → condition_in symbols ts ≡ Some c → IsCondition symbols ts c
 condition_sound symbols ts c h =
     let is_all = has_no_or ts in
     let so = mapped_some (comparisons_in symbols (joint is_all) ts) (λ cs. record { is_all = is_all; comparisons = cs }) c h in
-    rw (← so.gives) (condition_of symbols ts is_all so.found so.is)
+    rw (← so.gives) (condition_of symbols ts is_all so.found refl so.is)

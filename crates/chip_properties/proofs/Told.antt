@@ -1,6 +1,6 @@
 -- What is read line by line.
-use Rattle.std.proofs.Common.{◌≡◌, ℕ, zero, suc, ◌+◌, ◌<◌, ◌≤◌, ◌==◌, Bool, true, false, if◌then◌else◌, List, [], ◌∷◌, ◌++◌, length, drop, Option, Some, None, Result, Ok, Err, IfOk, IfErr, All, inl, inr, ◌⊎◌, refl, sym, subst, ◌∙◌, ap, arith}
-use Rattle.std.specs.Prelude.{◌||◌, ◌-◌, nat_eq, slice_get}
+use Rattle.std.proofs.Common.{◌≡◌, ℕ, zero, suc, ◌+◌, ◌<◌, ◌≤◌, ◌==◌, Bool, true, false, if◌then◌else◌, List, [], ◌∷◌, ◌++◌, length, length-append, take, drop, Option, Some, None, Result, Ok, Err, IfOk, IfErr, All, inl, inr, ◌⊎◌, refl, sym, subst, ◌∙◌, ap, add-one, arith}
+use Rattle.std.specs.Prelude.{◌||◌, ◌-◌, filter_map, nat_eq, slice_get}
 use Rattle.std.proofs.lemmas.Bool.Decides.{nat_tests}
 use Rattle.std.specs.List.{list_any}
 use Rattle.std.proofs.lemmas.List.Folds.{list_any-append}
@@ -13,7 +13,9 @@ use Rattle.chip_asm.specs.Program.{symbols_of}
 use Rattle.chip_properties.specs.declared.fault.PropertyFault.{PropertyFault}
 use Rattle.chip_properties.specs.declared.properties.Properties.{Properties}
 use Rattle.chip_properties.specs.declared.stated.Stated.{Stated}
-use Rattle.chip_properties.specs.Lines.{IsStatedOn, StandsAt, StandsOn, States, property_start}
+use Rattle.chip_properties.specs.declared.limits.TheConstants.{MOST_PROPERTIES}
+use Rattle.chip_properties.specs.Language.{StateNothing}
+use Rattle.chip_properties.specs.Lines.{IsStatedOn, StandsAt, StandsOn, States, count_in, property_start}
 use Rattle.chip_properties.specs.Properties.{AreProperties, is_told}
 use Rattle.chip_properties.specs.SeenProperty.{seen_property}
 use Rattle.chip_properties.specs.computed.Reading.{stated_in}
@@ -21,6 +23,7 @@ use Rattle.chip_properties.specs.inner.Told.{IsAnswer, IsRead, nothing, a_proper
 use Rattle.chip_properties.proofs.Sound.{nothing_is}
 use Rattle.chip_properties.proofs.SoundSums.{some_is}
 use Rattle.chip_properties.proofs.SoundProperties.{found, stated_sound}
+use Rattle.chip_properties.proofs.CompleteProperties.{nothing_stated}
 
 states_there : (lines : List (List ℕ)) (number n start : ℕ) (f : LineFacts) → line_at lines number ≡ Some f → property_start f ≡ Some start → n ≡ number
     → States lines n start f
@@ -34,10 +37,30 @@ IsStatedBy lines number start address text s =
     (s.line ≡ number)
     × (stated_in (values_of (symbols_of lines)) (Some address) None (lexemes_of (drop start text)) ≡ Some (found s.kind (seen_property s.property)))
 
+-- the tokens state nothing, or enough lines before them do
+abbrev pub IsUnread : List (List ℕ) → (number start address : ℕ) → List ℕ → Type 0
+IsUnread lines number start address text =
+    StateNothing (values_of (symbols_of lines)) (Some address) (lexemes_of (drop start text)) ⊎ (MOST_PROPERTIES ≤ count_in lines (number - 1))
+
+-- a fault at a line that is there
+faulty : (lines : List (List ℕ)) (number start : ℕ) (f : LineFacts) (fault : PropertyFault) → line_at lines number ≡ Some f → property_start f ≡ Some start
+    → StandsAt number f.text fault → IsUnread lines number start f.address f.text → StandsOn lines fault
+faulty lines number start f fault at begins k unread = record {
+  start = start;
+  facts = f;
+  on = states_there lines number fault.line start f at begins k.there;
+  at = record { there = refl; rises = k.rises; inside = k.inside };
+  unread = rw k.there unread;
+}
+
+abbrev pub FoundNothing : List (List ℕ) → (start address : ℕ) → List ℕ → Type 0
+FoundNothing lines start address text =
+    stated_in (values_of (symbols_of lines)) (Some address) None (lexemes_of (drop start text)) ≡ None
+
 answered_there : (lines : List (List ℕ)) (number start : ℕ) (f : LineFacts) (r : Answer) → line_at lines number ≡ Some f → property_start f ≡ Some start
     → IfOk r (λ read. IfOk read (IsStatedBy lines number start f.address f.text)) → IfOk r (λ read. IfErr read (StandsAt number f.text))
-    → IfOk r (IsAnswer lines number)
-answered_there lines number start f (Ok (Ok s)) at begins h k = (
+    → IfOk r (λ read. IfErr read (λ fault. FoundNothing lines start f.address f.text)) → IfOk r (IsAnswer lines number)
+answered_there lines number start f (Ok (Ok s)) at begins h k none = (
   h.0,
   record {
     start = start;
@@ -46,38 +69,26 @@ answered_there lines number start f (Ok (Ok s)) at begins h k = (
     states = stated_sound (values_of (symbols_of lines)) (Some f.address) (lexemes_of (drop start f.text)) s.kind (seen_property s.property) h.1;
   },
 )
-answered_there lines number start f (Ok (Err fault)) at begins h k = (
-  k.there,
-  record {
-    start = start;
-    facts = f;
-    on = states_there lines number fault.line start f at begins k.there;
-    at = record { there = refl; rises = k.rises; inside = k.inside };
-  },
-)
-answered_there lines number start f (Err e) at begins h k = tt
+answered_there lines number start f (Ok (Err fault)) at begins h k none =
+    let unread = nothing_stated (values_of (symbols_of lines)) (Some f.address) (lexemes_of (drop start f.text)) none in
+    (k.there, faulty lines number start f fault at begins k (inl unread))
+answered_there lines number start f (Err e) at begins h k none = tt
 
 pub answered : (lines : List (List ℕ)) (number start : ℕ) (f : LineFacts) (r : Answer) (address : ℕ) (text : List ℕ) → line_at lines number ≡ Some f
     → property_start f ≡ Some start → address ≡ f.address → text ≡ f.text
     → IfOk r (λ read. IfOk read (IsStatedBy lines number start address text)) → IfOk r (λ read. IfErr read (StandsAt number text))
-    → IfOk r (IsAnswer lines number)
-answered lines number start f r address text at begins d e h k =
+    → IfOk r (λ read. IfErr read (λ fault. FoundNothing lines start address text)) → IfOk r (IsAnswer lines number)
+answered lines number start f r address text at begins d e h k none =
     answered_there lines number start f r at begins
     (subst (λ a. IfOk r (λ read. IfOk read (IsStatedBy lines number start a f.text))) d
     (subst (λ t. IfOk r (λ read. IfOk read (IsStatedBy lines number start address t))) e h))
     (subst (λ t. IfOk r (λ read. IfErr read (StandsAt number t))) e k)
+    (subst (λ a. IfOk r (λ read. IfErr read (λ fault. FoundNothing lines start a f.text))) d
+    (subst (λ t. IfOk r (λ read. IfErr read (λ fault. FoundNothing lines start address t))) e none))
 
 pub refused : (lines : List (List ℕ)) (number start : ℕ) (f : LineFacts) (fault : PropertyFault) → line_at lines number ≡ Some f → property_start f ≡ Some start
-    → StandsAt number f.text fault → IsAnswer lines number (Err fault)
-refused lines number start f fault at begins k = (
-  k.there,
-  record {
-    start = start;
-    facts = f;
-    on = states_there lines number fault.line start f at begins k.there;
-    at = record { there = refl; rises = k.rises; inside = k.inside };
-  },
-)
+    → StandsAt number f.text fault → MOST_PROPERTIES ≤ count_in lines (number - 1) → IsAnswer lines number (Err fault)
+refused lines number start f fault at begins k many = (k.there, faulty lines number start f fault at begins k (inr many))
 
 -- a line that isn't there, or states nothing
 pub no_line : (lines : List (List ℕ)) (number : ℕ) → None ≡ line_at lines number → (start : ℕ) (f : LineFacts) → States lines number start f → ⊥
@@ -156,6 +167,70 @@ pub record UpTo (lines : List (List ℕ)) (count : ℕ) (found : Properties) : T
   pub stated : All (IsStatedOn lines) found.stated.items
   pub faults : All (StandsOn lines) found.faults.items
   pub told : (n start : ℕ) (f : LineFacts) → n ≤ count → States lines n start f → Numbered found.stated.items found.faults.items n
+  pub counted : length found.stated.items + length found.faults.items ≡ count_in lines count
+
+-- ---- how many are told
+
+abbrev pub one_if : Option ℕ → ℕ
+one_if None = 0
+one_if (Some start) = 1
+
+abbrev pub one_on : Option LineFacts → ℕ
+one_on None = 0
+one_on (Some f) = one_if (property_start f)
+
+one_put : (f : LineFacts) (more : List LineFacts) (o : Option ℕ) → property_start f ≡ o
+    → length (filter_map property_start (f ∷ more)) ≡ one_if o + length (filter_map property_start more)
+one_put f more None e = rw e (omega arith)
+one_put f more (Some start) e = rw e (omega arith)
+
+taken_more : (facts : List LineFacts) (n : ℕ) → length (filter_map property_start (take (suc n) facts))
+    ≡ length (filter_map property_start (take n facts)) + one_on (slice_get facts n)
+taken_more [] zero = refl
+taken_more [] (suc n) = refl
+taken_more (f ∷ facts) zero = one_put f [] (property_start f) refl ∙ omega arith
+taken_more (f ∷ facts) (suc n) =
+    let first = one_put f (take (suc n) facts) (property_start f) refl in
+    let again = one_put f (take n facts) (property_start f) refl in
+    omega (arith, first, again, taken_more facts n)
+
+line_is : (lines : List (List ℕ)) (count : ℕ) → line_at lines (count + 1) ≡ slice_get (line_facts lines) count
+line_is lines count = rw (nonzero count, add-sub count) refl
+  where
+    nonzero : (n : ℕ) → nat_eq (n + 1) 0 ≡ false
+    nonzero n = grind (arith, nat_tests)
+
+    add-sub : (n : ℕ) → n + 1 - 1 ≡ n
+    add-sub n = omega arith
+
+count_more : (lines : List (List ℕ)) (count : ℕ) → count_in lines (count + 1) ≡ count_in lines count + one_on (line_at lines (count + 1))
+count_more lines count = ap (count_in lines) (add-one count) ∙ taken_more (line_facts lines) count ∙ ap (λ o. count_in lines count + one_on o) (sym (line_is lines count))
+
+one_there : (lines : List (List ℕ)) (number start : ℕ) (f : LineFacts) → States lines number start f → one_on (line_at lines number) ≡ 1
+one_there lines number start f on = rw (on.there, on.begins) refl
+
+none_there : (lines : List (List ℕ)) (number : ℕ) → ((start : ℕ) (f : LineFacts) → States lines number start f → ⊥) → one_on (line_at lines number) ≡ 0
+none_there lines number none = by_line (line_at lines number) refl
+  where
+    by_line : (o : Option LineFacts) → line_at lines number ≡ o → one_on o ≡ 0
+    by_line None e = refl
+    by_line (Some f) e = by_start (property_start f) refl
+      where
+        by_start : (o : Option ℕ) → property_start f ≡ o → one_if o ≡ 0
+        by_start None h = refl
+        by_start (Some start) h = absurd (none start f (record { there = e; begins = h }))
+
+counted_now : (lines : List (List ℕ)) (number : ℕ) (old new : Properties) → IsRead lines number old new
+    → length new.stated.items + length new.faults.items ≡ length old.stated.items + length old.faults.items + one_on (line_at lines number)
+counted_now lines number old new (nothing none s f) = rw (s, f) (omega (arith, none_there lines number none))
+counted_now lines number old new (a_property {s = p} there is s f) =
+    let one = one_there lines p.line is.start is.facts is.on in
+    let at = rw there at one in
+    rw (s, f) (omega (arith, at, length-append old.stated.items (p ∷ [])))
+counted_now lines number old new (a_fault {fault = p} there is s f) =
+    let one = one_there lines p.line is.start is.facts is.on in
+    let at = rw there at one in
+    rw (s, f) (omega (arith, at, length-append old.faults.items (p ∷ [])))
 
 stated_on : (lines : List (List ℕ)) (number : ℕ) (old new : Properties) → IsRead lines number old new → All (IsStatedOn lines) old.stated.items
     → All (IsStatedOn lines) new.stated.items
@@ -178,6 +253,7 @@ up_to_more lines count old new so more = record {
     | inl w ↦ told_before lines (count + 1) old new n more (so.told n start f w on)
     | inr w ↦ subst (λ k. Numbered new.stated.items new.faults.items k) (sym w) (told_now lines (count + 1) old new more start f (subst (λ k. States lines k start f) w on))
   ];
+  counted = omega (arith, counted_now lines (count + 1) old new more, so.counted, count_more lines count);
 }
 
 pub none_yet : (lines : List (List ℕ)) (new : Properties) → new.stated.items ≡ [] → new.faults.items ≡ [] → UpTo lines 0 new
@@ -185,6 +261,7 @@ none_yet lines new s f = record {
   stated = rw s (all_none (IsStatedOn lines));
   faults = rw f (all_none (StandsOn lines));
   told = λ n start g low on. absurd (no_line_0 lines n start g low on);
+  counted = rw (s, f) refl;
 }
   where
     no_line_0 : (lines : List (List ℕ)) (n start : ℕ) (f : LineFacts) → n ≤ 0 → States lines n start f → ⊥

@@ -27,6 +27,7 @@ use Rattle.chip_explore.specs.declared.property.Relation.TheVariants.{Equal, Une
 use Rattle.chip_properties.specs.declared.limits.TheConstants.{MOST_COMPARISONS, MOST_TERMS, SCREEN_WIDTH, SCREEN_HEIGHT}
 use Rattle.chip_properties.specs.declared.stated.Kind.{Kind}
 use Rattle.chip_properties.specs.declared.stated.Kind.TheVariants.{Always, Can}
+use Rattle.chip_properties.specs.Nesting.{is_deep}
 use Rattle.chip_properties.specs.SeenProperty.{SeenSum, SeenComparison, SeenCondition, SeenProperty}
 use Rattle.chip_properties.specs.Words.{is_property_word, item_of_word, kind_of_word}
 
@@ -127,13 +128,14 @@ pub record IsComparison (symbols : Symbols) (ts : List Lexeme) (c : SeenComparis
 abbrev pub word_between : Bool → Lexeme
 word_between is_all = Word (if is_all then codes "AND" else codes "OR")
 
--- comparisons with one word between them, at most so many
+-- comparisons with one word between them, at most so many; of one comparison alone all hold
 pub record IsCondition (symbols : Symbols) (ts : List Lexeme) (c : SeenCondition) : Type 0 where
   pub first : List Lexeme
   pub more : List (List Lexeme)
   pub tokens : ts ≡ joined (word_between c.is_all) first more
   pub each : AreEach (IsComparison symbols) (first ∷ more) c.comparisons
   pub few : length c.comparisons ≤ MOST_COMPARISONS
+  pub alone : more ≡ [] → c.is_all ≡ true
 
 -- the place of a property: none, that of its line, or an address
 pub data IsPlace : Symbols → (here : Option ℕ) → List Lexeme → Option ℕ → Type 0 where
@@ -158,7 +160,8 @@ abbrev pub is_wanted : Kind → Bool
 is_wanted Always = false
 is_wanted kind = true
 
--- what a property of a kind states, without the word for its kind; none of the kind `can` is read
+-- What a property of a kind states, without the word for its kind. At most OPEN_PARENTHESES
+-- parentheses and brackets are open at once. None of the kind `can` is read.
 pub record IsProperty (symbols : Symbols) (here : Option ℕ) (kind : Kind) (ts : List Lexeme)
     (p : SeenProperty) : Type 0 where
   pub front : List Lexeme
@@ -168,6 +171,7 @@ pub record IsProperty (symbols : Symbols) (here : Option ℕ) (kind : Kind) (ts 
   pub place : IsPlace symbols here back p.place
   pub wanted : p.wanted ≡ is_wanted kind
   pub answered : kind ≡ Can → ⊥
+  pub shallow : is_deep 0 ts ≡ false
 
 -- what a property states: of the kind with which it begins, or else `always`
 pub data IsStated : Symbols → (here : Option ℕ) → List Lexeme → Kind → SeenProperty → Type 0 where
@@ -176,3 +180,7 @@ pub data IsStated : Symbols → (here : Option ℕ) → List Lexeme → Kind →
       → IsStated symbols here (Word w ∷ ts) kind p
   without : {symbols : Symbols} {here : Option ℕ} {ts : List Lexeme} {p : SeenProperty}
       → IsProperty symbols here Always ts p → IsStated symbols here ts Always p
+
+-- the tokens state nothing
+abbrev pub StateNothing : Symbols → (here : Option ℕ) → List Lexeme → Type 0
+StateNothing symbols here ts = (kind : Kind) (p : SeenProperty) → IsStated symbols here ts kind p → ⊥

@@ -3,6 +3,7 @@
 --     Words           the words of the language
 --     SeenProperty    properties without where their parts lie in memory
 --     Language        which tokens are a property, and what it states
+--     Nesting         parentheses and brackets in one another
 --     Lines           which lines state properties
 --     Properties      the properties of a source
 --     Faults          the numbers of faults
@@ -12,6 +13,7 @@
 pub mod Faults
 pub mod Language
 pub mod Lines
+pub mod Nesting
 pub mod Properties
 pub mod SeenProperty
 pub mod Words

@@ -1,14 +1,15 @@
 -- Which lines state properties (own).
-use Rattle.std.specs.Prelude.{◌≡◌, ◌≤◌, ℕ, true, length, ◌+◌, ◌==◌, ◌&&◌, if◌then◌else◌, List, [], ◌∷◌, Option, Some, None, drop, filter_map, option_map, reverse}
+use Rattle.std.specs.Prelude.{◌≡◌, ◌≤◌, ◌⊎◌, ℕ, true, length, ◌+◌, ◌-◌, ◌==◌, ◌&&◌, if◌then◌else◌, List, [], ◌∷◌, Option, Some, None, drop, filter_map, option_map, reverse, take}
 use Rattle.std.specs.List.{prefix_len}
 use Rattle.chip_lang.specs.Token.{is_blank}
 use Rattle.chip_lang.specs.Line.{lexemes_of}
-use Rattle.chip_asm.specs.LineViews.{LineFacts, line_at}
+use Rattle.chip_asm.specs.LineViews.{LineFacts, line_at, line_facts}
 use Rattle.chip_asm.specs.Names.{values_of}
 use Rattle.chip_asm.specs.Program.{symbols_of}
 use Rattle.chip_properties.specs.declared.fault.PropertyFault.{PropertyFault}
+use Rattle.chip_properties.specs.declared.limits.TheConstants.{MOST_PROPERTIES}
 use Rattle.chip_properties.specs.declared.stated.Stated.{Stated}
-use Rattle.chip_properties.specs.Language.{IsStated}
+use Rattle.chip_properties.specs.Language.{IsStated, StateNothing}
 use Rattle.chip_properties.specs.SeenProperty.{seen_property}
 use Rattle.chip_lang.specs.declared.lexeme.Lexeme.{Lexeme}
 use Rattle.chip_lang.specs.declared.lexeme.Lexeme.TheVariants.{Word}
@@ -71,9 +72,16 @@ pub record StandsAt (number : ℕ) (line : List ℕ) (fault : PropertyFault) : T
   pub rises : fault.span.start ≤ fault.span.end
   pub inside : fault.span.end ≤ length line
 
--- a fault stands on a line of a source that states a property
+-- how many of the first lines of a source, so many, state a property
+abbrev pub count_in : List (List ℕ) → ℕ → ℕ
+count_in lines count = length (filter_map property_start (take count (line_facts lines)))
+
+-- A fault stands on a line of a source whose tokens state nothing by the names that have values there.
+-- Past so many properties also what states something has a fault.
 pub record StandsOn (lines : List (List ℕ)) (fault : PropertyFault) : Type 0 where
   pub start : ℕ
   pub facts : LineFacts
   pub on : States lines fault.line start facts
   pub at : StandsAt fault.line facts.text fault
+  pub unread : StateNothing (values_of (symbols_of lines)) (Some facts.address)
+      (lexemes_of (drop start facts.text)) ⊎ (MOST_PROPERTIES ≤ count_in lines (fault.line - 1))

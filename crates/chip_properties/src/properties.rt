@@ -1,14 +1,15 @@
 //! The properties of a source.
 
-ghost use Rattle.std.specs.Prelude.{◌≡◌, ◌≤◌, IfErr, IfOk, IfSome, None, OnOk, Some, drop, length};
+ghost use Rattle.std.specs.Prelude.{◌≡◌, ◌≤◌, ◌+◌, ◌-◌, IfErr, IfOk, IfSome, None, OnOk, Some, drop, false, length, nat_lt};
 ghost use Rattle.chip_lang.specs.Line.{lexemes_of};
 ghost use Rattle.chip_asm.specs.LineViews.{line_at};
 ghost use Rattle.chip_asm.specs.Names.{values_of};
 ghost use Rattle.chip_asm.specs.Program.{symbols_of};
 ghost use Rattle.chip_properties.specs.Language.{IsProperty};
-ghost use Rattle.chip_properties.specs.Lines.{StandsAt, property_start};
+ghost use Rattle.chip_properties.specs.declared.limits.TheConstants.{MOST_PROPERTIES};
+ghost use Rattle.chip_properties.specs.Lines.{StandsAt, count_in, property_start};
 ghost use Rattle.chip_properties.specs.Properties.{AreProperties};
-ghost use Rattle.chip_properties.specs.SeenProperty.{seen_property};
+ghost use Rattle.chip_properties.specs.SeenProperty.{SeenProperty, seen_property};
 ghost use Rattle.chip_properties.specs.computed.Reading.{stated_in};
 ghost use Rattle.chip_properties.specs.inner.Reads.{symbols_read};
 ghost use Rattle.chip_properties.specs.inner.Told.{IsAnswer, IsRead};
@@ -51,13 +52,18 @@ pub fn properties_of(alloc: Global, source: &Source) -> Result<Properties, Alloc
 }
 
 impl Properties {
-    /// How many lines were read.
-    fn count(&self) -> usize {
-        self.stated.len().saturating_add(self.faults.len())
+    /// Whether one more line is read as a property.
+    fn has_room(&self) -> bool
+        ensures { result ≡ nat_lt (length self.now.stated.items + length self.now.faults.items)
+            MOST_PROPERTIES }
+    {
+        self.stated.len().saturating_add(self.faults.len()) < MOST_PROPERTIES
     }
 
     /// Adds what the line of a number states, if it states something.
     fn read_line(&mut self, alloc: Global, source: &Source, number: usize) -> Result<(), AllocError>
+        requires { length self.old.stated.items + length self.old.faults.items
+            ≡ count_in source.now.lines (number - 1) }
         ensures { OnOk result (IsRead source.now.lines number self.old self.new) }
     {
         let Some(line) = source.line(number) else {
@@ -66,7 +72,7 @@ impl Properties {
         let Some(start) = property_start(&line) else {
             return Ok(());
         };
-        let has_room = self.count() < MOST_PROPERTIES;
+        let has_room = self.has_room();
         match property_on(alloc, source, number, &line, start, has_room)? {
             Ok(stated) => {
                 self.stated.reserve(1)?;
@@ -94,6 +100,7 @@ fn property_on(
     requires there { line_at source.now.lines number ≡ Some line.now }
     requires begins { property_start line.now ≡ Some start }
     requires within { start ≤ length line.now.text }
+    requires room { has_room ≡ false → MOST_PROPERTIES ≤ count_in source.now.lines (number - 1) }
     ensures { IfOk result (IsAnswer source.now.lines number) }
 {
     let reader = Reader {
@@ -138,6 +145,9 @@ pub fn property_of_text(
     ensures stated { IfOk result (λ read. IfOk read (λ s.
         IsProperty (values_of (symbols_of source.now.lines)) None kind (lexemes_of text.now)
         (seen_property s.property))) }
+    ensures refused { IfOk result (λ read. IfErr read (λ _. (p : SeenProperty)
+        → IsProperty (values_of (symbols_of source.now.lines)) None kind (lexemes_of text.now) p
+        → ⊥)) }
     ensures stands { IfOk result
         (λ read. IfErr read (λ fault. StandsAt 0 text.now fault)) }
 {

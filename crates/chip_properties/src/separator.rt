@@ -1,7 +1,8 @@
 //! What stands between the parts of a property.
 
 ghost use Rattle.std.specs.Prelude.{◌≡◌, ◌≤◌, ◌<◌, ◌+◌, ◌^◌, length};
-ghost use Rattle.chip_properties.specs.computed.Separated.{separates, count_before, is_deep, level_after};
+ghost use Rattle.chip_properties.specs.Nesting.{is_deep, level_after};
+ghost use Rattle.chip_properties.specs.computed.Separated.{count_before, separates};
 
 use chip_lang::limits::OPEN_PARENTHESES;
 use chip_lang::{Lexeme, is_sign_of, is_the};

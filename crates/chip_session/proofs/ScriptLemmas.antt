@@ -1,5 +1,6 @@
 -- The transcript of a script in two parts, and of a line that is cut off where it is too long.
 use Rattle.std.proofs.Common.{◌≡◌, ◌⊎◌, ℕ, ◌+◌, ◌-◌, ◌<◌, ◌≤◌, ◌==◌, ◌&&◌, Bool, true, false, cond, List, [], ◌∷◌, ◌++◌, length, take, refl, sym, ◌∙◌, ap, append_assoc, arith, None, Ok, Err, Result, IsOkAnd, inl, inr, ⊎_elim}
+use Rattle.std.specs.Result.{OnErr}
 use Rattle.std.specs.Str.Lines.{strip_carriage_return}
 use Rattle.std.proofs.lemmas.List.{append-nil, take_all, length-take}
 use Rattle.std.proofs.lemmas.Bool.{cases_lt, cond_below, cond_above, ne_eqb}
@@ -87,6 +88,11 @@ no_memory (inr q) h = absurd (h q.0)
 pub not_for_memory : {P Q R X : Type 0} {e m : X} → P ⊎ ((e ≡ m) × Q × R) → (e ≡ m → ⊥) → P
 not_for_memory (inl p) h = p
 not_for_memory (inr q) h = absurd (h q.0)
+
+-- what holds in any case holds where there is an error
+pub on_err : {A E P : Type 0} (r : Result A E) → P → OnErr r P
+on_err (Ok x) h = tt
+on_err (Err e) h = h
 
 -- a question that was answered
 pub ask_told : (r : Result (List ℕ) Refusal) (old new : List ℕ) → old ≡ [] → IsOkAnd r (λ bytes. new ≡ old ++ bytes) → new ≡ ask_reply r

@@ -1,5 +1,5 @@
 -- The reply to each line of a script, and the transcript of all (own).
-use Rattle.std.specs.Prelude.{ℕ, List, [], ◌∷◌, ◌++◌, Option, Some, None, Result, Ok, Err, codes}
+use Rattle.std.specs.Prelude.{◌≡◌, ◌⊎◌, ℕ, List, [], ◌∷◌, ◌++◌, Option, Some, None, Result, Ok, Err, codes}
 use Rattle.chip_session.specs.Session.{Text, Session, edited}
 use Rattle.chip_session.specs.Answers.{answer_to}
 use Rattle.chip_session.specs.Commands.{Command, blank, change, ask, command_of}
@@ -65,6 +65,10 @@ reply session line = command_reply session (command_of line)
 
 unfoldable pub after : Session → Text → Session
 after session line = command_after session (command_of line)
+
+-- where memory ran out at a line: the session is that before the line, or that after it
+abbrev pub IsBeforeOrAfter : Session → Text → Session → Type 0
+IsBeforeOrAfter session line next = (next ≡ session) ⊎ (next ≡ after session line)
 
 unfoldable pub refusal : Session → Text → Option Refused
 refusal session line = command_refusal session (command_of line)

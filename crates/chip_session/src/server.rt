@@ -3,7 +3,7 @@ ghost use Rattle.std.specs.Prelude.{◌≡◌, ◌≢◌, ℕ, List, take, ◌+�
 ghost use Rattle.std.specs.Str.Lines.{strip_carriage_return};
 ghost use Rattle.chip_asm.specs.Lines.{open_fault};
 ghost use Rattle.chip_session.specs.Session.{Session, session_of};
-ghost use Rattle.chip_session.specs.Transcript.{reply, after, refusal, refused, refused_code};
+ghost use Rattle.chip_session.specs.Transcript.{reply, after, refusal, refused, refused_code, IsBeforeOrAfter};
 ghost use Rattle.chip_session.specs.Writing.{Breaks, Writes};
 ghost use Rattle.chip_session.specs.Serving.{Served, Exchanges, Opens, UnlessOpened, reader_failures, writer_failures};
 ghost use Rattle.chip_session.specs.inner.Progress.{fault_of, failures_after, Says, Reached, Carries, Ended};
@@ -490,6 +490,8 @@ pub fn respond(
 ) -> Result<Option<Refused>, AllocError>
     ensures answer { OnOk result (answer.new.items ≡ reply bench.old.session line.now) }
     ensures bench { OnOk result (bench.new.session ≡ after bench.old.session line.now) }
+    ensures memory { OnErr result (IsBeforeOrAfter bench.old.session line.now
+        bench.new.session) }
     ensures refused { IfOk result (λ why. why ≡ refusal bench.old.session line.now) }
 {
     answer.clear();

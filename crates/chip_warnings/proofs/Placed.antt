@@ -17,16 +17,17 @@ module _ (P : Warning → Type 0) where
     each = All-push P so_far.more w so_far.each there;
   }
 
-module _ (lines : List (List ℕ)) (number : ℕ) (line : List ℕ) (low : 1 ≤ number) (at : slice_get lines (number - 1) ≡ Some line) where
-  stands : (w : Warning) → StandsAt number line w → StandsIn lines w
+module _ (allowed : ℕ) (lines : List (List ℕ)) (number : ℕ) (line : List ℕ) (low : 1 ≤ number) (at : slice_get lines (number - 1) ≡ Some line) where
+  stands : (w : Warning) → StandsAt allowed number line w → StandsIn allowed lines w
   stands w there = record {
     from_one = omega (arith, there.there, low);
     to_last = omega (arith, there.there, low, slice_get_within lines (number - 1) line at);
     rises = there.rises;
     inside = subst (λ l. w.span.end ≤ length l) (sym (ap (λ n. get_or lines (n - 1) []) there.there ∙ get_or_from_slice_get lines (number - 1) line [] at)) there.inside;
+    told = there.told;
   }
 
-  pub next_placed : (old new : List Warning) → All (StandsIn lines) old → Adds (StandsAt number line) old new → All (StandsIn lines) new
+  pub next_placed : (old new : List Warning) → All (StandsIn allowed lines) old → Adds (StandsAt allowed number line) old new → All (StandsIn allowed lines) new
   next_placed old new before added =
-      subst (All (StandsIn lines)) (sym added.are)
-      (All-append (StandsIn lines) old added.more before (All-weaker (StandsAt number line) (StandsIn lines) stands added.more added.each))
+      subst (All (StandsIn allowed lines)) (sym added.are)
+      (All-append (StandsIn allowed lines) old added.more before (All-weaker (StandsAt allowed number line) (StandsIn allowed lines) stands added.more added.each))

@@ -1,8 +1,8 @@
 //! The warnings of a source.
 
-ghost use Rattle.std.specs.Prelude.{◌≡◌, IfOk, OnOk, None, [], All};
+ghost use Rattle.std.specs.Prelude.{◌≡◌, IfOk, OnOk, None, [], All, false, true};
 ghost use Rattle.chip_asm.specs.Program.{image_of};
-ghost use Rattle.chip_warnings.specs.Warnings.{StandsAt, StandsIn, Adds};
+ghost use Rattle.chip_warnings.specs.Warnings.{StandsAt, StandsIn, Adds, is_switched_off};
 
 use crate::coverage::Coverage;
 use crate::flow::Flow;
@@ -16,9 +16,9 @@ use chip_machine::Quirks;
 use chip_properties::{PropertyFault, properties_of};
 use std::alloc::{AllocError, Global};
 
-/// The warnings of a source, in the order of the lines; none where a line has a fault. `allowed` has
-/// bit k set where Wk is switched off. Without the coverage of the source's image no line has W8.
-/// Properties that can't be read are among them, as P1 to P6.
+/// The warnings of a source, in the order of the lines; none where a line has a fault. Properties that
+/// can't be read are among them, as P1 to P6. `allowed` has bit k set where Wk is switched off, and bit
+/// 8 + k where Pk is. Without the coverage of the source's image no line has W8.
 ///
 /// # Errors
 ///
@@ -30,7 +30,8 @@ pub fn warnings(
     allowed: u16,
     coverage: Option<Coverage<'_>>,
 ) -> Result<Vec<Warning>, AllocError>
-    ensures places { IfOk result (λ warnings. All (StandsIn source.now.lines) warnings.items) }
+    ensures places { IfOk result
+        (λ warnings. All (StandsIn allowed source.now.lines) warnings.items) }
     ensures faulty { IfOk result
         (λ warnings. image_of source.now.lines ≡ None → warnings.items ≡ []) }
 {
@@ -41,7 +42,7 @@ pub fn warnings(
     let survey = Survey::of(alloc, source)?;
     let properties = properties_of(alloc, source)?;
     let mut flow = Flow::START;
-    let mut next = 0;
+    let mut faults = properties.faults.as_slice();
     for place in 0..source.lines() {
         let number = place + 1;
         let Some(line) = source.line(number) else {
@@ -58,61 +59,10 @@ pub fn warnings(
         };
         let bytes = line.text();
         judge.push_warnings(alloc, &mut warnings, number, bytes)?;
-        let faults = properties.faults.as_slice();
-        next = push_fault_at(alloc, &mut warnings, faults, next, number, bytes)?;
+        faults = judge.push_fault_at(alloc, &mut warnings, faults, number, bytes)?;
         flow.leave(number, &seen);
     }
     Ok(warnings)
-}
-
-/// Adds the next fault of a property, where it stands on the line of a number, and tells which one is the
-/// next then.
-#[tactic(auto, using(crate::proofs::Placed::adds_none))]
-fn push_fault_at(
-    alloc: Global,
-    warnings: &mut Vec<Warning>,
-    faults: &[PropertyFault],
-    next: usize,
-    number: usize,
-    line: &[u8],
-) -> Result<usize, AllocError>
-    ensures { OnOk result (Adds (StandsAt number line.now) warnings.old.items
-        warnings.new.items) }
-{
-    let Some(fault) = faults.get(next) else {
-        return Ok(next);
-    };
-    if fault.line != number {
-        return Ok(next);
-    }
-    push_fault(alloc, warnings, fault, number, line)?;
-    Ok(next.saturating_add(1))
-}
-
-/// Adds the fault of a property that stands on the line of a number.
-fn push_fault(
-    alloc: Global,
-    warnings: &mut Vec<Warning>,
-    fault: &PropertyFault,
-    number: usize,
-    line: &[u8],
-) -> Result<(), AllocError>
-    ensures { OnOk result (Adds (StandsAt number line.now) warnings.old.items
-        warnings.new.items) }
-{
-    let end = fault.span.end.min(line.len());
-    let warning = Warning {
-        line: number,
-        span: Span {
-            start: fault.span.start.min(end),
-            end,
-        },
-        code: WarningCode::Property(fault.code),
-        sentence: Vec::from_slice(alloc, fault.code.sentence())?,
-        help: Vec::from_slice(alloc, &fault.help)?,
-    };
-    warnings.push(warning)?;
-    Ok(())
 }
 
 /// What the warnings of a line follow from.
@@ -134,8 +84,8 @@ impl<'a> Judge<'a> {
         number: usize,
         line: &[u8],
     ) -> Result<(), AllocError>
-        ensures { OnOk result (Adds (StandsAt number line.now) warnings.old.items
-            warnings.new.items) }
+        ensures { OnOk result (Adds (StandsAt self.now.allowed number line.now)
+            warnings.old.items warnings.new.items) }
     {
         let seen = self.survey.line(number);
         for code in CODES {
@@ -148,8 +98,10 @@ impl<'a> Judge<'a> {
     }
 
     /// Whether a line has a warning of a kind that isn't switched off.
-    fn has(&self, code: WarningCode, seen: &Seen) -> bool {
-        !code.is_among(self.allowed)
+    fn has(&self, code: WarningCode, seen: &Seen) -> bool
+        ensures { result ≡ true → is_switched_off self.now.allowed code ≡ false }
+    {
+        !code.is_switched_off(self.allowed)
             && self
                 .flow
                 .has(code, self.survey, seen, self.quirks, self.coverage)
@@ -164,7 +116,8 @@ impl<'a> Judge<'a> {
         line: &[u8],
         seen: &Seen,
     ) -> Result<Warning, AllocError>
-        ensures { IfOk result (StandsAt number line.now) }
+        requires { is_switched_off self.now.allowed code ≡ false }
+        ensures { IfOk result (StandsAt self.now.allowed number line.now) }
     {
         let span = fault_span(alloc, line, fault_there(code))?;
         let sentence = sentence(alloc, code, line, span, seen, self)?;
@@ -176,5 +129,61 @@ impl<'a> Judge<'a> {
             sentence,
             help,
         })
+    }
+
+    /// Adds the first of some faults of properties, where it stands on the line of a number, and tells
+    /// which ones stand on later lines.
+    #[tactic(auto, using(crate::proofs::Placed::adds_none))]
+    fn push_fault_at<'b>(
+        &self,
+        alloc: Global,
+        warnings: &mut Vec<Warning>,
+        faults: &'b [PropertyFault],
+        number: usize,
+        line: &[u8],
+    ) -> Result<&'b [PropertyFault], AllocError>
+        ensures { OnOk result (Adds (StandsAt self.now.allowed number line.now)
+            warnings.old.items warnings.new.items) }
+    {
+        let Some((fault, later)) = faults.split_first() else {
+            return Ok(faults);
+        };
+        if fault.line != number {
+            return Ok(faults);
+        }
+        self.push_fault(alloc, warnings, fault, number, line)?;
+        Ok(later)
+    }
+
+    /// Adds the fault of a property that stands on the line of a number, unless it is switched off.
+    #[tactic(auto, using(crate::proofs::Placed::adds_none))]
+    fn push_fault(
+        &self,
+        alloc: Global,
+        warnings: &mut Vec<Warning>,
+        fault: &PropertyFault,
+        number: usize,
+        line: &[u8],
+    ) -> Result<(), AllocError>
+        ensures { OnOk result (Adds (StandsAt self.now.allowed number line.now)
+            warnings.old.items warnings.new.items) }
+    {
+        let code = WarningCode::Property(fault.code);
+        if code.is_switched_off(self.allowed) {
+            return Ok(());
+        }
+        let end = fault.span.end.min(line.len());
+        let warning = Warning {
+            line: number,
+            span: Span {
+                start: fault.span.start.min(end),
+                end,
+            },
+            code,
+            sentence: Vec::from_slice(alloc, fault.code.sentence())?,
+            help: Vec::from_slice(alloc, &fault.help)?,
+        };
+        warnings.push(warning)?;
+        Ok(())
     }
 }

@@ -1,7 +1,7 @@
 //! A warning, and where it stands.
 
 ghost use Rattle.std.specs.Prelude.{◌≡◌, ◌≤◌};
-ghost use Rattle.chip_warnings.specs.Warnings.{letter_of_warning, number_of_warning};
+ghost use Rattle.chip_warnings.specs.Warnings.{bit_of_warning, is_switched_off, letter_of_warning, number_of_warning};
 
 use chip_lang::Span;
 use chip_properties::FaultCode;
@@ -58,9 +58,22 @@ impl WarningCode {
         }
     }
 
+    /// Its bit in a set of warnings: k for Wk, and 8 + k for Pk.
+    fn bit(self) -> u32
+        ensures value { result ≡ bit_of_warning self }
+        ensures bound { result ≤ 14 }
+    {
+        match self {
+            WarningCode::Property(code) => 8 + code.number(),
+            _ => self.number(),
+        }
+    }
+
     /// Whether its bit is set.
-    pub(crate) fn is_among(self, bits: u16) -> bool {
-        bits >> self.number() & 1 == 1
+    pub(crate) fn is_switched_off(self, allowed: u16) -> bool
+        ensures { result ≡ is_switched_off allowed self }
+    {
+        allowed >> self.bit() & 1 == 1
     }
 }
 

@@ -1,7 +1,7 @@
 -- What `session_answer` and `session_read` do (own).
 use Rattle.std.specs.Prelude.{◌≡◌, ◌⊎◌, ℕ, List, Option, None, MatchOption, take, drop}
 use Rattle.chip_session.specs.Session.{Text}
-use Rattle.chip_session.specs.Transcript.{reply, after}
+use Rattle.chip_session.specs.Transcript.{reply, after, IsBeforeOrAfter}
 use Rattle.chip_web.specs.declared.opened.Opened.{Opened}
 use Rattle.chip_web.specs.declared.status.TheConstants.{DONE, NO_MEMORY, NO_SESSION}
 
@@ -11,10 +11,13 @@ IsCarriedOut before line next =
     (next.answer.items ≡ reply before.bench.session line)
     × (next.bench.session ≡ after before.bench.session line)
 
--- by its number: a line was carried out, or memory ran out
+-- by its number: a line was carried out, or memory ran out, and then the session is that before
+-- the line, or that after it
 abbrev pub AnswersOpened : ℕ → Opened → Text → Opened → Type 0
 AnswersOpened status before line next =
-    ((status ≡ DONE) × IsCarriedOut before line next) ⊎ (status ≡ NO_MEMORY)
+    ((status ≡ DONE) × IsCarriedOut before line next)
+    ⊎ ((status ≡ NO_MEMORY)
+    × IsBeforeOrAfter before.bench.session line next.bench.session)
 
 -- without a session nothing is done, and there is none afterwards
 abbrev pub Answers : ℕ → Option Opened → Text → Option Opened → Type 0

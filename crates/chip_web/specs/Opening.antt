@@ -1,16 +1,18 @@
 -- The settings that a host asks for, and the numbers by which `session_open` answers (own).
-use Rattle.std.specs.Prelude.{ℕ, ◌+◌, ◌==◌, List, Option, Some, None, unwrap_or, if◌then◌else◌}
+use Rattle.std.specs.Prelude.{ℕ, ◌+◌, ◌==◌, List, length, Option, Some, None, option_and_then, unwrap_or, if◌then◌else◌}
 use Rattle.chip_asm.specs.Lines.{open_fault}
 use Rattle.chip_asm.specs.declared.refusal.OpenError.{OpenError}
 use Rattle.chip_asm.specs.declared.refusal.OpenError.TheVariants as unopened
 use Rattle.chip_machine.specs.Profile.{quirks}
+use Rattle.chip_machine.specs.QuirkList.{with_choices}
 use Rattle.chip_machine.specs.declared.profile.Profile.{Profile}
 use Rattle.chip_machine.specs.declared.profile.Profile.TheVariants.{Schip, Vip, Chip48, Schip10, SchipModern, Octo}
+use Rattle.chip_machine.specs.declared.quirks.Quirks.{Quirks}
 use Rattle.chip_session.specs.Settings.{SessionSettings, settings_fault, spacing_fault}
 use Rattle.chip_session.specs.declared.settings.SetError.{SetError}
 use Rattle.chip_session.specs.declared.settings.SetError.TheVariants as unset
 use Rattle.chip_web.specs.declared.asked.AskedSettings.{AskedSettings}
-use Rattle.chip_web.specs.declared.status.TheConstants.{DONE, NO_MEMORY, RATE_OUT_OF_RANGE, TAPE_LENGTH, SPACING_OUT_OF_RANGE, UNKNOWN_PROFILE, TOO_MANY_LINES, LINE_TOO_LONG}
+use Rattle.chip_web.specs.declared.status.TheConstants.{DONE, NO_MEMORY, RATE_OUT_OF_RANGE, TAPE_LENGTH, SPACING_OUT_OF_RANGE, UNKNOWN_PROFILE, UNKNOWN_QUIRKS, TOO_MANY_LINES, LINE_TOO_LONG}
 
 -- the machine of a number
 abbrev pub profile_numbered : ℕ → Option Profile
@@ -22,6 +24,15 @@ profile_numbered number =
     else if number == 4 then Some SchipModern
     else if number == 5 then Some Octo
     else None
+
+-- quirks but for the choices of a list, as `--quirks` takes it: an empty one has none
+abbrev pub quirks_listed : List ℕ → Quirks → Option Quirks
+quirks_listed list q = if length list == 0 then Some q else with_choices list q
+
+-- those of the profile that is asked for, but for the choices of a list
+abbrev pub asked_quirks : AskedSettings → List ℕ → Option Quirks
+asked_quirks asked list =
+    option_and_then (λ p. quirks_listed list (quirks p)) (profile_numbered asked.profile)
 
 -- the number of why there are no such settings
 abbrev pub settings_status : SetError → ℕ
@@ -44,24 +55,35 @@ abbrev pub status_of_settings : Option SetError → Option SetError → ℕ
 status_of_settings (Some fault) spacing = settings_status fault
 status_of_settings None spacing = spacing_status spacing
 
-abbrev pub status_of_profile : Option Profile → ℕ → ℕ
-status_of_profile None status = UNKNOWN_PROFILE
-status_of_profile (Some profile) status = status
+abbrev pub status_of_list : Option Quirks → ℕ
+status_of_list None = UNKNOWN_QUIRKS
+status_of_list (Some q) = DONE
 
--- the number of the first fault of what is asked for: of the profile, of rate and tape, of the
--- spacing
-abbrev pub asked_status : AskedSettings → List ℕ → ℕ
-asked_status asked tape =
-    status_of_profile (profile_numbered asked.profile)
+abbrev pub status_of_profile : Option Profile → List ℕ → ℕ
+status_of_profile None list = UNKNOWN_PROFILE
+status_of_profile (Some profile) list = status_of_list (quirks_listed list (quirks profile))
+
+-- the number of why there are no such quirks
+abbrev pub quirks_status : AskedSettings → List ℕ → ℕ
+quirks_status asked list = status_of_profile (profile_numbered asked.profile) list
+
+abbrev pub status_after : ℕ → ℕ → ℕ
+status_after status next = if status == DONE then next else status
+
+-- the number of the first fault of what is asked for: of the profile, of the list of quirks, of rate
+-- and tape, of the spacing
+abbrev pub asked_status : AskedSettings → (tape list : List ℕ) → ℕ
+asked_status asked tape list =
+    status_after (quirks_status asked list)
     (status_of_settings (settings_fault asked.rate tape) (spacing_fault asked.spacing))
 
 -- the settings that are asked for
-abbrev pub asked_settings : AskedSettings → List ℕ → SessionSettings
-asked_settings asked tape =
+abbrev pub asked_settings : AskedSettings → (tape list : List ℕ) → SessionSettings
+asked_settings asked tape list =
     record {
       rate = asked.rate;
       tape = tape;
-      quirks = quirks (unwrap_or (profile_numbered asked.profile) Schip);
+      quirks = unwrap_or (asked_quirks asked list) (quirks Schip);
       spacing = asked.spacing;
     }
 
@@ -69,10 +91,7 @@ abbrev pub status_of_source : Option OpenError → ℕ
 status_of_source None = DONE
 status_of_source (Some fault) = source_status fault
 
-abbrev pub status_after : ℕ → ℕ → ℕ
-status_after status next = if status == DONE then next else status
-
 -- the number of the first fault of settings and source, and that of an open session without one
-abbrev pub open_status : AskedSettings → List ℕ → List ℕ → ℕ
-open_status asked tape source =
-    status_after (asked_status asked tape) (status_of_source (open_fault source))
+abbrev pub open_status : AskedSettings → (tape list source : List ℕ) → ℕ
+open_status asked tape list source =
+    status_after (asked_status asked tape list) (status_of_source (open_fault source))

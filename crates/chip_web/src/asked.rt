@@ -1,11 +1,11 @@
 //! The settings that a host asks for.
 ghost use Rattle.std.specs.Prelude.{◌≡◌, ◌≢◌, ◌⊎◌, IfOk, IfErr, None, Some, Option};
 ghost use Rattle.chip_session.specs.Settings.{settings_fault};
-ghost use Rattle.chip_web.specs.Opening.{asked_settings, asked_status, profile_numbered};
+ghost use Rattle.chip_web.specs.Opening.{asked_quirks, asked_settings, asked_status, profile_numbered, quirks_listed, quirks_status};
 ghost use Rattle.chip_web.specs.declared.status.TheConstants.{DONE, NO_MEMORY};
 
-use crate::status::{self, UNKNOWN_PROFILE};
-use chip_machine::Profile;
+use crate::status::{self, UNKNOWN_PROFILE, UNKNOWN_QUIRKS};
+use chip_machine::{Profile, Quirks};
 use chip_session::Settings;
 use std::alloc::Global;
 
@@ -21,31 +21,54 @@ pub struct AskedSettings {
 }
 
 impl AskedSettings {
-    /// The settings with a tape.
+    /// The settings with a tape, and with a list of the quirks in which the machine differs from the
+    /// profile.
     ///
     /// # Errors
     ///
     /// The number of the first fault, or that of memory that ran out.
-    pub fn with_tape(&self, alloc: Global, tape: &[u8]) -> Result<Settings, u32>
-        ensures ok { IfOk result (λ settings. (asked_status self.now tape.now ≡ DONE)
-            × (settings ≡ asked_settings self.now tape.now)) }
+    pub fn with_tape(&self, alloc: Global, tape: &[u8], list: &[u8]) -> Result<Settings, u32>
+        ensures ok { IfOk result (λ settings. (asked_status self.now tape.now list.now ≡ DONE)
+            × (settings ≡ asked_settings self.now tape.now list.now)) }
         ensures err { IfErr result (λ status. (status ≢ DONE) × ((status ≡ NO_MEMORY)
-            ⊎ (status ≡ asked_status self.now tape.now))) }
+            ⊎ (status ≡ asked_status self.now tape.now list.now))) }
     {
-        let Some(profile) = profile_of(self.profile) else {
-            return Err(UNKNOWN_PROFILE);
-        };
+        let quirks = self.quirks(list)?;
         let settings = match Settings::new(alloc, self.rate, tape) {
             Ok(settings) => settings,
             Err(error) => return Err(status::of_settings(error)),
         };
-        match settings
-            .with_quirks(profile.quirks())
-            .with_spacing(self.spacing)
-        {
+        match settings.with_quirks(quirks).with_spacing(self.spacing) {
             Ok(settings) => Ok(settings.with_name_seed(self.name_seed)),
             Err(error) => Err(status::of_settings(error)),
         }
+    }
+
+    /// The quirks of the profile but for the choices of a list.
+    fn quirks(&self, list: &[u8]) -> Result<Quirks, u32>
+        ensures ok { IfOk result (λ quirks. (quirks_status self.now list.now ≡ DONE)
+            × (asked_quirks self.now list.now ≡ Some quirks)) }
+        ensures err { IfErr result (λ status. (status ≢ DONE)
+            × (status ≡ quirks_status self.now list.now)) }
+    {
+        let Some(profile) = profile_of(self.profile) else {
+            return Err(UNKNOWN_PROFILE);
+        };
+        match listed(profile.quirks(), list) {
+            Some(quirks) => Ok(quirks),
+            None => Err(UNKNOWN_QUIRKS),
+        }
+    }
+}
+
+/// Quirks but for the choices of a list, which has none where it is empty.
+fn listed(quirks: Quirks, list: &[u8]) -> Option<Quirks>
+    ensures { result ≡ quirks_listed list.now quirks }
+{
+    if list.is_empty() {
+        Some(quirks)
+    } else {
+        quirks.with_choices(list)
     }
 }
 

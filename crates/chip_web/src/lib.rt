@@ -21,24 +21,27 @@ use handle::Handle;
 use opened::Opened;
 use status::{DONE, NO_MEMORY, NO_SESSION};
 
-/// Opens a session on a source, in the place of the one that the handle has. Answers `DONE`, or the
-/// number of why not, and the handle then has none.
+/// Opens a session on a source, in the place of the one that the handle has. `list` has the quirks
+/// in which the machine differs from the profile, as `--quirks` takes them, or is empty. Answers
+/// `DONE`, or the number of why not, and the handle then has none.
 #[unsafe(no_mangle)]
 pub extern "C" fn session_open(
     alloc: Global,
     handle: &mut Handle,
     source: &[u8],
     tape: &[u8],
+    list: &[u8],
     asked: &AskedSettings,
 ) -> u32
-    ensures status { (result ≡ NO_MEMORY) ⊎ (result ≡ open_status asked.now tape.now source.now) }
+    ensures status { (result ≡ NO_MEMORY)
+        ⊎ (result ≡ open_status asked.now tape.now list.now source.now) }
     ensures opened { result ≡ DONE → is_some handle.new.owner.session ≡ true }
     ensures session { IfSome handle.new.owner.session (λ opened. opened.bench.session
-        ≡ session_of (asked_settings asked.now tape.now) source.now) }
+        ≡ session_of (asked_settings asked.now tape.now list.now) source.now) }
     ensures refused { result ≢ DONE → handle.new.owner.session ≡ None }
 {
     drop(handle.take(alloc));
-    match boxed(alloc, source, tape, asked) {
+    match boxed(alloc, source, tape, list, asked) {
         Ok(opened) => {
             *handle = Handle::of(opened);
             DONE
@@ -52,15 +55,17 @@ fn boxed(
     alloc: Global,
     source: &[u8],
     tape: &[u8],
+    list: &[u8],
     asked: &AskedSettings,
 ) -> Result<Box<Opened>, u32>
-    ensures ok { IfOk result (λ opened. (open_status asked.now tape.now source.now ≡ DONE)
+    ensures ok { IfOk result (λ opened.
+        (open_status asked.now tape.now list.now source.now ≡ DONE)
         × (opened.value.bench.session
-        ≡ session_of (asked_settings asked.now tape.now) source.now)) }
+        ≡ session_of (asked_settings asked.now tape.now list.now) source.now)) }
     ensures err { IfErr result (λ status. (status ≢ DONE) × ((status ≡ NO_MEMORY)
-        ⊎ (status ≡ open_status asked.now tape.now source.now))) }
+        ⊎ (status ≡ open_status asked.now tape.now list.now source.now))) }
 {
-    let settings = asked.with_tape(alloc, tape)?;
+    let settings = asked.with_tape(alloc, tape, list)?;
     let opened = match Opened::open(alloc, source, settings) {
         Ok(opened) => opened,
         Err(error) => return Err(status::of_source(error)),

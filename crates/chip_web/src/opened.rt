@@ -1,8 +1,8 @@
 //! A session that is open.
-ghost use Rattle.std.specs.Prelude.{◌≡◌, ◌⊎◌, None, Some, Ok, IfOk, IfErr, OnOk};
+ghost use Rattle.std.specs.Prelude.{◌≡◌, ◌⊎◌, None, Some, Ok, IfOk, IfErr, OnOk, OnErr};
 ghost use Rattle.chip_asm.specs.Lines.{open_fault};
 ghost use Rattle.chip_session.specs.Session.{session_of};
-ghost use Rattle.chip_session.specs.Transcript.{reply, after};
+ghost use Rattle.chip_session.specs.Transcript.{reply, after, IsBeforeOrAfter};
 
 use chip_session::{Bench, OpenError, Settings, respond};
 use std::alloc::{AllocError, Global};
@@ -42,6 +42,8 @@ impl Opened {
             ≡ reply self.old.bench.session line.now) }
         ensures session { OnOk result (self.new.bench.session
             ≡ after self.old.bench.session line.now) }
+        ensures memory { OnErr result (IsBeforeOrAfter self.old.bench.session line.now
+            self.new.bench.session) }
     {
         respond(alloc, &mut self.bench, line, &mut self.answer)?;
         Ok(())

@@ -29,6 +29,9 @@ pub const UNKNOWN_PROFILE: u32 = 6;
 /// The source has too many lines.
 pub const TOO_MANY_LINES: u32 = 7;
 
+/// The list of quirks isn't one, or names a quirk twice.
+pub const UNKNOWN_QUIRKS: u32 = 8;
+
 /// A line of the source is too long: its number, from 1 on, is added.
 pub const LINE_TOO_LONG: u32 = 1000;
 

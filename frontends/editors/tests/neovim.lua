@@ -173,7 +173,6 @@ end)
 test('completion', function()
   edit_game()
   vim.api.nvim_buf_set_lines(0, -1, -1, false, { '        JP LO' })
-  vim.bo.omnifunc = 'v:lua.vim.lsp.omnifunc'
   vim.api.nvim_win_set_cursor(0, { 8, 12 })
   local function keys(text)
     return vim.api.nvim_replace_termcodes(text, true, false, true)
@@ -193,6 +192,42 @@ test('completion', function()
   -- with `!` the editor stays in insert mode until the timer ends it
   vim.api.nvim_feedkeys(keys('A<C-x><C-o>'), 'tx!', false)
   same(vim.api.nvim_get_current_line(), '        JP LOOP')
+end)
+
+local function actions(line)
+  local params = vim.lsp.util.make_range_params(0, 'utf-16')
+  params.range = { start = { line = line, character = 0 }, ['end'] = { line = line, character = 0 } }
+  params.context = { diagnostics = {} }
+  return request('textDocument/codeAction', params)
+end
+
+local function titles(line)
+  return vim.tbl_map(function(action)
+    return action.title
+  end, actions(line))
+end
+
+test('a fix for a missing comma', function()
+  local buffer = edit_game({ 'LD V0 5', 'CLS' })
+  wait_for('a fault', function()
+    return #shown(buffer) == 1
+  end)
+  same(titles(0), { 'Put a comma' })
+  vim.lsp.util.apply_workspace_edit(actions(0)[1].edit, 'utf-16')
+  same(vim.api.nvim_buf_get_lines(0, 0, 1, false), { 'LD V0, 5' })
+  wait_for('no fault', function()
+    return #shown(buffer) == 0
+  end)
+end)
+
+test('run to a line is offered where the source runs', function()
+  local buffer = edit_game()
+  same(titles(5), { 'Run to line 6' })
+  set_line(3, 'LOOP:   ADD V0, NONE')
+  wait_for('a fault', function()
+    return #shown(buffer) == 1
+  end)
+  same(titles(5), {})
 end)
 
 test('formatting', function()

@@ -53,9 +53,9 @@ class Server {
   }
 
   #options(settings) {
-    const [profile, rate, every, seed] = ['profile', 'rate', 'every', 'seed'].map((name) => settings.get(name));
+    const [profile, quirks, rate, every, seed] = ['profile', 'quirks', 'rate', 'every', 'seed'].map((name) => settings.get(name));
     // the program takes a tape or a seed, and not both
-    return { profile, rate, every, ...(seed ? { seed } : { tape: settings.get('tape') }) };
+    return { profile, quirks, rate, every, ...(seed ? { seed } : { tape: settings.get('tape') }) };
   }
 
   #ended(connection, reason) {

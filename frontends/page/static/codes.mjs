@@ -1,30 +1,10 @@
-// A short text for each code that the program prints (docs/LANGUAGE.md, docs/FORMATS.md, docs/MACHINE.md).
+// A short text for each code that the program prints: its own sentences of faults, and what a refusal means for the page.
+
+import { FAULTS, STOPS } from './code_tables.mjs';
 
 const TEXTS = {
-  F1: 'bad character',
-  F2: 'unfinished string',
-  F3: 'unknown word',
-  F4: 'the operands don\'t fit',
-  F5: 'number above 2147483647',
-  F6: 'parentheses deeper than 16',
-  F7: 'name reserved or over 64 bytes',
-  F8: 'name defined on an earlier line',
-  F9: 'undefined name',
-  F10: 'value out of range',
-  F11: 'division by zero',
-  F12: 'overflow, or a shift outside 0 to 31',
-  F13: 'ORG below the address',
-  F14: 'past address 4096',
-  F15: 'stray ELSE or ENDIF, or a second ELSE',
-  F16: 'IF without ENDIF',
-  F17: 'not in this assembler',
-  S1: 'the program ended, by EXIT',
-  S2: 'the word at pc is not an instruction',
-  S3: 'pc is above 4094, where no word stands',
-  S4: 'a call with 16 return addresses on the call stack',
-  S5: 'a return with an empty call stack',
-  S6: 'an access at or above address 4096',
-  S7: 'a flag register above 7',
+  ...FAULTS,
+  ...STOPS,
   N1: 'no such line',
   N2: 'over 200 bytes: the program was given an empty line in its place',
   N3: 'past line 4000: the program wasn\'t given it',

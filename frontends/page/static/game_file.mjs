@@ -8,7 +8,7 @@ import { writeFile } from './text_form.mjs';
 const HEAD = '; chipbench: the keys, settings and step of this game';
 /** A longer value goes on in the next lines, since a line has at most 200 bytes. */
 const VALUE_CHARACTERS = 150;
-const OPTION = /^; --(\w+)(\+?)=(\w+)$/;
+const OPTION = /^; --(\w+)(\+?)=([\w=,+-]+)$/;
 const STEP = /^; step (\d{1,9})$/;
 const SCREEN = /^; screen (\w+)$/;
 const ARROWS = /^; arrows ([0-9a-f]{4})( and W A S D)?$/;

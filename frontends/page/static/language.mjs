@@ -68,8 +68,8 @@ export const DIRECTIVES = new Map([
   ['OPTION', 'OPTION w: nothing; the image is always plain bytes'],
   ['USED', 'USED ..: nothing'],
   ['XREF', 'XREF ..: nothing'],
-  ['INCLUDE', 'INCLUDE: not in this assembler'],
-  ['UNDEF', 'UNDEF: not in this assembler'],
+  ['INCLUDE', 'INCLUDE: not in this profile'],
+  ['UNDEF', 'UNDEF: not in this profile'],
 ]);
 
 export const MNEMONICS = [...new Set(INSTRUCTIONS.map(([, source]) => source.split(' ')[0]))];

@@ -187,6 +187,7 @@ class Page {
     this.editor.addEventListener('run', ({ detail }) => this.search.toLine(detail));
     this.model.addEventListener('change', ({ detail }) => this.#changed(detail));
     this.viewer.addEventListener('shown', ({ detail }) => this.#show(detail));
+    this.viewer.addEventListener('shown', () => performance.mark('first answer'), { once: true });
     this.viewer.addEventListener('fault', ({ detail }) => this.#tellFault(detail));
     this.player.addEventListener('change', () => {
       if (this.player.direction !== 0) this.runControl.forget();

@@ -2,6 +2,7 @@
 
 import { byId, colour, onTheme, setText, setTitle } from './dom.mjs';
 import { codeText } from './codes.mjs';
+import { machineText, quirksOf } from './quirks.mjs';
 
 const WIDTH = 128;
 const HEIGHT = 64;
@@ -29,7 +30,7 @@ export class ScreenView {
     }
     const { size, state } = machine.registers;
     setText(byId('screen-size'), size === 'high' ? '128 × 64' : '64 × 32');
-    this.#tell(state === 'run' ? '' : `${state}: ${stopText(state, machine.wanted.options.profile)}`);
+    this.#tell(state === 'run' ? '' : `${state}: ${stopText(state, machine.wanted.options)}`);
     this.#rows = machine.screen.rows;
     clearTimeout(this.#flashing);
     this.#draw();
@@ -62,9 +63,9 @@ export class ScreenView {
   }
 }
 
-/** Why the machine stopped; a word of the source may be no instruction of the profile alone. */
-function stopText(state, profile) {
-  return state === 'S2' && ['vip', 'chip48'].includes(profile) ? `no instruction of ${profile} at pc` : codeText(state);
+/** Why the machine stopped; a word of the source may be no instruction of this machine alone. */
+function stopText(state, options) {
+  return state === 'S2' && quirksOf(options).instructions === 'base' ? `no instruction of ${machineText(options)} at pc` : codeText(state);
 }
 
 /** The pixels of the stored rows, row after row: 1 where one is lit. */

@@ -1,17 +1,19 @@
 // The dialog of the settings that the program takes.
 
 import { byId, setText } from './dom.mjs';
+import { machineText, QuirkSwitches } from './quirks.mjs';
 
 /** A longer tape, in digits, is told by its length. */
 const TAPE_SHOWN = 12;
 /** What holds where nothing is said. */
-const USUAL = { rate: '10', profile: 'schip', every: '1000' };
+const USUAL = { rate: '10', profile: 'schip', quirks: '', every: '1000' };
 
 export class SettingsView {
   #dialog = byId('settings');
   #form = this.#dialog.querySelector('form');
   #model;
   #known;
+  #quirks;
 
   #appearance;
 
@@ -21,7 +23,8 @@ export class SettingsView {
     this.#appearance = appearance;
     this.#known = new Set(known);
     for (const part of this.#form.querySelectorAll('[data-option]')) part.hidden = !this.#known.has(part.dataset.option);
-    const lacking = ['profile', 'every'].filter((name) => !this.#known.has(name)).map((name) => `--${name}`);
+    this.#quirks = new QuirkSwitches(byId('settings-quirks'), this.#form.elements.profile);
+    const lacking = ['profile', 'quirks', 'every'].filter((name) => !this.#known.has(name)).map((name) => `--${name}`);
     byId('settings-lack').textContent = lacking.length === 0 ? '' : `This program doesn't take ${lacking.join(' and ')} yet.`;
     this.#form.addEventListener('submit', (event) => {
       if (event.submitter?.value === 'apply') this.#apply();
@@ -39,10 +42,10 @@ export class SettingsView {
     }
   }
 
-  /** The settings in a few words: the profile, where the program has several, the rate and the random bytes. */
+  /** The settings in a few words: the profile and what differs from it, where the program has several, the rate and the random bytes. */
   #summary() {
-    const { rate, seed, tape, profile } = this.#model.options;
-    const words = this.#known.has('profile') ? [profile ?? 'schip'] : [];
+    const { rate, seed, tape } = this.#model.options;
+    const words = this.#known.has('profile') ? [machineText(this.#model.options)] : [];
     words.push(`rate ${rate ?? '10'}`);
     if (seed !== undefined) words.push(`seed ${seed}`);
     else if (tape !== undefined) words.push(tape.length > TAPE_SHOWN ? `tape of ${tape.length / 2} bytes` : `tape ${tape}`);
@@ -57,6 +60,7 @@ export class SettingsView {
     elements.seed.value = options.seed ?? '';
     elements.tape.value = options.tape ?? '';
     elements.profile.value = options.profile ?? 'schip';
+    this.#quirks.show(options);
     elements.every.value = options.every ?? '1000';
     elements.theme.value = this.#appearance.theme;
     const { screen, arrows, letters } = this.#model.look;
@@ -96,6 +100,7 @@ export class SettingsView {
     const options = { rate: elements.rate.value };
     if (random !== 'none' && elements[random].value !== '') options[random] = elements[random].value;
     for (const name of ['profile', 'every']) if (this.#known.has(name)) options[name] = elements[name].value;
+    if (this.#known.has('quirks') && this.#quirks.list !== '') options.quirks = this.#quirks.list;
     return options;
   }
 }

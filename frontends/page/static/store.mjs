@@ -181,7 +181,7 @@ function keysOf(text) {
 
 function optionsOf(options) {
   if (typeof options !== 'object' || options === null) return {};
-  return Object.fromEntries(Object.entries(options).filter(([, value]) => typeof value === 'string' && /^\w{1,8192}$/.test(value)));
+  return Object.fromEntries(Object.entries(options).filter(([, value]) => typeof value === 'string' && /^[\w=,+-]{1,8192}$/.test(value)));
 }
 
 /** What a tab shows of which start of the bridge: a reload of the tab comes back to it. */

@@ -9,6 +9,8 @@ import { lineCommands } from './line_changes.mjs';
 const COMMANDS_A_SESSION = 99_000;
 const COMMANDS_A_REQUEST = 20_000;
 const LARGEST_STEP = 999_999_999;
+/** The greatest step of the program as it is, and the one after it: they are tried first. */
+const LIKELY_STEPS = [1_000_000, 1_000_001];
 const NO_SUCH_KEY = 16;
 
 /** Another window has started the program anew; this one may do so in turn. */
@@ -133,6 +135,7 @@ export class Workbench {
 
   /** Asks a program that was just started: it isn't started again where it ends now. */
   async #askStarted(questions) {
+    if (questions.length === 0) return [];
     const reply = await this.#send('ask', { session: this.#session, commands: questions });
     if (reply.ended) this.#throwEnded(reply.ended);
     return reply.answers;
@@ -144,24 +147,26 @@ export class Workbench {
     this.starts += 1;
     const source = sourceOf(wanted);
     const events = keyCommands(new KeyScript(), wanted.keys);
-    const reply = await this.#send('open', { session: this.#session, source, options: wanted.options, commands: events });
+    const probes = this.lastStep === 0 ? probesOf(LIKELY_STEPS) : [];
+    const reply = await this.#send('open', { session: this.#session, source, options: wanted.options, commands: [...events, ...probes] });
     if (reply.ended) this.#throwEnded(reply.ended);
-    const place = reply.answers.findIndex((answer) => answer !== 'ok\n');
-    if (place >= 0) throw new ProgramEnded(`the program refuses the event '${events[place]}': ${refusal(reply.answers[place])}`);
+    const answers = reply.answers.slice(0, events.length);
+    const place = answers.findIndex((answer) => answer !== 'ok\n');
+    if (place >= 0) throw new ProgramEnded(`the program refuses the event '${events[place]}': ${refusal(answers[place])}`);
     this.#held = wanted;
-    if (this.lastStep === 0) this.lastStep = await this.#findLastStep();
+    if (this.lastStep === 0) this.lastStep = await this.#findLastStep(reply.answers.slice(events.length).map(isTaken));
   }
 
-  /** No event has a key above 15: the program says N5 of a step that is too large, and else N6. */
-  async #findLastStep() {
-    let low = 0;
-    let high = LARGEST_STEP;
+  /** By whether the likely steps are taken. */
+  async #findLastStep([isLikely, isOneMore]) {
+    if (isLikely && !isOneMore) return LIKELY_STEPS[0];
+    let [low, high] = isLikely ? [LIKELY_STEPS[1], LARGEST_STEP] : [0, LIKELY_STEPS[0] - 1];
     while (low < high) {
       const middle = Math.ceil((low + high) / 2);
-      const reply = await this.#send('ask', { session: this.#session, commands: [`kdel ${middle} ${NO_SUCH_KEY}`] });
+      const reply = await this.#send('ask', { session: this.#session, commands: probesOf([middle]) });
       if (reply.ended) this.#throwEnded(reply.ended);
-      if (refusal(reply.answers[0]) === 'N5') high = middle - 1;
-      else low = middle;
+      if (isTaken(reply.answers[0])) low = middle;
+      else high = middle - 1;
     }
     return low;
   }
@@ -175,11 +180,16 @@ export class Workbench {
 
   #throwEnded({ status, text }) {
     this.#held = null;
-    const how = status < 0 ? `by the signal ${-status}` : `with status ${status}`;
+    const how = status < 0 ? `was ended by signal ${-status}` : `ended with status ${status}`;
     const said = firstPart(text);
-    throw new ProgramEnded(`the program ended ${how}${said ? `: ${said}` : ''}`);
+    throw new ProgramEnded(`the program ${how}${said ? `: ${said}` : ''}`);
   }
 }
+
+/** Commands that tell which steps the program takes: no event has a key above 15, so it says N5 of a step that is too large, and else N6. */
+const probesOf = (steps) => steps.map((step) => `kdel ${step} ${NO_SUCH_KEY}`);
+
+const isTaken = (answer) => refusal(answer) !== 'N5';
 
 const sourceOf = ({ lines }) => lines.map((line) => `${line}\n`).join('');
 

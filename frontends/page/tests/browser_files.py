@@ -413,10 +413,17 @@ class FileTests(PageTests):
 
     def test_a_game_is_exported(self) -> None:
         """As a page that plays it by the keys of the keyboard, with its settings and its arrow keys."""
-        text = "LD I, #300\nLOOP: LD V0, K\nRND V1, #3F\nLD F, V0\nDRW V1, V2, 5\nJP LOOP\n"
+        self.export_game(("--seed", "7", "--rate", "20"))
+
+    def test_a_game_is_exported_with_its_quirks(self) -> None:
+        self.export_game(("--seed", "7", "--rate", "20", "--profile", "vip", "--quirks", "edges=wrap"))
+
+    def export_game(self, words: tuple[str, ...]) -> None:
+        """Digits at random columns, some of them at the edge."""
+        text = "LD I, #300\nLOOP: LD V0, K\nRND V1, #3F\nOR V1, V4\nLD F, V0\nDRW V1, V2, 5\nLD V4, 60\nJP LOOP\n"
         place = self.folder / "games"
         place.mkdir(exist_ok=True)
-        with self.page(text, "a game.asm", words=("--seed", "7", "--rate", "20")) as browser:
+        with self.page(text, "a game.asm", words=words) as browser:
             if browser.value("document.getElementById('export-game').hidden"):
                 print("    there is no session.wasm, so no game is exported")
                 return
@@ -440,7 +447,7 @@ class FileTests(PageTests):
             events = browser.value("events")
             assert [event.split()[2:] for event in events] == [["8", "down"], ["8", "up"], ["0", "down"], ["0", "up"]], events
             assert len(screen.splitlines()) > 5, screen
-            assert self.said(text, [*events, f"screen {step}"], ("--seed", "7", "--rate", "20")) == "ok\n" * 4 + screen
+            assert self.said(text, [*events, f"screen {step}"], words) == "ok\n" * 4 + screen
         finally:
             browser.open("about:blank")
 

@@ -176,6 +176,18 @@ class LayoutTests(PageTests):
                 assert browser.value(boxes) == before, width
                 browser.click("#play")
 
+    def test_notices(self) -> None:
+        """One is seen, the newest, which says how many there are; it goes with its cause, and what only tells goes by itself."""
+        seen = "[...document.querySelectorAll('.notice')].filter((one) => one.checkVisibility()).map((one) => one.querySelector('p').textContent)"
+        with self.page("CLS\n") as browser:
+            browser.value(f"{self.module('notices.mjs')}.then(({{ notice }}) => {{ notice('one', 'One.'); notice('two', 'Two.', {{ choices: [['Yes', () => {{}}]] }}); notice('one', 'One more.', {{ bad: true }}); }})")
+            assert browser.value(seen) == ["One more."], browser.value(seen)
+            assert browser.value("[...document.querySelectorAll('.notice .count')].at(-1).textContent") == "1 of 2"
+            browser.value("[...document.querySelectorAll('.notice')].at(-1).querySelector('button').click()")
+            assert browser.value(seen) == ["Two."], browser.value(seen)
+            self.notice_button("Yes")
+            assert browser.value(seen) == []
+
     def test_the_focus_is_seen(self) -> None:
         """Whatever Tab reaches shows that it has the focus."""
         with self.page(self.example("breaker")) as browser:

@@ -168,8 +168,11 @@ class PageTests:
 
     def request(self, name: str, body: dict[str, object]) -> dict[str, Any]:
         """What a request of the page is answered, whatever carries it."""
-        module = "'chipbench/bridge.mjs'" if self.is_one_file else "new URL('bridge.mjs', document.baseURI)"
-        return json.loads(self.browser.value(f"import({module}).then(({{ request }}) => request('{name}', {json.dumps(body)})).then(JSON.stringify)"))
+        return json.loads(self.browser.value(f"{self.module('bridge.mjs')}.then(({{ request }}) => request('{name}', {json.dumps(body)})).then(JSON.stringify)"))
+
+    def module(self, name: str) -> str:
+        """An expression for one of the page's modules, which comes later."""
+        return f"Promise.resolve(chipbenchModules['{name}'])" if self.is_one_file else f"import(new URL('{name}', document.baseURI))"
 
     def starts(self) -> int:
         """How often the program was started since the page was opened; by the page in one file also on what it was opened on."""

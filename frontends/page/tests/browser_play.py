@@ -155,7 +155,7 @@ class PlayTests(PageTests):
             browser.value("chipbenchPage.model.setKeys(chipbenchPage.model.keys.with(10, 2, true).with(14, 2, false))")
             mine = browser.value(keys)
             self.tab("crashes")
-            browser.wait("/^S5 at step 3(, line 4)?: a return with an empty call stack. 2 key events lead there/.test(document.getElementById('crashes-text').textContent)", 60.0)
+            browser.wait("/^S5 at step 3(, line 4)?: a return was made with an empty call stack. 2 key events lead there/.test(document.getElementById('crashes-text').textContent)", 60.0)
             assert not browser.value("document.getElementById('crashes-badge').hidden")
             browser.click("#crashes-show")
             self.check_step(text, 3, ["kins 0 3 down", "kins 1 3 up"])

@@ -5,7 +5,8 @@ from __future__ import annotations
 import json
 import time
 
-from browser_page import EXAMPLES, REGISTERS, PageTests
+from browser_files import has_arrived
+from browser_page import EXAMPLES, REGISTERS, PageTests, wait_for
 from driver import CONTROL, SHIFT
 
 FRAMES = 150
@@ -203,7 +204,8 @@ class RunTests(PageTests):
             if browser.value("document.querySelector('[data-option=profile]').hidden"):
                 assert "--profile" in self.text_of("#settings-lack")
                 return
-            browser.value("{ const { elements } = document.querySelector('#settings form'); elements.profile.value = 'vip'; elements.every.value = '5000'; }")
+            self.choose("profile", "vip")
+            self.choose("every", "5000")
             browser.click("#settings [value=apply]")
             self.rest()
             self.check_step(text, 3, [], ("--profile", "vip", "--every", "5000"))
@@ -217,6 +219,58 @@ class RunTests(PageTests):
                 assert [self.registers()[f"V{name}"] for name in "89ABCD"] == 6 * [digit]
                 assert self.text_of("#machine-state") == stop, self.text_of("#machine-state")
                 self.picture(f"profiles-{profile}")
+
+    def test_quirks(self) -> None:
+        """Below the profile, which sets them all, each quirk is a switch. They belong to the file, and go with it where it is saved."""
+        text = "LD V0, #81\nLD V1, 62\nSHR V2, V0\nDRW V1, V3, 5\n"
+        place = self.folder / "quirks"
+        place.mkdir(exist_ok=True)
+        words = ("--profile", "octo", "--quirks", "shift=vx,edges=clip")
+        with self.page(text) as browser:
+            browser.click("#show-settings")
+            if browser.value("document.querySelector('[data-option=quirks]').hidden"):
+                assert "--quirks" in self.text_of("#settings-lack")
+                return
+            shown = "Object.fromEntries([...document.querySelectorAll('#settings-quirks select')].map(({ name, value }) => [name.replace('quirk-', ''), value]))"
+            octo = {"shift": "vy", "memory": "x+1", "jump": "v0", "logic": "keep", "edges": "wrap", "dxy0": "16x16", "scroll": "whole", "size": "clear", "fx1e": "keep", "instructions": "super"}
+            assert browser.value(shown) == {**octo, "shift": "vx", "memory": "keep", "jump": "vx", "edges": "clip", "dxy0": "8x16", "scroll": "stored", "size": "keep"}
+            self.choose("profile", "octo")
+            assert browser.value(shown) == octo
+            self.choose("quirk-edges", "clip")
+            self.choose("quirk-shift", "vx")
+            assert browser.value("[...document.querySelectorAll('#settings-quirks .changed')].map(({ name }) => name)") == ["quirk-shift", "quirk-edges"]
+            self.picture("quirks")
+            browser.click("#settings [value=apply]")
+            self.rest()
+            self.check_step(text, 4, [], words)
+            assert self.text_of("#settings-state") == "octo, shift=vx, edges=clip, rate 10", self.text_of("#settings-state")
+            self.reload()
+            assert browser.value("chipbenchPage.model.options") == {"rate": "10", "profile": "octo", "quirks": "shift=vx,edges=clip", "every": "1000"}
+            self.check_step(text, 4, [], words)
+            browser.downloads(place)
+            browser.value("document.getElementById('download-game').click()")
+            wait_for(lambda: has_arrived(place / "game.game.asm"), "the game")
+            browser.value("chipbenchPage.model.setOptions({ rate: '10' })")
+            self.check_step(text, 4, [])
+            self.upload(place / "game.game.asm")
+            browser.wait("document.getElementById('file-name').textContent === 'game.game.asm'")
+            self.rest()
+            self.check_step(text, 4, [], words)
+            browser.click("#show-settings")
+            assert browser.value(shown) == {**octo, "shift": "vx", "edges": "clip"}
+            self.choose("profile", "vip")
+            browser.click("#settings [value=apply]")
+            self.rest()
+            self.check_step(text, 4, [], ("--profile", "vip"))
+        with self.page(text, words=words):
+            self.check_step(text, 4, [], words)
+
+    def choose(self, name: str, value: str) -> None:
+        """Chooses a value in the dialog of the settings, as an author does."""
+        self.browser.value(
+            f"{{ const choice = document.querySelector('#settings form').elements[{json.dumps(name)}]; choice.value = {json.dumps(value)};"
+            "choice.dispatchEvent(new Event('change', { bubbles: true })); }"
+        )
 
     def test_settings_that_the_program_refuses(self) -> None:
         with self.page("LD V0, 5\n", words=("--rate", "7")) as browser:

@@ -146,6 +146,10 @@ class Chromium(Browser):
         self.call("Performance.enable")
         return next(round(metric["value"]) for metric in self.call("Performance.getMetrics")["metrics"] if metric["name"] == "LayoutCount")
 
+    def throttle(self, times: float) -> bool:
+        self.call("Emulation.setCPUThrottlingRate", rate=times)
+        return True
+
     def close(self) -> None:
         with contextlib.suppress(Exception):
             self.call("Browser.close")

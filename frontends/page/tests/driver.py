@@ -102,5 +102,9 @@ class Browser:
         """How often the page was laid out so far; none where the browser doesn't tell."""
         return None
 
+    def throttle(self, times: float) -> bool:
+        """Lets the page have so much less of the processor's time; false where the browser can't."""
+        return False
+
     def close(self) -> None:
         raise NotImplementedError

@@ -24,6 +24,7 @@ import { difference, SourceText } from '../static/source_text.mjs';
 import { answerText, isBad, readProved, scriptOf } from '../static/properties.mjs';
 import { namedValues, propertiesIn, propertyTokens, propertyWords } from '../static/property_line.mjs';
 import { placeFrom, placesOf, replacedAll } from '../static/text_find.mjs';
+import { listOf, quirksOf } from '../static/quirks.mjs';
 import { readSprite, readSpriteLine, writeSprite } from '../static/sprite_lines.mjs';
 import { TextHistory } from '../static/text_history.mjs';
 
@@ -45,8 +46,24 @@ test('games: a page has the game, and no text of it is read as the page', () => 
   const game = { title: 'a <b> & @GAME@', source: '; </script>@MODULE@\n', options: { rate: '20' }, tape: '05', look: { arrows: '2486', letters: true }, module: 'AAAA' };
   const page = gamePage(template, game);
   const title = 'a &#60;b&#62; &#38; @GAME@';
-  const about = '{"source":"; \\u003c/script>@MODULE@\\n","rate":20,"profile":"schip","tape":"05","arrows":"2486","letters":true}';
+  const about = '{"source":"; \\u003c/script>@MODULE@\\n","rate":20,"profile":"schip","quirks":"","tape":"05","arrows":"2486","letters":true}';
   assert.equal(page, `<title>${title}</title><p>Profile schip, rate 20</p><script id="game">${about}</script>AAAA${title}`);
+  const other = gamePage('@SETTINGS@ @GAME@', { ...game, options: { profile: 'octo', quirks: 'shift=vx,edges=clip' } });
+  assert.ok(other.startsWith('Profile octo, shift=vx, edges=clip, rate 10 {'), other);
+  assert.ok(other.includes('"profile":"octo","quirks":"shift=vx,edges=clip"'), other);
+});
+
+test('quirks: a list has what differs from the profile, in the order of docs/MACHINE.md', () => {
+  const octo = { shift: 'vy', memory: 'x+1', jump: 'v0', logic: 'keep', edges: 'wrap', dxy0: '16x16', scroll: 'whole', size: 'clear', fx1e: 'keep', instructions: 'super' };
+  assert.deepEqual(quirksOf({ profile: 'octo' }), octo);
+  assert.deepEqual(quirksOf({ profile: 'octo', quirks: 'edges=clip,shift=vx' }), { ...octo, edges: 'clip', shift: 'vx' });
+  assert.equal(listOf('octo', { ...octo, edges: 'clip', shift: 'vx' }), 'shift=vx,edges=clip');
+  assert.equal(listOf('octo', octo), '');
+  const vip = { ...octo, logic: 'clear', edges: 'clip', dxy0: 'none', scroll: 'stored', size: 'keep', instructions: 'base' };
+  assert.equal(listOf('schip', vip), 'shift=vy,memory=x+1,jump=v0,logic=clear,dxy0=none,instructions=base');
+  assert.equal(listOf('schip', quirksOf({})), '');
+  // what no quirk has is left out
+  assert.deepEqual(quirksOf({ profile: 'octo', quirks: 'edges=round,speed=1,x' }), octo);
 });
 
 // What is undone ---------------------------------------------------------------------------------------------------------------
@@ -243,7 +260,7 @@ test('names of addresses', () => {
 
 test('a source with its keys is one file, which is read as it was written', () => {
   const keys = new KeyScript().with(20, 3, true).with(44, 3, false);
-  const game = { text: 'CLS ; é\nRET', form: { encoding: 'utf-8', lineEnd: '\n' }, keys, options: { rate: '7', tape: '0f'.repeat(400) }, step: 99 };
+  const game = { text: 'CLS ; é\nRET', form: { encoding: 'utf-8', lineEnd: '\n' }, keys, options: { rate: '7', tape: '0f'.repeat(400), profile: 'schip-modern', quirks: 'memory=x+1,edges=wrap' }, step: 99 };
   Object.assign(game, { look: { screen: 'amber', arrows: '2486', letters: true }, breakLines: Array.from({ length: 60 }, (_, place) => place + 1) });
   const read = readGame(writeGame(game));
   assert.deepEqual(read, { source: 'CLS ; \u00c3\u00a9\nRET\n', keys: '20 3 down\n44 3 up\n', options: game.options, look: game.look, breakLines: game.breakLines, step: 99 });

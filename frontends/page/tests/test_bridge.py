@@ -207,7 +207,7 @@ class Care(Running):
         self.assertEqual(self.good("ask", session=1, commands=["mem 0 0 1"])["answers"], ["00\n"])
 
     def test_options(self) -> None:
-        for options in ({"rate": "1 --x"}, {"program": "x"}, {"tape": "--x"}, {"rate": 5}, {"profile": "../x"}, [], None):
+        for options in ({"rate": "1 --x"}, {"program": "x"}, {"tape": "--x"}, {"rate": 5}, {"profile": "../x"}, {"quirks": "edges=wrap --x"}, [], None):
             self.assertEqual(self.ask("open", source="", options=options, commands=[])[0], 400, options)
 
 

@@ -525,6 +525,12 @@ test('codes: every fault and stop has a text, and those of faults are the langua
   for (let number = 1; number <= 7; number += 1) assert.doesNotMatch(codeText(`S${number}`), /doesn't know/);
 });
 
+test('the page: its texts are plain English', () => {
+  const folder = new URL('../static/', import.meta.url);
+  const odd = /by the signal|Fewer are faster|Keys of the keyboard|a step back, on\b|Key of key/;
+  for (const name of readdirSync(folder)) assert.doesNotMatch(readFileSync(new URL(name, folder), 'utf8'), odd, name);
+});
+
 test('the page: no text is run or read as HTML, nothing comes from elsewhere, and each element that is named is there', () => {
   const folder = new URL('../static/', import.meta.url);
   const page = readFileSync(new URL('index.html', folder), 'utf8');

@@ -42,6 +42,7 @@ def candidates(line: Line, names: Iterable[str]) -> Iterator[Fix]:
     """
     yield from numbers(line)
     yield from signs(line)
+    yield from commas(line)
     yield from words(line, names)
 
 
@@ -64,6 +65,20 @@ def signs(line: Line) -> Iterator[Fix]:
     last = line.tokens[-1] if line.tokens else None
     if last is not None and last.kind == "bad" and last.text[0] in "'\"":
         yield f"Close the text with {last.text[0]}", line.text.rstrip() + last.text[0]
+
+
+def commas(line: Line) -> Iterator[Fix]:
+    """Commas between operands that blanks part: each alone, and then all."""
+    places = [
+        one.end for one, other in zip(line.operands, line.operands[1:])
+        if one.end < other.start and (one.kind != "sign" or one.text in "])") and (other.kind != "sign" or other.text in "[(")
+    ]
+    for chosen in [*([place] for place in places), places]:
+        text = line.text
+        for place in reversed(chosen):
+            text = f"{text[:place]},{text[place:]}"
+        if chosen:
+            yield "Put a comma" if len(chosen) == 1 else "Put commas", text
 
 
 def words(line: Line, names: Iterable[str]) -> Iterator[Fix]:

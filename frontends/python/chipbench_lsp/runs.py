@@ -5,9 +5,9 @@ from __future__ import annotations
 import threading
 from typing import Any
 
-from chipbench import BATCH, Bench, ListingLine, State
+from chipbench import BATCH, Bench, ChipbenchError, ListingLine, State
 
-from .document import Document
+from .document import Document, OverLimits
 from .tables import STOPS
 from .wire import REQUEST_CANCELLED, REQUEST_FAILED, Failed
 
@@ -35,9 +35,17 @@ def lenses(document: Document) -> list[dict[str, Any]]:
     return found
 
 
+def has_run(document: Document) -> bool:
+    """Whether the source runs: one with a fault doesn't, nor does one that the program doesn't open."""
+    try:
+        return not document.faults
+    except (OverLimits, ChipbenchError):
+        return False
+
+
 def actions(document: Document, number: int) -> list[dict[str, Any]]:
-    """The command for the line of the cursor, where an instruction stands on it."""
-    if document.read(number).mnemonic is None:
+    """The command for the line of the cursor, where an instruction stands on it and the source runs."""
+    if document.read(number).mnemonic is None or not has_run(document):
         return []
     return [{"title": f"Run to line {number + 1}", "kind": "source", "command": command(document, number)}]
 

@@ -302,6 +302,10 @@ class Features(Served):
         self.assertIn("step 15: pc is at #208", client.message())
         where = {**self.document(), "range": span((4, 0), (4, 0)), "context": {"diagnostics": []}}
         self.assertEqual(client.ask("textDocument/codeAction", where)[0]["command"]["arguments"], [URI, 4])
+        # a source with a fault doesn't run
+        client.edit((0, 0), (0, 0), "LD V0, NONE\n")
+        where = {**self.document(), "range": span((5, 0), (5, 0)), "context": {"diagnostics": []}}
+        self.assertEqual(client.ask("textDocument/codeAction", where), [])
 
     def test_a_property_has_a_lens_with_its_last_answer(self) -> None:
         client = self.opened(";! always V0 <= 20\n" + GAME + ";! ever at NONE\n", options={"showsRuns": True})
@@ -344,7 +348,8 @@ class Features(Served):
         sources: tuple[tuple[str, list[str]], ...] = (
             ("LD V0, 0x1f", ["LD V0, #1f"]), ("LD V0, 1Fh ; x", ["LD V0, #1F ; x"]), ("CLS // clear", ["CLS ; clear"]),
             ("DW 1 << 3", ["DW 1 < 3"]), ("DA 'abc", ["DA 'abc'"]), ("again", ["again:"]), ("drv V0, V1, 5", ["drw V0, V1, 5"]),
-            ("JP STRAT", ["JP START"]), ("jp strat", ["jp start"]), ("LD V0", []), ("DB 300", []), ("CLS", []), ("DB 'ä\rb", []),
+            ("JP STRAT", ["JP START"]), ("jp strat", ["jp start"]), ("LD V0 5 ; x", ["LD V0, 5 ; x"]), ("LD [I] V3", ["LD [I], V3"]),
+            ("DRW V0 V1 5", ["DRW V0, V1, 5"]), ("ADD V1, V2 V3", []), ("LD V0", []), ("DB 300", []), ("CLS", []), ("DB 'ä\rb", []),
         )
         client = self.opened(GAME)
         for text, wanted in sources:

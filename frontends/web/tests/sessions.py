@@ -11,6 +11,7 @@ import base64
 import json
 import pathlib
 import random
+import re
 import sys
 import tempfile
 
@@ -27,6 +28,13 @@ LD DT, {v}|LD ST, {v}|LD {v}, K|LD F, {v}|LD HF, {v}|LD B, {v}|LD [I], {v}|LD {v
 OR {v}, {v}|AND {v}, {v}|XOR {v}, {v}|SUB {v}, {v}|SUBN {v}, {v}|SHR {v}|SHL {v}, {v}|RND {v}, {e}|DRW {v}, {v}, {n}|SKP {v}|SKNP {v}"""
 OTHERS = "DB {e}, {e}|DW {e}|DA 'text'|DS {n}|ALIGN|ORG {e}|IFDEF {w}|IFUND {w}|ENDIF|END|OPTION BINARY|{w} EQU {e}|{w} = {e}|{w}:|; a comment|"
 STRANGE = ["JP", "LD V0", "LD VG, 1", "DRW V0, V1, 16", "'", "X Y Z", "$", "DB 'unclosed", "(" * 90, "x" * 201, "LD V0, 1 / 0", "\t\x00\xff"]
+
+# the values of each quirk, and the profiles
+TABLES = (TOP / "docs/MACHINE.md").read_text(encoding="utf-8")
+QUIRKS = {}
+for _name, _value in re.findall(r"^\| `([\w-]+)=([\w+]+)` \|", TABLES, re.M):
+    QUIRKS.setdefault(_name, []).append(_value)
+PROFILES = re.findall(r"`([\w-]+)`", re.search(r"^\| Quirk \|(.*)$", TABLES, re.M)[1])
 
 
 class Generator:
@@ -80,7 +88,9 @@ class Generator:
     def session(self):
         pick = self.random
         settings = {"rate": pick.choice([1, 10, 1000]), "tape": bytes(pick.randrange(256) for _ in range(pick.choice([1, 3, 256]))).hex()}
-        settings |= {"profile": pick.choice(["schip", "vip"]), "every": int(pick.choice(EACH_EVERY))}
+        settings |= {"profile": pick.choice(PROFILES), "every": int(pick.choice(EACH_EVERY))}
+        if pick.random() < 0.5:
+            settings["quirks"] = ",".join(f"{name}={pick.choice(list(QUIRKS[name]))}" for name in pick.sample(list(QUIRKS), pick.randrange(1, 11)))
         script = "\n".join(self.command() for _ in range(pick.choice([5, 60, 120])))
         return self.source().encode("latin-1"), script.encode("latin-1") + pick.choice([b"", b"\n", b"\r\n"]), settings
 
@@ -101,10 +111,10 @@ def written(program, name, source, script, settings, folder):
 
 
 def from_tests(program, folder):
-    """The cases of tests/sessions but those with a seed or with single quirks: a module takes a tape and a profile."""
+    """The cases of tests/sessions. A tape that comes of a seed is asked of no module, so they are left out."""
     for file in sorted((TOP / "tests/sessions").glob("**/*.test")):
         for case in read_sessions(file):
-            if {"seed", "quirks"} & set(case.settings):
+            if "seed" in case.settings:
                 continue
             source = case.source
             if case.is_image:

@@ -31,7 +31,8 @@ const MANY_STATES = 'LD I, #800\nLOOP: SKP V0\nADD V1, 1\nADD V2, 1\nLD [I], V2\
 const INPUT = 'regs 100\nins 1 LD V0, 3\nfoo\nimage\n';
 
 function inMemory(words, made = module) {
-  const host = new MemoryHost(words, { files: new Map([['game.asm', source], ['many.asm', Buffer.from(MANY_STATES)]]), input: Buffer.from(INPUT) });
+  const files = new Map([['game.asm', source], ['many.asm', Buffer.from(MANY_STATES)], ['stated.asm', Buffer.from(`;! always V9 = 0\n${MANY_STATES}`)]]);
+  const host = new MemoryHost(words, { files, input: Buffer.from(INPUT) });
   const status = run(made, host);
   return { status, output: decode(host.written(1)), errors: decode(host.written(2)), files: host.files };
 }
@@ -48,6 +49,12 @@ function natively(words) {
     fs.rmSync(folder, { recursive: true });
   }
 }
+
+test('a search ends at its time, by the clock of the host', { skip }, () => {
+  const { status, errors } = inMemory(['prove', 'stated.asm', '--seconds', '1']);
+  assert.equal(status, 0);
+  assert.match(errors, /out of time/);
+});
 
 test('each command prints and writes what the program does', { skip: skip || (program ? false : 'CHIPBENCH names no program') }, () => {
   for (const words of COMMANDS) {

@@ -3,7 +3,8 @@ import assert from 'node:assert/strict';
 import { spawnSync } from 'node:child_process';
 import fs from 'node:fs';
 import test from 'node:test';
-import { ProgramRequests, SessionRequests } from '../requests.mjs';
+import { OPTIONS, ProgramRequests, SessionRequests, WORDS } from '../requests.mjs';
+import { STATUS } from '../session.mjs';
 import { modules } from './modules.mjs';
 
 const { session, program } = modules();
@@ -20,6 +21,25 @@ test('a session is opened, asked and opened anew', { skip }, () => {
   const again = requests.open({ source: 'CLS\n', options: {}, commands: ['image'] });
   assert.deepEqual(again.answers, ['00e0\n']);
   assert.throws(() => requests.ask({ session: opened.session, commands: ['image'] }), { status: 409 });
+});
+
+test('a session takes a profile and quirks', { skip }, () => {
+  const requests = new SessionRequests(moduleOf(session));
+  const source = 'LD V0, #81\nLD V1, 6\nSHR V0, V1\n';
+  const registers = (options) => requests.open({ source, options, commands: ['regs 3'] }).answers?.[0]?.split('\n')[1];
+  assert.match(registers({}), /^40 06 /);
+  assert.match(registers({ quirks: 'shift=vy' }), /^03 06 /);
+  assert.match(registers({ profile: 'octo' }), /^03 06 /);
+  assert.match(registers({ profile: 'octo', quirks: 'edges=clip,shift=vx' }), /^40 06 /);
+  const statusOf = (options) => requests.open({ source, options, commands: [] }).unopened;
+  assert.equal(statusOf({ profile: 'foo' }), STATUS.unknownProfile);
+  for (const quirks of ['shift', 'shift=vz', 'shift=vy,', ',', 'shift=vy,shift=vy', 'shift=vy,shift=vx', 'SHIFT=vy', ' shift=vy']) {
+    assert.equal(statusOf({ quirks }), STATUS.unknownQuirks, quirks);
+  }
+  // the first fault alone is told: of the profile, of the list, of rate and tape
+  assert.equal(statusOf({ profile: 'foo', quirks: 'x', rate: '0' }), STATUS.unknownProfile);
+  assert.equal(statusOf({ quirks: 'x', rate: '0' }), STATUS.unknownQuirks);
+  assert.equal(statusOf({ quirks: 'shift=vy', rate: '0' }), STATUS.rateOutOfRange);
 });
 
 test('a source that does not open is told of as the program does', { skip }, () => {
@@ -50,8 +70,13 @@ test('what a command does not take of the settings makes no difference to it', {
   const options = { rate: '20', every: '2000' };
   const found = requests.search({ source: 'L: ADD V0, 1\nJP L\n', keys: '', options, first: 1, last: 100, most: 1, isLast: false, where: [['v0', ['05'], false]] });
   assert.deepEqual(found.steps, [9]);
-  assert.deepEqual(requests.about(), { options: ['rate', 'tape', 'seed', 'profile', 'every'], words: requests.about().words });
-  assert.ok(requests.about().words.includes('explore'));
+});
+
+test('the program has the settings and the commands of which the page knows', { skip }, () => {
+  const requests = new ProgramRequests(moduleOf(program));
+  assert.deepEqual(requests.optionsOf('debug'), OPTIONS);
+  const { output } = requests.runOnce(['--help']);
+  for (const word of WORDS) assert.match(output, new RegExp(`^ +${word}\\b`, 'm'));
 });
 
 test('a search over all keys is told of while it goes on, and gives the keys that it found', { skip }, () => {
@@ -71,7 +96,6 @@ test('a search over all keys is told of while it goes on, and gives the keys tha
 
 test('what prove prints is told as it comes', { skip }, (context) => {
   const requests = new ProgramRequests(moduleOf(program));
-  if (!requests.about().words.includes('prove')) return context.skip('the program has no command prove');
   const told = [];
   const source = ';! never V0 = 3 at DONE\n;! V1 = 0 here\nLOOP: LD V0, K\nSE V0, 3\nJP LOOP\nDONE: JP DONE\n';
   const found = requests.prove({ source, options: { rate: '10', every: '1000' } }, ({ output }) => output && told.push(output));

@@ -14,13 +14,14 @@ use Rattle.chip_explore.specs.declared.property.Relation.{Relation}
 use Rattle.chip_explore.specs.declared.property.Relation.TheVariants.{Equal, Unequal, Less, LessOrEqual, Greater, GreaterOrEqual}
 use Rattle.chip_properties.specs.declared.limits.TheConstants.{MOST_COMPARISONS, MOST_TERMS, SCREEN_WIDTH, SCREEN_HEIGHT}
 use Rattle.chip_properties.specs.Language.{Addend, a_number, times}
+use Rattle.chip_properties.specs.Nesting.{is_deep}
 use Rattle.chip_properties.specs.declared.separator.Separator.{Separator}
 use Rattle.chip_properties.specs.declared.separator.Separator.TheVariants.{Place, And, Or, Relation as relation, Plus, Times, Comma}
 use Rattle.chip_properties.specs.declared.stated.Kind.{Kind}
 use Rattle.chip_properties.specs.declared.stated.Kind.TheVariants.{Always, Never, Ever, Can}
 use Rattle.chip_properties.specs.SeenProperty.{SeenSum, SeenComparison, SeenCondition, SeenProperty}
 use Rattle.chip_properties.specs.Words.{kind_of_word, is_property_word, item_of_word}
-use Rattle.chip_properties.specs.computed.Separated.{is_deep, before_first, from_first, after_first, tail_of, enclosed, count_before, pieces}
+use Rattle.chip_properties.specs.computed.Separated.{before_first, from_first, after_first, tail_of, enclosed, count_before, pieces}
 
 -- a number, if it isn't below 0
 abbrev pub natural : ℤ → Option ℕ

@@ -1,9 +1,9 @@
 -- Tokens before, between and after separators outside of parentheses and brackets, found token by
 -- token (own).
 use Rattle.std.specs.Prelude.{ℕ, zero, suc, ◌+◌, ◌-◌, ◌==◌, ◌&&◌, ◌||◌, Bool, true, false, if◌then◌else◌, nat_lt, List, [], ◌∷◌, Option, Some, None, codes, drop, take, option_map}
-use Rattle.chip_lang.specs.declared.limits.TheConstants.{OPEN_PARENTHESES}
 use Rattle.chip_lang.specs.declared.lexeme.Lexeme.{Lexeme}
 use Rattle.chip_lang.specs.Line.{is_the, is_sign_of}
+use Rattle.chip_properties.specs.Nesting.{level_after}
 use Rattle.chip_properties.specs.declared.separator.Separator.{Separator}
 use Rattle.chip_properties.specs.declared.separator.Separator.TheVariants.{Place, And, Or, Relation, Plus, Times, Comma}
 
@@ -16,18 +16,6 @@ separates Relation t = is_sign_of 61 t || is_sign_of 60 t || is_sign_of 62 t
 separates Plus t = is_sign_of 43 t
 separates Times t = is_sign_of 42 t
 separates Comma t = is_sign_of 44 t
-
--- how many parentheses and brackets are open after a token
-abbrev pub level_after : ℕ → Lexeme → ℕ
-level_after depth t =
-    if is_sign_of 40 t || is_sign_of 91 t then depth + 1
-    else (if is_sign_of 41 t || is_sign_of 93 t then depth - 1 else depth)
-
--- over OPEN_PARENTHESES are open at once
-abbrev pub is_deep : ℕ → List Lexeme → Bool
-is_deep depth [] = false
-is_deep depth (t ∷ ts) =
-    if nat_lt OPEN_PARENTHESES (level_after depth t) then true else is_deep (level_after depth t) ts
 
 -- how many tokens stand before the first separator, where so many are open
 abbrev pub count_before : Separator → ℕ → List Lexeme → ℕ

@@ -2,7 +2,7 @@
 --
 --     require('chipbench').setup()
 --
--- Options: `cmd` (by default { 'chipbench-lsp' }), `settings` (profile, rate, tape, seed, every, program) and `on_attach`.
+-- Options: `cmd` (by default { 'chipbench-lsp' }), `settings` (profile, quirks, rate, tape, seed, every, program) and `on_attach`.
 
 local M = {}
 
@@ -113,6 +113,10 @@ local function configure(options)
     init_options = init,
     root_dir = options.root_dir or vim.fn.getcwd(),
     on_attach = function(client, buffer)
+      -- later Neovims set it themselves
+      if vim.bo[buffer].omnifunc == '' then
+        vim.bo[buffer].omnifunc = 'v:lua.vim.lsp.omnifunc'
+      end
       if options.on_attach then
         options.on_attach(client, buffer)
       end

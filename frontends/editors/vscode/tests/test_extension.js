@@ -44,8 +44,8 @@ function activated(more) {
   return { editor, server };
 }
 
-async function opened(text = GAME) {
-  const made = activated();
+async function opened(text = GAME, more = {}) {
+  const made = activated(more);
   const document = new TextDocument('game.asm', text);
   made.editor.open(document);
   await made.editor.diagnosed(document, () => true);
@@ -113,6 +113,22 @@ test('a fix', options, async () => {
   const [fix] = await editor.providers.CodeActions.provideCodeActions(document, new Range(at, at), {});
   assert.deepStrictEqual([fix.kind, fix.isPreferred], ['quickfix', true]);
   assert.strictEqual(fix.edit.edits.get(document.uri.toString())[0].newText, 'LD V0, #1F');
+});
+
+test('a fix for a missing comma', options, async () => {
+  const { editor, document } = await opened('LD V0 5\n');
+  const at = new Position(0, 1);
+  const actions = await editor.providers.CodeActions.provideCodeActions(document, new Range(at, at), {});
+  // a source with a fault doesn't run, so this is all that is offered
+  assert.deepStrictEqual(actions.map((action) => action.title), ['Put a comma']);
+  assert.strictEqual(actions[0].edit.edits.get(document.uri.toString())[0].newText, 'LD V0, 5');
+});
+
+test('the settings of a run', options, async () => {
+  const game = 'LD V1, 6\nSHR V0, V1\nRND V2, 255\nHERE: JP HERE\n';
+  const { editor, document } = await opened(game, { quirks: 'shift=vy', tape: '2a', every: 2000 });
+  await editor.commands['chipbench.runTo'](document.uri.toString(), 3);
+  assert.match(editor.output.join('\n'), /v 03 06 2a/);
 });
 
 test('run to here is shown in the output', options, async () => {

@@ -2,6 +2,7 @@ use Rattle.chip_lang.specs.Line.{lexemes_of}
 use Rattle.chip_asm.specs.Names.{values_of}
 use Rattle.chip_asm.specs.Program.{symbols_of}
 use Rattle.chip_properties.proofs.SoundProperties.{kind_kept, text_states}
+use Rattle.chip_properties.proofs.CompleteProperties.{text_refused}
 use Rattle.chip_properties.proofs.properties.property_of_text.Goals as goal
 
 pub returns-clause-kind : goal.returns-clause-kind
@@ -11,3 +12,7 @@ returns-clause-kind c =
 pub returns-clause-stated : goal.returns-clause-stated
 returns-clause-stated c =
     text_states (values_of (symbols_of c.args.source.now.lines)) c.args.kind (lexemes_of c.args.text.now) c.read.result c.read.ensures.stated
+
+pub returns-clause-refused : goal.returns-clause-refused
+returns-clause-refused c =
+    text_refused (values_of (symbols_of c.args.source.now.lines)) c.args.kind (lexemes_of c.args.text.now) c.read.result c.read.ensures.refused

@@ -4,9 +4,9 @@ use Rattle.chip_properties.proofs.properties.property_on.Goals as goal
 pub returns-then-has_room : goal.returns-then-has_room
 returns-then-has_room c =
     answered c.args.source.now.lines c.args.number c.args.start c.args.line.now c.read.result c.address.result c.text.result.now
-    c.requires.there c.requires.begins c.address.ensures.value c.text.ensures c.read.ensures.stated c.read.ensures.stands
+    c.requires.there c.requires.begins c.address.ensures.value c.text.ensures c.read.ensures.stated c.read.ensures.stands c.read.ensures.refused
 
 pub returns : goal.returns
 returns c =
     refused c.args.source.now.lines c.args.number c.args.start c.args.line.now c.in_ok-fault.fault c.requires.there c.requires.begins
-    (rw c.text-2.ensures at c.in_ok-fault.ensures)
+    (rw c.text-2.ensures at c.in_ok-fault.ensures) (c.requires.room c.if-has_room.false)

@@ -1,5 +1,5 @@
 use Rattle.std.proofs.Common.{◌≡◌, ◌≤◌, drop}
-use Rattle.chip_properties.specs.computed.Separated.{is_deep}
+use Rattle.chip_properties.specs.Nesting.{is_deep}
 use Rattle.chip_properties.proofs.separator.is_deep.Given as goal
 
 abbrev pub invariant-loop-token : goal.invariant-loop-token

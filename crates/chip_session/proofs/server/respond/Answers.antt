@@ -1,4 +1,4 @@
-use Rattle.std.proofs.Common.{◌∙◌, sym, ap, ◌++◌, ◌∷◌, [], Some, Ok, Err}
+use Rattle.std.proofs.Common.{◌∙◌, sym, ap, inl, inr, ◌++◌, ◌∷◌, [], Some, Ok, Err}
 use Rattle.std.proofs.lemmas.Result.{IfOk-weaker, on_ok_weaker}
 use Rattle.chip_session.specs.Commands.{blank, change, ask}
 use Rattle.chip_session.specs.Refusals.{refusal_code}
@@ -8,7 +8,7 @@ use Rattle.chip_session.specs.Workbench.{Workbench}
 use Rattle.chip_session.specs.Changes.{change_of}
 use Rattle.chip_session.specs.CommandView.{command_view}
 use Rattle.chip_session.specs.declared.refusal.Refused.TheVariants as why
-use Rattle.chip_session.proofs.ScriptLemmas.{ask_not_refused, ask_told, reply_is, after_is, refusal_is, no_memory, not_for_memory}
+use Rattle.chip_session.proofs.ScriptLemmas.{ask_not_refused, ask_told, reply_is, after_is, refusal_is, no_memory, not_for_memory, on_err}
 use Rattle.chip_session.proofs.server.respond.Goals as goal
 use Rattle.chip_session.proofs.server.respond.Goals.{in-Change+in-Err-apply, in-Ask+in-Err-ask}
 
@@ -47,6 +47,12 @@ returns-in-Ok-apply-clause-refused c =
     let read = c.in-Ok.ensures ∙ ap (λ x. Ok (command_view x)) c.in-Change.is in
     sym (refusal_is c.args.bench.now.session c.args.line.now (Ok (change (change_of c.in-Change.change))) read ∙ ap refusal_of c.in-Ok-apply.ensures.ok)
 
+pub returns-in_err-extend_from_slice-in-Ok-apply-clause-memory : goal.returns-in_err-extend_from_slice-in-Ok-apply-clause-memory
+returns-in_err-extend_from_slice-in-Ok-apply-clause-memory c =
+    let read = c.in-Ok.ensures ∙ ap (λ x. Ok (command_view x)) c.in-Change.is in
+    on_err c.from_residual.result
+    (inr (sym (after_is c.args.bench.now.session c.args.line.now (Ok (change (change_of c.in-Change.change))) read ∙ ap (change_after c.args.bench.now.session) c.in-Ok-apply.ensures.ok)))
+
 pub returns-in-Ok-ask-clause-answer : goal.returns-in-Ok-ask-clause-answer
 returns-in-Ok-ask-clause-answer c =
     ask_told (answer_to c.args.bench.now.session c.in-Ask.question) c.clear.new.self.items c.ask.new.out.items c.clear.ensures.items c.in-Ok-ask.ensures.answer
@@ -73,6 +79,7 @@ returns-in_default c = elim c.match-command.branch [
             ∙ sym (reply_is c.args.bench.now.session c.args.line.now (Ok (change (change_of w.in-Change.change))) read ∙ ap change_reply none)) c.refuse_for-in_default.ensures.answer;
         bench = on_ok_weaker c.refuse_for-in_default.result (λ h. ap (λ (b : Workbench). b.session) w.bench-is ∙ w.in-Err-apply.ensures.same
             ∙ sym (after_is c.args.bench.now.session c.args.line.now (Ok (change (change_of w.in-Change.change))) read ∙ ap (change_after c.args.bench.now.session) none)) c.refuse_for-in_default.ensures.answer;
+        memory = on_err c.refuse_for-in_default.result (inl (ap (λ (b : Workbench). b.session) w.bench-is ∙ w.in-Err-apply.ensures.same));
         refused = IfOk-weaker c.refuse_for-in_default.result _ _ (λ given h. h
             ∙ ap (λ r. Some (why.Command r)) w.refusal-is
             ∙ sym (refusal_is c.args.bench.now.session c.args.line.now (Ok (change (change_of w.in-Change.change))) read ∙ ap refusal_of none)) c.refuse_for-in_default.ensures.why;
@@ -87,6 +94,7 @@ returns-in_default c = elim c.match-command.branch [
             ∙ sym (reply_is c.args.bench.now.session c.args.line.now (Ok (ask w.in-Ask.question)) read ∙ ap ask_reply none)) c.refuse_for-in_default.ensures.answer;
         bench = on_ok_weaker c.refuse_for-in_default.result (λ h. ap (λ (b : Workbench). b.session) w.bench-is ∙ w.in-Err-ask.ensures.session
             ∙ sym (after_is c.args.bench.now.session c.args.line.now (Ok (ask w.in-Ask.question)) read)) c.refuse_for-in_default.ensures.answer;
+        memory = on_err c.refuse_for-in_default.result (inl (ap (λ (b : Workbench). b.session) w.bench-is ∙ w.in-Err-ask.ensures.session));
         refused = IfOk-weaker c.refuse_for-in_default.result _ _ (λ given h. h
             ∙ ap (λ r. Some (why.Command r)) w.refusal-is
             ∙ sym (refusal_is c.args.bench.now.session c.args.line.now (Ok (ask w.in-Ask.question)) read ∙ ap refusal_of none)) c.refuse_for-in_default.ensures.why;

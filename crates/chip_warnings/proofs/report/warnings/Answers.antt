@@ -9,6 +9,6 @@ loop-place-preserved c =
     let number : ℕ = c.loop-place.place + 1 in
     let text : slice_get lines (number - 1) ≡ Some c.in-Some.line.text = subst (λ o. IfSome o (λ (f : LineFacts). slice_get lines (number - 1) ≡ Some f.text)) c.in-Some.is c.line.ensures.text in
     let at : slice_get lines (number - 1) ≡ Some c.text-bytes.result.now = text ∙ ap Some (sym c.text-bytes.ensures) in
-    next_placed lines number c.text-bytes.result.now (omega arith) at _ _
-    (next_placed lines number c.text-bytes.result.now (omega arith) at _ _ c.loop-place.invariant c.in_ok-push_warnings.ensures)
-    c.in_ok-next.ensures
+    next_placed c.args.allowed lines number c.text-bytes.result.now (omega arith) at _ _
+    (next_placed c.args.allowed lines number c.text-bytes.result.now (omega arith) at _ _ c.loop-place.invariant c.in_ok-push_warnings.ensures)
+    c.in_ok-faults.ensures

@@ -1,5 +1,5 @@
 use Rattle.std.proofs.Common.{◌≡◌, ℕ, ◌<◌, ◌≤◌, ◌*◌, ◌%◌, ◌^◌, get_or}
-use Rattle.chip_machine.proofs.screen.to_the_left.Given as goal
+use Rattle.chip_machine.proofs.screen.shift_left.Given as goal
 
 abbrev pub invariant-loop-bits : goal.invariant-loop-bits
 invariant-loop-bits l = record {
