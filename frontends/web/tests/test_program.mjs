@@ -28,11 +28,11 @@ const COMMANDS = [
 ].map((line) => line.split(' ').filter(Boolean));
 // Each round has two outcomes for each of 256 counts, and stores nothing that could be forgotten.
 const MANY_STATES = 'LD I, #800\nLOOP: SKP V0\nADD V1, 1\nADD V2, 1\nLD [I], V2\nSE V2, 0\nJP LOOP\nADD V3, 1\nLD [I], V3\nJP LOOP\n';
+const FILES = { 'game.asm': source, 'many.asm': Buffer.from(MANY_STATES), 'stated.asm': Buffer.from(`;! always V9 = 0\n${MANY_STATES}`) };
 const INPUT = 'regs 100\nins 1 LD V0, 3\nfoo\nimage\n';
 
 function inMemory(words, made = module) {
-  const files = new Map([['game.asm', source], ['many.asm', Buffer.from(MANY_STATES)], ['stated.asm', Buffer.from(`;! always V9 = 0\n${MANY_STATES}`)]]);
-  const host = new MemoryHost(words, { files, input: Buffer.from(INPUT) });
+  const host = new MemoryHost(words, { files: new Map(Object.entries(FILES)), input: Buffer.from(INPUT) });
   const status = run(made, host);
   return { status, output: decode(host.written(1)), errors: decode(host.written(2)), files: host.files };
 }
@@ -40,8 +40,7 @@ function inMemory(words, made = module) {
 function natively(words) {
   const folder = fs.mkdtempSync(path.join(os.tmpdir(), 'chipbench-web-'));
   try {
-    fs.writeFileSync(path.join(folder, 'game.asm'), source);
-    fs.writeFileSync(path.join(folder, 'many.asm'), MANY_STATES);
+    for (const [name, content] of Object.entries(FILES)) fs.writeFileSync(path.join(folder, name), content);
     const ran = spawnSync(program, words, { cwd: folder, input: INPUT });
     const files = new Map(fs.readdirSync(folder).map((name) => [name, new Uint8Array(fs.readFileSync(path.join(folder, name)))]));
     return { status: ran.status, output: decode(ran.stdout), errors: decode(ran.stderr), files };
