@@ -24,7 +24,7 @@ export class Timeline {
   /** What the pointer holds: the event that it moves, or the step, or an edge of the close-up; null where none is down. */
   #held = null;
   #draw = oncePerFrame(() => this.#drawBoth());
-  /** The sizes of the tracks, in pixels, as the browser told them last, with the pen of each. */
+  /** The sizes of the tracks, in pixels, as the browser told them last, with the pen of each and what is kept of its drawing. */
   #sizes = new Map();
 
   /** `move(name)` carries out the moves of the keyboard; `isPlaying()` says whether the run plays. */
@@ -184,7 +184,7 @@ export class Timeline {
     canvas.height = Math.round(height * devicePixelRatio);
     const pen = canvas.getContext('2d');
     pen.scale(devicePixelRatio, devicePixelRatio);
-    this.#sizes.set(track, { width, height, pen, scale: devicePixelRatio });
+    this.#sizes.set(track, { width, height, pen, scale: devicePixelRatio, kept: {} });
     this.#drawBoth();
   }
 
@@ -218,7 +218,7 @@ export class Timeline {
       const size = this.#sizes.get(track);
       if (size === undefined || size.width === 0) continue;
       if (size.scale !== devicePixelRatio) this.#resized(track);
-      const what = { model: this.#model, range: this.window, span: this.#span, played: playedTo, size };
+      const what = { model: this.#model, range: this.window, span: this.#span, played: playedTo, track: this.#sizes.get(track) };
       if (track === this.#overview) drawOverview(what);
       else drawCloseUp(what);
     }

@@ -1,10 +1,14 @@
-// Draws the time on a canvas: a ruler, a lane for each key that has events, what was played, and the step.
+// Draws the time on a canvas: a ruler, a lane for each key that has events, what was played, and the step. Where a canvas of the page is
+// given a text, the browser may lay the page out at once: so texts are drawn on others, which are kept.
 
 import { colour, grouped } from './dom.mjs';
 
 export const LABEL_PIXELS = 24;
 const RULER_PIXELS = 18;
 const RULER_FONT = '11px system-ui, sans-serif';
+const BOLD_FONT = `600 ${RULER_FONT}`;
+const SIGNS = '0123456789,';
+const LABEL_HEIGHT = 16;
 /** At most so wide is a digit of the ruler. */
 const DIGIT_PIXELS = 7;
 const TALLEST_LANE = 20;
@@ -36,28 +40,64 @@ export function barsOf(keys) {
   return bars;
 }
 
-/** `what` has the model, the steps that are shown, how many were played, and the size and the pen of the track. */
-export function drawCloseUp({ model, range: [from, to], played, size: { width, height, pen } }) {
+/**
+ * `what` has the model, the steps that are shown, how many were played, and the track: its size, its pen, and what is kept of the drawing
+ * before.
+ */
+export function drawCloseUp({ model, range: [from, to], played, track }) {
+  const { width, height, pen } = track;
   const x = (step) => LABEL_PIXELS + ((step - from) / Math.max(1, to - from)) * (width - LABEL_PIXELS);
   pen.clearRect(0, 0, width, height);
-  pen.fillStyle = colour('--sunken');
-  pen.fillRect(LABEL_PIXELS, RULER_PIXELS, width - LABEL_PIXELS, height - RULER_PIXELS);
-  drawRuler(pen, x, from, to, height);
+  pen.drawImage(groundOf(track, { x, from, to, lanes: lanesOf(model.keys) }), 0, 0, width, height);
   if (played < to) hatch(pen, Math.max(LABEL_PIXELS, x(played)), RULER_PIXELS, width, height);
   drawLanes({ pen, x, from, to, width, height, model });
   if (model.flag !== null && model.flag.step >= from && model.flag.step <= to) drawFlag(pen, x(model.flag.step), model.flag.text, height);
-  drawStep(pen, x(model.step), model.step, width, height);
+  drawStep(track, x(model.step), model.step);
+}
+
+/** What stays while the run plays: the ruler, and the names of the lanes. */
+function groundOf(track, { x, from, to, lanes }) {
+  const { width, height } = track;
+  const key = [from, to, width, height, lanes, ...['--sunken', '--line', '--faint'].map(colour)].join();
+  return kept(track, 'ground', key, { width, height }, (pen) => {
+    pen.fillStyle = colour('--sunken');
+    pen.fillRect(LABEL_PIXELS, RULER_PIXELS, width - LABEL_PIXELS, height - RULER_PIXELS);
+    drawRuler(pen, x, from, to, height);
+    nameLanes(pen, lanes, height);
+  });
+}
+
+/** The signs of a number one after another, each in the middle of `DIGIT_PIXELS`. */
+function signsOf(track) {
+  const tint = colour('--accent-text');
+  return kept(track, 'signs', tint, { width: SIGNS.length * DIGIT_PIXELS, height: LABEL_HEIGHT }, (pen) => {
+    pen.font = BOLD_FONT;
+    pen.fillStyle = tint;
+    pen.textAlign = 'center';
+    [...SIGNS].forEach((sign, place) => pen.fillText(sign, (place + 0.5) * DIGIT_PIXELS, 12));
+  });
+}
+
+/** A canvas of a track that is no part of the page. It is drawn again where its key is another one. */
+function kept(track, name, key, { width, height }, draw) {
+  if (track.kept[name]?.key === key) return track.kept[name].canvas;
+  const canvas = new OffscreenCanvas(Math.max(1, Math.round(width * track.scale)), Math.max(1, Math.round(height * track.scale)));
+  const pen = canvas.getContext('2d');
+  pen.scale(track.scale, track.scale);
+  draw(pen);
+  track.kept[name] = { key, canvas };
+  return canvas;
 }
 
 /** A step that was found, with what was found there. */
 function drawFlag(pen, place, text, height) {
   pen.fillStyle = colour('--fault');
   for (let at = RULER_PIXELS; at < height; at += 6) pen.fillRect(place - 1, at, 2, 3);
-  setFont(pen, `600 ${RULER_FONT}`);
+  pen.font = BOLD_FONT;
   pen.fillText(text, Math.max(LABEL_PIXELS, place - pen.measureText(text).width - 4), height - 4);
 }
 
-export function drawOverview({ model, range: [from, to], span, played, size: { width, height, pen } }) {
+export function drawOverview({ model, range: [from, to], span, played, track: { width, height, pen } }) {
   const x = (step) => LABEL_PIXELS + (step / Math.max(1, span)) * (width - LABEL_PIXELS);
   pen.clearRect(0, 0, width, height);
   if (played < span) hatch(pen, x(played), 0, width, height);
@@ -96,7 +136,7 @@ function hatch(pen, from, top, width, height) {
 /** A mark at round steps, with numbers as far apart as they have room. */
 function drawRuler(pen, x, from, to, height) {
   const unit = niceUnit((to - from) / Math.max(2, (x(to) - x(from)) / 90));
-  setFont(pen, RULER_FONT);
+  pen.font = RULER_FONT;
   for (let step = Math.ceil(from / unit) * unit; step <= to; step += unit) {
     pen.fillStyle = colour('--line');
     pen.fillRect(x(step), 2, 1, height - 2);
@@ -117,28 +157,30 @@ function drawLanes({ pen, x, from, to, width, height, model }) {
     pen.fillStyle = colour(isHeld ? '--accent' : '--key-bar');
     pen.fillRect(begin, RULER_PIXELS + lanes.indexOf(key) * tall + gap, Math.max(LEAST_BAR, stop - begin), tall - 2 * gap);
   }
+}
+
+function nameLanes(pen, lanes, height) {
+  const tall = laneHeight(lanes.length, height);
   if (lanes.length === 0 || tall < 8) return;
   pen.fillStyle = colour('--faint');
-  setFont(pen, `${Math.min(11, tall)}px ui-monospace, monospace`);
+  pen.font = `${Math.min(11, tall)}px ui-monospace, monospace`;
   lanes.forEach((key, lane) => pen.fillText(key.toString(16).toUpperCase(), 6, RULER_PIXELS + (lane + 1) * tall - (tall - 8) / 2));
 }
 
 /** The step, as a line with its number above it. */
-function drawStep(pen, place, step, width, height) {
-  setFont(pen, `600 ${RULER_FONT}`);
+function drawStep(track, place, step) {
+  const { width, height, pen, scale } = track;
   const label = grouped(step);
   const wide = DIGIT_PIXELS * label.length + 8;
-  const left = Math.max(0, Math.min(width - wide, place - wide / 2));
+  const left = Math.round(Math.max(0, Math.min(width - wide, place - wide / 2)));
   pen.fillStyle = colour('--accent');
   pen.fillRect(Math.min(width - 2, place - 1), 0, 2, height);
-  pen.fillRect(left, 0, wide, 16);
-  pen.fillStyle = colour('--accent-text');
-  pen.fillText(label, left + (wide - pen.measureText(label).width) / 2, 12);
-}
-
-/** Sets the font where it isn't the one: the browser looks up the styles of the page for it. */
-function setFont(pen, font) {
-  if (pen.font !== font) pen.font = font;
+  pen.fillRect(left, 0, wide, LABEL_HEIGHT);
+  const signs = signsOf(track);
+  const [across, down] = [DIGIT_PIXELS * scale, LABEL_HEIGHT * scale];
+  [...label].forEach((sign, at) => {
+    pen.drawImage(signs, SIGNS.indexOf(sign) * across, 0, across, down, left + 4 + at * DIGIT_PIXELS, 0, DIGIT_PIXELS, LABEL_HEIGHT);
+  });
 }
 
 /** The least of 1, 2, 5, 10, 20 .. that isn't below a number. */
