@@ -22,10 +22,10 @@ export class AboutLine {
     this.#assembled = assembled;
     this.#explains = explains;
     this.#explain = explain;
-    const text = byId('source-text');
+    const paper = byId('paper');
     editor.addEventListener('cursor', () => this.#tellLine());
-    text.addEventListener('pointermove', (event) => this.#pointed(event));
-    for (const name of ['pointerleave', 'keydown', 'pointerdown']) text.addEventListener(name, () => this.#hide());
+    paper.addEventListener('pointermove', (event) => this.#pointed(event));
+    for (const name of ['pointerleave', 'keydown', 'pointerdown']) paper.addEventListener(name, () => this.#hide());
     byId('editor').addEventListener('scroll', () => this.#hide(), { passive: true });
     this.#next.addEventListener('click', () => editor.goToFault(true));
   }
@@ -83,7 +83,7 @@ export class AboutLine {
 
   #pointed(event) {
     const { line, column } = this.#editor.placeAt(event);
-    const text = this.#editor.lines[line - 1];
+    const text = event.target.closest('#fault-help') === null ? this.#editor.lines[line - 1] : undefined;
     const place = text === undefined ? 0 : placeOf(text, column);
     const isOnText = text !== undefined && column >= 0 && place < text.length;
     const rows = isOnText ? [...this.#faultAt(line, place), ...this.#about(line, place)] : [];

@@ -60,7 +60,7 @@ export class BackgroundSearch extends EventTarget {
 
   #later(milliseconds = REST_MILLISECONDS) {
     this.#end();
-    this.#tell({ name: 'waits', found: null });
+    if (this.state.name !== 'waits') this.#tell({ name: 'waits', found: null });
     this.#timer = setTimeout(() => this.#begin(), milliseconds);
   }
 

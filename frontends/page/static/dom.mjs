@@ -32,13 +32,26 @@ export function setAttribute(place, name, value) {
   if (place.getAttribute(name) !== value) place.setAttribute(name, value);
 }
 
-/** Sets the children of an element; those that stay are left alone, so that only what changes is drawn anew. */
-export function setChildren(place, wanted) {
-  const { children } = place;
+/** Puts other children in the place of those that an element has; those that stay are left alone, so that only what changes is drawn anew. */
+export function setChildren(place, children, wanted) {
   const isNear = children.length === wanted.length;
-  const others = isNear ? wanted.map((_, at) => at).filter((at) => children[at] !== wanted[at]) : [];
+  const others = [];
+  if (isNear) children.forEach((child, at) => { if (child !== wanted[at]) others.push(at); });
   if (isNear && others.every((at) => wanted[at].parentElement !== place)) for (const at of others) children[at].replaceWith(wanted[at]);
   else place.replaceChildren(...wanted);
+}
+
+let turns = null;
+const acts = [];
+
+/** Calls `act` once what the browser does now is done, and before a timer would. */
+export function soon(act) {
+  if (turns === null) {
+    turns = new MessageChannel();
+    turns.port1.onmessage = () => acts.shift()();
+  }
+  acts.push(act);
+  turns.port2.postMessage(null);
 }
 
 /** Calls `draw` once before the next picture, however often it is asked for. */

@@ -1,9 +1,9 @@
-// The source: its text, what is typed into it, and what is known of its lines. A text area holds the lines near those in sight
-// (text_window.mjs), and rows around it show the rest (editor_rows.mjs).
+// The source: its text, what is typed into it, and what is known of its lines. A text area holds the lines around the cursor
+// (text_window.mjs), and rows beside it show all that are in sight (editor_rows.mjs).
 
 import { byId, oncePerFrame } from './dom.mjs';
 import { Breakpoints } from './breakpoints.mjs';
-import { columnOf, widthOf } from './columns.mjs';
+import { columnOf } from './columns.mjs';
 import { EditorKeys } from './editor_keys.mjs';
 import { EditorPointer } from './editor_pointer.mjs';
 import { EditorRows, ROW } from './editor_rows.mjs';
@@ -27,6 +27,8 @@ export class Editor extends LineFacts {
   #draw = oncePerFrame(() => this.#drawRows());
   /** The selection before what is typed now, and where the page stood when the key went down. */
   #before = { start: 0, end: 0 };
+  /** The selection that was told last. */
+  #told = {};
   #box = null;
   /** What the area became is known already: the event about it tells others alone. */
   #isOwn = false;
@@ -43,7 +45,7 @@ export class Editor extends LineFacts {
     // not every browser tells of a moved cursor by the first of these
     for (const name of ['selectionchange', 'keyup', 'pointerup']) {
       document.addEventListener(name, () => {
-        if (document.activeElement === this.#area) this.#tellCursor();
+        if (document.activeElement === this.#area && this.#hasMoved) this.#tellCursor();
       });
     }
     byId('editor').addEventListener('pointerdown', (event) => this.#pointed(event));
@@ -122,6 +124,11 @@ export class Editor extends LineFacts {
     this.#window.leaveFar();
   }
 
+  /** The browser itself is to find a place in what is in sight. */
+  holdSight() {
+    this.#window.widen();
+  }
+
   get fault() {
     return this.faultAt(this.line);
   }
@@ -192,15 +199,14 @@ export class Editor extends LineFacts {
 
   #placeArea(first, last) {
     const { style } = this.#area;
-    style.transform = `translateY(${(first - 1) * ROW}px)`;
+    style.top = `${(first - 1) * ROW}px`;
     style.height = `${(last - first + 2) * ROW}px`;
   }
 
   /** Makes room for the text as it is now. */
   #fit() {
     this.#sight.makeRoom(this.lines.length);
-    const widest = this.lines.reduce((most, line) => Math.max(most, widthOf(line)), 0);
-    this.#area.style.width = `${widest + 3}ch`;
+    this.#area.style.width = `${this.#source.widest + 3}ch`;
   }
 
   #drawRows() {
@@ -208,7 +214,14 @@ export class Editor extends LineFacts {
     this.#rows.draw(this.#sight);
   }
 
+  /** Whether the selection isn't the one that was told last: a browser tells of each several times. */
+  get #hasMoved() {
+    const { start, end, direction } = this.selection;
+    return start !== this.#told.start || end !== this.#told.end || (start < end && direction !== this.#told.direction);
+  }
+
   #tellCursor() {
+    this.#told = this.selection;
     this.dispatchEvent(new Event('cursor'));
   }
 

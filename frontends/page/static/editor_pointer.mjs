@@ -54,7 +54,9 @@ export class EditorPointer {
     const paper = byId('paper');
     paper.addEventListener('pointerdown', (event) => {
       this.#isMouse = event.pointerType === 'mouse';
+      if (!this.#isMouse || event.button !== 0) editor.holdSight();
     });
+    paper.addEventListener('dragenter', () => editor.holdSight());
     paper.addEventListener('mousedown', (event) => this.#pressed(event));
     document.addEventListener('mousemove', (event) => this.#moved(event));
     document.addEventListener('mouseup', () => this.#released());

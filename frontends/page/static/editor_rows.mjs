@@ -7,13 +7,16 @@ import { columnOf, widthOf } from './columns.mjs';
 import { coloured } from './colours.mjs';
 
 export const ROW = 20;
+const LAYERS = ['gutter', 'bands', 'colours', 'marks', 'fields'];
 const SPARE_ROWS = 12;
 /** More rows than these aren't kept. */
 const MOST_MADE = 1000;
 
 export class EditorRows {
   #content;
-  #layers = Object.fromEntries(['gutter', 'bands', 'colours', 'marks', 'fields'].map((name) => [name, byId(name)]));
+  #layers = Object.fromEntries(LAYERS.map((name) => [name, byId(name)]));
+  /** What each layer has. */
+  #drawn = Object.fromEntries(LAYERS.map((name) => [name, []]));
   /** The rows of the gutter, and of the addresses, by line. */
   #rows = new Map();
   #fields = new Map();
@@ -52,12 +55,13 @@ export class EditorRows {
       bands.push(at(line, element('div', { className: 'faulty' })));
       marks.push(...this.#faultMarks(line, text));
     }
-    setChildren(this.#layers.gutter, [...this.#rows.values()]);
-    setChildren(this.#layers.fields, [...this.#fields.values()]);
-    setChildren(this.#layers.bands, bands);
-    setChildren(this.#layers.colours, colours);
-    setChildren(this.#layers.marks, marks);
+    this.#put({ gutter: [...this.#rows.values()], fields: [...this.#fields.values()], bands, colours, marks });
     this.drawHere();
+  }
+
+  #put(wanted) {
+    for (const name of Object.keys(wanted)) setChildren(this.#layers[name], this.#drawn[name], wanted[name]);
+    this.#drawn = wanted;
   }
 
   /** Marks the line that pc is at, and no other. */
@@ -68,7 +72,8 @@ export class EditorRows {
     for (const row of rows) if (row !== undefined && !row.classList.contains('here')) row.classList.add('here');
     this.#marked = rows;
     if (this.#band.hidden !== (here === null)) this.#band.hidden = here === null;
-    at(here ?? 1, this.#band);
+    // it moves in each picture of a play, which needs no layout in this way
+    this.#band.style.transform = `translateY(${topOf(here ?? 1)}px)`;
   }
 
   /** The row that was made of the same text for that line, or a new one. */
@@ -94,11 +99,12 @@ export class EditorRows {
   }
 
   #gutterRow(line) {
-    const covered = this.#content.coveredAt(line);
-    const kinds = ['row', this.#content.faultAt(line) !== null && 'faulty', this.#content.breakpoints.has(line) && 'break', covered !== undefined && 'covered'];
-    const [name, title] = [kinds.filter(Boolean).join(' '), covered ?? ''];
-    return this.#row('gutter', line, `${name}|${title}`, () =>
-      element('div', { className: name, title }, element('span', { className: 'number', textContent: line }), element('span', { className: 'mark' })),
+    const title = this.#content.coveredAt(line) ?? '';
+    const fault = this.#content.faultAt(line) === null ? '' : ' faulty';
+    const stop = this.#content.breakpoints.has(line) ? ' break' : '';
+    const className = `row${fault}${stop}${title === '' ? '' : ' covered'}`;
+    return this.#row('gutter', line, `${className}|${title}`, () =>
+      element('div', { className, title }, element('span', { className: 'number', textContent: line }), element('span', { className: 'mark' })),
     );
   }
 
@@ -113,9 +119,10 @@ export class EditorRows {
   }
 }
 
-/** Puts an element at the height of a line. */
+const topOf = (line) => (line - 1) * ROW;
+
+/** Puts an element at the height of a line: not by a transform, of which the browser would follow each in each picture. */
 function at(line, made) {
-  const place = `translateY(${(line - 1) * ROW}px)`;
-  if (made.style.transform !== place) made.style.transform = place;
+  made.style.top = `${topOf(line)}px`;
   return made;
 }

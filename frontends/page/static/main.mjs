@@ -248,7 +248,8 @@ class Page {
     // what is told of a play holds while it goes on
     if (what === 'step' && this.player.direction === 0) this.runControl.forget();
     if (what === 'lastStep') byId('step').max = this.model.lastStep;
-    else if (this.#begun && !['breakpoints', 'played', 'look', 'flag'].includes(what)) this.viewer.refresh();
+    else if (this.#begun && what === 'text') this.viewer.refreshSoon();
+    else if (this.#begun && ['keys', 'options', 'step'].includes(what)) this.viewer.refresh();
     if (what === 'played' || what === 'keys') this.#tellPlayed();
   }
 

@@ -1,10 +1,14 @@
 // The text of a source, by places and by lines. Places count characters from 0, lines from 1.
 
+import { widthOf } from './columns.mjs';
+
 export class SourceText {
   #text = '';
   #lines = [''];
   /** The place at which each line begins. */
   #starts = [0];
+  /** How many columns the widest line takes; null where that isn't known. */
+  #widest = 0;
 
   get text() {
     return this.#text;
@@ -13,12 +17,19 @@ export class SourceText {
   set text(text) {
     this.#text = text;
     this.#lines = text.split('\n');
+    this.#widest = null;
     this.#begin();
   }
 
   /** The lines. A change of the text makes another array: one that was handed out stays as it was. */
   get lines() {
     return this.#lines;
+  }
+
+  /** How many columns the widest line takes. */
+  get widest() {
+    this.#widest ??= widestOf(this.#lines);
+    return this.#widest;
   }
 
   startOf(line) {
@@ -45,9 +56,18 @@ export class SourceText {
     const before = this.#lines[first - 1].slice(0, start - this.startOf(first));
     const after = this.#lines[last - 1].slice(end - this.startOf(last));
     const changed = (before + inserted + after).split('\n');
+    this.#fitWidest(this.#lines.slice(first - 1, last), changed);
     this.#text = this.#text.slice(0, start) + inserted + this.#text.slice(end);
     this.#lines = this.#lines.slice(0, first - 1).concat(changed, this.#lines.slice(last));
     this.#begin();
+  }
+
+  /** Lines become others: all lines are looked at only where the widest may have gone. */
+  #fitWidest(gone, come) {
+    if (this.#widest === null) return;
+    const most = widestOf(come);
+    if (most >= this.#widest) this.#widest = most;
+    else if (widestOf(gone) === this.#widest) this.#widest = null;
   }
 
   #begin() {
@@ -60,6 +80,8 @@ export class SourceText {
     this.#starts = starts;
   }
 }
+
+const widestOf = (lines) => lines.reduce((most, line) => Math.max(most, widthOf(line)), 0);
 
 /** What became another text: where, what was removed, and what was inserted. */
 export function difference(before, after) {

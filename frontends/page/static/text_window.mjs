@@ -1,14 +1,15 @@
-// The text area of the source, which holds the lines near those in sight: a browser lays all the lines of a text area out at each
-// key. A text of a few screens is held whole. A selection is held whole while a part of it is near what is in sight.
+// The text area of the source, which holds the lines around the cursor: a browser lays all the lines of a text area out at each key. A
+// short text is held whole, and so is a selection while a part of it is near the cursor. The lines in sight are held too where the
+// browser itself is to find a place in them: under a finger, and for a menu of its own.
 
 import { difference } from './source_text.mjs';
 
-const WHOLE_LINES = 200;
-const SPARE_LINES = 40;
-/** How near to its ends the area is made to hold other lines. */
-const NEAR_LINES = 15;
+const WHOLE_LINES = 40;
+/** So many lines on either side of the cursor, and of those in sight; and how near to its ends the area is made to hold other lines. */
+const SPARE_LINES = 16;
+const NEAR_LINES = 4;
 /** More lines than these aren't held after an edit. */
-const MOST_LINES = WHOLE_LINES + 2 * SPARE_LINES;
+const MOST_LINES = 100;
 
 export class TextWindow {
   #area;
@@ -24,6 +25,9 @@ export class TextWindow {
   /** What is to be put into the area, and where; else null. */
   #pending = null;
   #inSight = [1, 1];
+  /** Whether the lines in sight are held too; always so where there may be a finger. */
+  #isTouched = matchMedia('(any-pointer: coarse)').matches;
+  #isWide = this.#isTouched;
   #isComposing = false;
 
   /** `onHeld(first, last)` is told which lines the area holds. */
@@ -59,7 +63,7 @@ export class TextWindow {
   /** Another text, with the cursor at its begin. */
   restart() {
     this.#far = { start: 0, end: 0, direction: 'none' };
-    this.#hold(1, 1 + this.#spare);
+    this.#hold(1, 1 + SPARE_LINES);
   }
 
   select(start, end, direction = 'none') {
@@ -73,6 +77,17 @@ export class TextWindow {
   /** Another part of the source is in sight. */
   lookAt(first, last) {
     this.#inSight = [first, last];
+    if (this.#isWide) this.#holdSight();
+  }
+
+  /** The browser is to find a place in what is in sight: it is held until a key is pressed. */
+  widen() {
+    this.#isWide = true;
+    this.#holdSight();
+  }
+
+  #holdSight() {
+    const [first, last] = this.#inSight;
     const { length } = this.#source.lines;
     const isHeld = this.#first <= Math.max(1, first - NEAR_LINES) && this.#last >= Math.min(length, last + NEAR_LINES);
     if (!isHeld && !this.#isComposing) this.#hold(first, last);
@@ -81,7 +96,9 @@ export class TextWindow {
   /** Before the cursor is moved or something is typed: the area holds the cursor, and lines on both sides of it. */
   comeBack() {
     if (this.#isComposing) return;
-    if (this.#far !== null || this.#isNearEnd(this.#source.lineAt(this.cursor))) this.#holdAround();
+    const isWider = this.#isWide && !this.#isTouched;
+    this.#isWide = this.#isTouched;
+    if (isWider || this.#far !== null || this.#isNearEnd(this.#source.lineAt(this.cursor))) this.#holdAround();
   }
 
   /** Forgets a selection that is far away: the pointer makes another one. */
@@ -136,13 +153,12 @@ export class TextWindow {
     return (line - this.#first < NEAR_LINES && this.#first > 1) || (this.#last - line < NEAR_LINES && this.#last < this.#source.lines.length);
   }
 
-  get #spare() {
-    return Math.max(SPARE_LINES, this.#inSight[1] - this.#inSight[0] + NEAR_LINES);
-  }
-
+  /** Holds the line of the cursor, and where those in sight are held too, these if it is one of them or near. */
   #holdAround() {
     const line = this.#source.lineAt(this.cursor);
-    this.#hold(line, line);
+    const [first, last] = this.#inSight;
+    const isWithSight = this.#isWide && line >= first - NEAR_LINES && line <= last + NEAR_LINES;
+    this.#hold(isWithSight ? Math.min(first, line) : line, isWithSight ? Math.max(last, line) : line);
   }
 
   /** Holds some lines, those beside them, and the selection where a part of it is among these. */
@@ -151,7 +167,7 @@ export class TextWindow {
     const { selection } = this;
     const { length } = this.#source.lines;
     const [selectedFirst, selectedLast] = [this.#source.lineAt(selection.start), this.#source.lineAt(selection.end)];
-    let [first, last] = length <= WHOLE_LINES ? [1, length] : [Math.max(1, from - this.#spare), Math.min(length, to + this.#spare)];
+    let [first, last] = length <= WHOLE_LINES ? [1, length] : [Math.max(1, from - SPARE_LINES), Math.min(length, to + SPARE_LINES)];
     const isNear = selectedFirst <= last && selectedLast >= first;
     if (isNear) [first, last] = [Math.min(first, selectedFirst), Math.max(last, selectedLast)];
     [this.#first, this.#last] = [first, last];

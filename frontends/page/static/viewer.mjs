@@ -2,6 +2,7 @@
 // of a step is of one text, one script and one step: the answers are shown together, once they all are there.
 
 import { readBytes, readFaults, readListing, readRegisters, readScreen, readSymbols, readWords, refusal } from './answers.mjs';
+import { soon } from './dom.mjs';
 import { Names } from './names.mjs';
 import { SourceMap } from './source_map.mjs';
 
@@ -20,6 +21,8 @@ export class Viewer extends EventTarget {
   #model;
   #workbench;
   #again = false;
+  /** Whether it is about to ask anew. */
+  #isDue = false;
   #asked = null;
   /** How many looks are on their way, what the last of them wants, and the numbers of the last one and of the one shown. */
   #looks = 0;
@@ -45,9 +48,20 @@ export class Viewer extends EventTarget {
 
   /** Asks anew as soon as the questions before are answered, or nearly so. */
   refresh() {
+    this.#isDue = false;
     this.#again = true;
     this.#asked = this.#asked ?? performance.now();
     this.#goOn();
+  }
+
+  /** Asks anew after what the browser does now: what is typed is drawn first. */
+  refreshSoon() {
+    this.#asked ??= performance.now();
+    if (this.#isDue) return;
+    this.#isDue = true;
+    soon(() => {
+      if (this.#isDue) this.refresh();
+    });
   }
 
   /** The next answers tell of the text again, also where it is the same. */
@@ -57,7 +71,7 @@ export class Viewer extends EventTarget {
 
   /** Resolves when all that changed is shown. */
   settle() {
-    if (this.#looks === 0) return Promise.resolve();
+    if (this.#looks === 0 && !this.#isDue) return Promise.resolve();
     return new Promise((done) => this.addEventListener('settled', done, { once: true }));
   }
 
@@ -85,7 +99,7 @@ export class Viewer extends EventTarget {
     }
     this.#looks -= 1;
     this.#goOn();
-    if (this.#looks === 0) this.#tell('settled');
+    if (this.#looks === 0 && !this.#isDue) this.#tell('settled');
   }
 
   #tell(name, detail) {

@@ -60,7 +60,7 @@ class RunTests(PageTests):
         for name in EXAMPLES:
             text = self.example(name)
             with self.page(text, f"{name}.asm") as browser:
-                assert browser.value("document.getElementById('source-text').value") == text
+                assert browser.value("chipbenchPage.editor.text") == text
                 for step in (0, 6, 100, 207, 1000, 3):
                     self.check_step(text, step, [])
                 listing = self.said(text, ["list"]).splitlines()[:-1]
