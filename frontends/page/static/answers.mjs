@@ -29,13 +29,13 @@ export function readRegisters(answer) {
 }
 
 /** The value of a hexadecimal digit in lower case. */
-const digit = (code) => (code < 58 ? code - 48 : code - 87);
+export const digitOf = (code) => (code < 58 ? code - 48 : code - 87);
 
 /** The bytes of `mem` or `image`. */
 export function readBytes(answer) {
   const bytes = new Uint8Array((answer.length - 1) / 2);
   for (let place = 0; place < bytes.length; place += 1) {
-    bytes[place] = 16 * digit(answer.charCodeAt(2 * place)) + digit(answer.charCodeAt(2 * place + 1));
+    bytes[place] = 16 * digitOf(answer.charCodeAt(2 * place)) + digitOf(answer.charCodeAt(2 * place + 1));
   }
   return bytes;
 }

@@ -1,5 +1,6 @@
 // The screen on a canvas of 128 by 64 stored pixels.
 
+import { digitOf } from './answers.mjs';
 import { byId, colour, onTheme, setText, setTitle } from './dom.mjs';
 import { codeText } from './codes.mjs';
 import { machineText, quirksOf } from './quirks.mjs';
@@ -73,7 +74,7 @@ export function pixelsOf(rows) {
   const pixels = new Uint8Array(WIDTH * HEIGHT);
   for (const { row, digits } of rows) {
     for (let place = 0; place < digits.length; place += 1) {
-      const digit = parseInt(digits[place], 16);
+      const digit = digitOf(digits.charCodeAt(place));
       for (let bit = 0; bit < 4; bit += 1) pixels[row * WIDTH + 4 * place + bit] = (digit >> (3 - bit)) & 1;
     }
   }

@@ -24,7 +24,7 @@ function toBytes(byteString) {
 function toByteString(bytes) {
   let text = '';
   for (let start = 0; start < bytes.length; start += 0x4000) {
-    text += String.fromCharCode(...bytes.subarray(start, start + 0x4000));
+    text += String.fromCharCode.apply(null, bytes.subarray(start, start + 0x4000));
   }
   return text;
 }
