@@ -78,6 +78,38 @@ class LayoutTests(PageTests):
         )
         self.step(2300)
 
+    def test_the_shape(self) -> None:
+        """Source and screen come first, with one row of moves; addresses and bytes can be hidden; the time is as long as what was played."""
+        controls = (
+            "[...document.querySelectorAll('#transport :is(button, input, select, summary)')].filter((one) => one.checkVisibility() && !one.closest('details > div'))"
+            ".map((one) => { const b = one.getBoundingClientRect(); return b.y + b.height / 2; })"
+        )
+        with self.page(self.example("breaker")) as browser:
+            def width(selector: str) -> float:
+                return browser.value(f"document.querySelector('{selector}').getBoundingClientRect().width")
+
+            browser.size(1440, 900)
+            browser.wait("innerWidth === 1440")
+            assert width("#source-part") >= 560 and width("#screen") >= 520, (width("#source-part"), width("#screen"))
+            assert 55 < width("#gutter") < 57, width("#gutter")
+            middles = browser.value(controls)
+            assert 8 <= len(middles) <= 14 and max(middles) - min(middles) < 3, middles
+            text = "document.getElementById('editor').clientWidth - document.getElementById('fields').getBoundingClientRect().width"
+            before = browser.value(text)
+            browser.click("#bytes")
+            assert not browser.value("document.getElementById('fields').checkVisibility()") and browser.value(text) > before + 90
+            browser.click("#bytes")
+            assert browser.value("document.getElementById('fields').checkVisibility()")
+            self.played(browser)
+            assert browser.value("chipbenchPage.timeline.window") == [0, 3150], browser.value("chipbenchPage.timeline.window")
+            for theme in ("light", "dark"):
+                browser.theme(theme)
+                dark, lit = (
+                    light([int(colour[at : at + 2], 16) for at in (1, 3, 5)])
+                    for colour in browser.value("['--screen-dark', '--screen-lit'].map((name) => getComputedStyle(document.documentElement).getPropertyValue(name).trim())")
+                )
+                assert dark < 0.02 and lit > 0.4, (theme, dark, lit)
+
     def test_parts_at_each_size(self) -> None:
         """No panel is without height, no text lies over another, nothing covers a control, and each text has a contrast of 4.5 or more."""
         with self.page(self.example("breaker")) as browser:

@@ -210,6 +210,11 @@ class SourceTests(PageTests):
             browser.value("chipbenchPage.editor.goToLine(3)")
             browser.wait(f"{shown}.includes('has to lie from -128 to 255')")
             assert browser.value(buttons) == ["More"], browser.value(buttons)
+            # no part of what is said is cut off
+            assert browser.value(
+                "(() => { const card = document.getElementById('fault-help'); const [box, there] = [card, document.getElementById('editor')].map((one) => one.getBoundingClientRect());"
+                "return card.scrollWidth <= card.clientWidth && box.left >= there.left && box.right <= there.right && box.bottom <= there.bottom; })()"
+            )
             browser.press("Escape")
             assert browser.value(shown) == "" and browser.value("document.activeElement.id") == "source-text"
             # a fix is one change, which is undone

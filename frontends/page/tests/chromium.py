@@ -140,7 +140,7 @@ class Chromium(Browser):
         self.call("Accessibility.enable")
         nodes = self.call("Accessibility.getFullAXTree")["nodes"]
         named = [node for node in nodes if node.get("role", {}).get("value") in NAMED_ROLES and not node.get("ignored")]
-        return [node for node in named if not node.get("name", {}).get("value")]
+        return super().nameless() + [node for node in named if not node.get("name", {}).get("value")]
 
     def layouts(self) -> int | None:
         self.call("Performance.enable")

@@ -9,6 +9,17 @@ from pathlib import Path
 from typing import Any
 
 ALT, CONTROL, SHIFT = 1, 2, 8
+# what can be pressed or typed into and is seen, but has no name of any kind
+NAMELESS = """[...document.querySelectorAll('button, input, select, textarea, summary, [role]:not([role=none], [role=alert], [role=status], [role=tooltip])')]
+    .filter((one) => one.checkVisibility() && one.closest('[aria-hidden=true]') === null)
+    .filter((one) => {
+        const named = (one.getAttribute('aria-labelledby') ?? '').split(' ').map((id) => document.getElementById(id)?.textContent ?? '');
+        const labels = [...(one.labels ?? [])].map((label) => label.textContent);
+        const isField = one.matches('input, select, textarea');
+        const names = [...named, ...labels, one.getAttribute('aria-label'), one.title, one.alt, isField ? one.placeholder : one.textContent];
+        return names.every((name) => (name ?? '').trim() === '');
+    })
+    .map((one) => one.outerHTML.slice(0, 90))"""
 
 
 class Browser:
@@ -95,8 +106,8 @@ class Browser:
         raise NotImplementedError
 
     def nameless(self) -> list[Any]:
-        """What can be pressed or typed into and has no name for who hears the page; nothing where the browser doesn't tell."""
-        return []
+        """What can be pressed or typed into and has no name for who hears the page."""
+        return self.value(NAMELESS)
 
     def layouts(self) -> int | None:
         """How often the page was laid out so far; none where the browser doesn't tell."""

@@ -531,6 +531,14 @@ test('the page: its texts are plain English', () => {
   for (const name of readdirSync(folder)) assert.doesNotMatch(readFileSync(new URL(name, folder), 'utf8'), odd, name);
 });
 
+test('the page: no module has over 400 lines', () => {
+  const folder = new URL('../static/', import.meta.url);
+  for (const name of readdirSync(folder).filter((file) => file.endsWith('.mjs'))) {
+    const lines = readFileSync(new URL(name, folder), 'utf8').split('\n').length - 1;
+    assert.ok(lines <= 400, `${name}: ${lines} lines`);
+  }
+});
+
 test('the page: no text is run or read as HTML, nothing comes from elsewhere, and each element that is named is there', () => {
   const folder = new URL('../static/', import.meta.url);
   const page = readFileSync(new URL('index.html', folder), 'utf8');
