@@ -163,8 +163,10 @@ class LayoutTests(PageTests):
                 self.tab("source")
                 place = Path(folder) / "page.png"
 
+                taken: list[tuple[int, int, list[tuple[int, ...]]]] = []
+
                 def part(selector: str) -> list[tuple[int, ...]]:
-                    wide, _, colours = pixels(place.read_bytes())
+                    wide, _, colours = taken[-1]
                     left, top, right, bottom = (
                         round(edge)
                         for edge in browser.value(f"(() => {{ const b = document.querySelector('{selector}').getBoundingClientRect(); return [b.left, b.top, b.right, b.bottom]; }})()")
@@ -173,12 +175,13 @@ class LayoutTests(PageTests):
 
                 def share() -> float:
                     browser.picture(place)
+                    taken[:] = [pixels(place.read_bytes())]
                     screen = part("#screen")
                     return sum(colour[1] > 150 for colour in screen) / len(screen)
 
                 # a picture that is taken too soon is of the size before
                 wait_for(lambda: abs(share() - lit_share) < 0.03, f"the screen in a picture of {width} by {height}")
-                assert pixels(place.read_bytes())[:2] == (width, height)
+                assert taken[-1][:2] == (width, height)
                 for selector in ("#editor", "#registers-part", "#close-up", "#transport", "header"):
                     assert len(set(part(selector))) > 8, (width, selector)
 
