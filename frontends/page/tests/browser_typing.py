@@ -118,6 +118,24 @@ class TypingTests(PageTests):
             browser.press("z", "KeyZ", CONTROL)
             assert browser.value("chipbenchPage.editor.text") == LONG
 
+    def test_a_finger_in_the_source(self) -> None:
+        """The text area then holds the lines in sight, for the browser to find a place in them; with a key it holds those around the cursor again."""
+        covers = (
+            "(() => { const [area, editor] = ['source-text', 'editor'].map((name) => document.getElementById(name).getBoundingClientRect());"
+            "return area.top <= editor.top && area.bottom >= editor.bottom; })()"
+        )
+        held = "document.getElementById('source-text').value.split('\\n').length"
+        with self.page(LONG) as browser:
+            browser.value("chipbenchPage.editor.goToLine(1000); document.getElementById('editor').scrollTop = 40000")
+            browser.wait("[...document.querySelectorAll('#gutter .number')].some((one) => one.textContent === '2010')")
+            browser.value("document.getElementById('paper').dispatchEvent(new PointerEvent('pointerdown', { pointerType: 'touch', bubbles: true }))")
+            assert browser.value(covers) and browser.value(held) < 120, browser.value(held)
+            assert self.place() == [1000, 0], self.place()
+            browser.press("x", "KeyX", 0, "x")
+            assert browser.value("chipbenchPage.editor.lines[999]").startswith("xL999"), browser.value("chipbenchPage.editor.lines[999]")
+            assert browser.value(held) < 40, browser.value(held)
+            browser.wait("[...document.querySelectorAll('#gutter .number')].some((one) => one.textContent === '1000')")
+
     def test_the_mouse_in_the_source(self) -> None:
         """A press puts the cursor, a drag selects, also beyond what is in sight; two presses select a word."""
         with self.page(LONG) as browser:
