@@ -9,6 +9,7 @@ use crate::ending::{Failure, TestFault};
 use crate::file_access::FileAccess;
 use crate::limits::KEY_FILE_BYTES;
 use crate::reading::{MOST_SOURCE, settings_of};
+use crate::system::System;
 use chip_arguments::{SettingArguments, number, seed};
 use chip_cases::{CaseSource, Placed, Setup};
 use chip_machine::limits::IMAGE_BYTES;
@@ -138,8 +139,7 @@ fn quirks_of(setup: &Setup<'_>) -> Result<Quirks, BadLine>
 
 /// The source of a case.
 pub(crate) fn case_source<'a, F: FileAccess>(
-    alloc: Global,
-    files: &F,
+    system: &System<'_, F>,
     name: &'a str,
     source: CaseSource<'_>,
 ) -> Result<Vec<u8>, Failure<'a>>
@@ -147,17 +147,16 @@ pub(crate) fn case_source<'a, F: FileAccess>(
     ensures err { IfErr result IsHindrance }
 {
     match source {
-        CaseSource::Empty => Ok(Vec::new(alloc)),
-        CaseSource::Lines(lines) => Ok(Vec::from_slice(alloc, lines)?),
-        CaseSource::File(placed) => read_named(alloc, files, name, placed, MOST_SOURCE),
-        CaseSource::Image(placed) => read_image(alloc, files, name, placed),
+        CaseSource::Empty => Ok(Vec::new(system.alloc)),
+        CaseSource::Lines(lines) => Ok(Vec::from_slice(system.alloc, lines)?),
+        CaseSource::File(placed) => read_named(system, name, placed, MOST_SOURCE),
+        CaseSource::Image(placed) => read_image(system, name, placed),
     }
 }
 
 // What `dis` prints of the image in a file, unless it is too long.
 fn read_image<'a, F: FileAccess>(
-    alloc: Global,
-    files: &F,
+    system: &System<'_, F>,
     name: &'a str,
     placed: Placed<'_>,
 ) -> Result<Vec<u8>, Failure<'a>>
@@ -165,14 +164,13 @@ fn read_image<'a, F: FileAccess>(
     ensures err { IfErr result IsHindrance }
 {
     let most = IMAGE_BYTES as u32;
-    let image = read_within(alloc, files, name, placed, most, "it has over 3584 bytes")?;
-    Ok(source_of_image(alloc, &image)?)
+    let image = read_within(system, name, placed, most, "it has over 3584 bytes")?;
+    Ok(source_of_image(system.alloc, &image)?)
 }
 
 /// The bytes of a case's file of key events, or none without one.
 pub(crate) fn case_keys<'a, F: FileAccess>(
-    alloc: Global,
-    files: &F,
+    system: &System<'_, F>,
     name: &'a str,
     keys: Option<Placed<'_>>,
 ) -> Result<Vec<u8>, Failure<'a>>
@@ -180,10 +178,9 @@ pub(crate) fn case_keys<'a, F: FileAccess>(
     ensures err { IfErr result IsHindrance }
 {
     match keys {
-        None => Ok(Vec::new(alloc)),
+        None => Ok(Vec::new(system.alloc)),
         Some(placed) => read_within(
-            alloc,
-            files,
+            system,
             name,
             placed,
             KEY_FILE_BYTES,
@@ -195,8 +192,7 @@ pub(crate) fn case_keys<'a, F: FileAccess>(
 // The bytes of a file that is named from the folder of the file of cases, unless there are over so
 // many.
 fn read_within<'a, F: FileAccess>(
-    alloc: Global,
-    files: &F,
+    system: &System<'_, F>,
     name: &'a str,
     placed: Placed<'_>,
     most: u32,
@@ -205,7 +201,7 @@ fn read_within<'a, F: FileAccess>(
     ensures ok { IfOk result (λ bytes. length bytes.items ≤ most) }
     ensures err { IfErr result IsHindrance }
 {
-    let bytes = read_named(alloc, files, name, placed, most.saturating_add(1))?;
+    let bytes = read_named(system, name, placed, most.saturating_add(1))?;
     if bytes.len() > most as usize {
         let error = io::Error::new(io::ErrorKind::InvalidData, over);
         return Err(Failure::UnreadInTest(name, placed.line, error));
@@ -215,8 +211,7 @@ fn read_within<'a, F: FileAccess>(
 
 // The first bytes of such a file, up to a number.
 fn read_named<'a, F: FileAccess>(
-    alloc: Global,
-    files: &F,
+    system: &System<'_, F>,
     name: &'a str,
     placed: Placed<'_>,
     most: u32,
@@ -226,8 +221,8 @@ fn read_named<'a, F: FileAccess>(
     let Ok(own_name) = str::from_utf8(placed.text) else {
         return Err(Failure::BadTest(name, placed.line, TestFault::NotText));
     };
-    let path = Path::new(name).with_file_name(alloc, own_name)?;
-    match files.read(alloc, path.as_str(), most) {
+    let path = Path::new(name).with_file_name(system.alloc, own_name)?;
+    match system.files.read(system.alloc, path.as_str(), most) {
         Ok(bytes) => Ok(bytes),
         Err(error) if error.kind() == io::ErrorKind::OutOfMemory => Err(Failure::OutOfMemory),
         Err(error) => Err(Failure::UnreadInTest(name, placed.line, error)),

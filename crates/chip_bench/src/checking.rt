@@ -7,12 +7,12 @@ ghost use Rattle.chip_bench.specs.Printing.{IsCheckText, IsPrintedCheck, Prints,
 
 use crate::covering::Covered;
 use crate::ending::{Ending, Failure};
-use crate::entry::Host;
 use crate::file_access::FileAccess;
 use crate::output::{print, unopened_text};
 use crate::progress::Progress;
 use crate::reading::read_source;
 use crate::sets::warnings_of;
+use crate::system::System;
 use chip_arguments::{CheckArguments, ColorChoice, SettingArguments};
 use chip_asm::{OpenError, Source};
 use chip_check::{check_json, check_text, unopened_json};
@@ -42,16 +42,14 @@ pub(crate) struct Checker {
 /// `check`: what is found in each of the sources, one after another. The warnings that are allowed
 /// are judged before the first is read, and a source that can't be read ends the check.
 pub(crate) fn check<'a, F: FileAccess, I: Read, O: Write, E: Write>(
-    alloc: Global,
-    files: &F,
-    host: Host,
+    system: &System<'_, F>,
     arguments: &CheckArguments<'a>,
     input: &mut Counted<I>,
     output: &mut Counted<O>,
     errors: &mut E,
 ) -> Result<Ending, Failure<'a>>
     ensures { Checks I.remaining O.contents input.old input.new output.old output.new
-        host.takes_color arguments.now result }
+        system.now.host.takes_color arguments.now result }
 {
     let allowed = warnings_of(arguments.allowed)?;
     let names: &[&'a str] = &arguments.sources;
@@ -59,15 +57,15 @@ pub(crate) fn check<'a, F: FileAccess, I: Read, O: Write, E: Write>(
         allowed,
         quirks: arguments.quirks,
         is_json: arguments.is_json,
-        is_painted: paints(arguments.color, host.takes_color),
+        is_painted: paints(arguments.color, system.host.takes_color),
         is_alone: names.len() == 1,
         is_covering: arguments.is_covering,
     };
     let mut progress = Progress {
         errors,
-        is_shown: host.has_reader,
+        is_shown: system.host.has_reader,
     };
-    checker.check_each(alloc, files, names, input, output, &mut progress)
+    checker.check_each(system, names, input, output, &mut progress)
 }
 
 // Whether what is printed has colours.
@@ -110,8 +108,7 @@ impl Checker {
 
     fn check_each<'a, F: FileAccess, I: Read, O: Write, W: Watcher>(
         self,
-        alloc: Global,
-        files: &F,
+        system: &System<'_, F>,
         names: &[&'a str],
         input: &mut Counted<I>,
         output: &mut Counted<O>,
@@ -122,7 +119,7 @@ impl Checker {
     {
         let mut ending = Ending::Done;
         for name in names {
-            let one = self.check_one(alloc, files, name, input, output, watcher)?;
+            let one = self.check_one(system, name, input, output, watcher)?;
             ending = worse(ending, one);
         }
         Ok(ending)
@@ -130,8 +127,7 @@ impl Checker {
 
     fn check_one<'a, F: FileAccess, I: Read, O: Write, W: Watcher>(
         self,
-        alloc: Global,
-        files: &F,
+        system: &System<'_, F>,
         name: &'a str,
         input: &mut Counted<I>,
         output: &mut Counted<O>,
@@ -140,15 +136,21 @@ impl Checker {
         ensures { ChecksOne I.remaining O.contents self.is_json self.is_painted self.is_alone
             name.entry input.old input.new output.old output.new result }
     {
-        let bytes = read_source(alloc, files, name, input)?;
-        match Source::open(alloc, &bytes) {
+        let bytes = read_source(system, name, input)?;
+        match Source::open(system.alloc, &bytes) {
             Ok(source) => {
-                let ended = self.print_found(alloc, name.as_bytes(), &source, output, watcher);
+                let ended = self.print_found(
+                    system.alloc,
+                    name.as_bytes(),
+                    &source,
+                    output,
+                    watcher,
+                );
                 // A source goes before the next one is read.
                 drop(source);
                 ended
             }
-            Err(error) => self.refuse(alloc, name.as_bytes(), error, output),
+            Err(error) => self.refuse(system.alloc, name.as_bytes(), error, output),
         }
     }
 

@@ -8,7 +8,7 @@ ghost use Rattle.chip_session.specs.Settings.{default_settings};
 ghost use Rattle.chip_bench.specs.Running.{AnswersScript, RunsSession, status_of, failure_status, AreFaulty, IsWithoutArguments};
 ghost use Rattle.chip_bench.specs.inner.Reads.{IsUsage};
 ghost use Rattle.chip_bench.specs.inner.Written.{IsImageWritten};
-ghost use Rattle.chip_bench.specs.Doing.{Assembles, Debugs, Disassembles, Does, Ends, IsFileWritten, Performs, PrintsText, Proves, Runs, ShowsHelp, ShowsVersion, Tells, Traces, TracesAlone, TracesBeside, first_shown, form_of};
+ghost use Rattle.chip_bench.specs.Doing.{Assembles, Debugs, Disassembles, Does, Ends, Performs, PrintsText, Proves, Runs, ShowsHelp, ShowsVersion, Tells, Traces, TracesAlone, TracesBeside, first_shown, form_of};
 ghost use Rattle.chip_arguments.specs.CommandArguments.{argument_faults};
 ghost use Rattle.std.specs.Io.KnownBytes.{Keeps};
 ghost use Rattle.std.specs.IoError.{error_kind};
@@ -26,12 +26,12 @@ use crate::picturing::picture;
 use crate::progress::{Progress, Timed};
 use crate::proving::prove;
 use crate::reading::{
-    Asked, MOST_SOURCE, as_source, file_name, read_asked, read_bounded, read_file, read_source,
-    settings_of,
+    Asked, MOST_SOURCE, as_source, file_name, read_asked, read_source, settings_of,
 };
+use crate::system::System;
 use crate::terminal::{Begun, answer_begun};
 use crate::testing::test_files;
-use crate::tracing::{Shown, compare_source, trace_source};
+use crate::tracing::{Beside, Shown, compare_source, trace_source};
 use chip_arguments::{
     CommandLine, ProveArguments, RunArguments, SettingArguments, TraceArguments, not_text,
     parse_arguments,
@@ -47,26 +47,6 @@ use std::io::{Read, Write};
 use std::rt::{Clock, Files};
 use std::{io, mem};
 
-/// What the program is told of the system that it runs on.
-#[derive(Clone, Copy)]
-pub struct Host {
-    /// From which number on the names of a session's source are hashed. No answer depends on it.
-    pub name_seed: u64,
-    /// Whether the output takes colours, as a terminal does.
-    pub takes_color: bool,
-    /// Whether somebody reads what is said on standard error while it is said, as at a terminal.
-    pub has_reader: bool,
-    /// Whether somebody types the input, as at a terminal.
-    pub is_typed: bool,
-}
-
-impl Host {
-    // Whether somebody types the script, reads what is said of it, and wants that.
-    fn has_typist(self, is_quiet: bool) -> bool {
-        self.is_typed && self.has_reader && !is_quiet
-    }
-}
-
 /// The program, with the arguments after its name. The answer is its status: 0 where it did what it
 /// was asked, 1 where the source has faults or doesn't open, 2 for arguments that it doesn't take,
 /// 3 where a file, input or output failed or there was too much input, and 4 where memory ran out.
@@ -77,9 +57,7 @@ impl Host {
 /// Without arguments it carries out the script that `input` gives, on the empty source, and writes
 /// the answers to `output`. What hinders it is said on `errors`; a failure there is ignored.
 pub fn program<F: Files + Clock, S: AsStr, I: Read, O: Write, E: Write>(
-    alloc: Global,
-    files: &F,
-    host: Host,
+    system: &System<'_, F>,
     arguments: &[S],
     input: &mut Counted<I>,
     output: &mut Counted<O>,
@@ -93,8 +71,8 @@ pub fn program<F: Files + Clock, S: AsStr, I: Read, O: Write, E: Write>(
         × Keeps (O.contents output.old.inner) (O.contents output.new.inner) }
     // Arguments without a fault ask for something, and that is done.
     ensures good { argument_faults (map S.text arguments.now) ≡ [] → Ends O.contents (λ written ended.
-        Performs I.remaining O.contents input.old input.new output.old written host.takes_color
-        (map S.text arguments.now) ended)
+        Performs I.remaining O.contents input.old input.new output.old written
+        system.now.host.takes_color (map S.text arguments.now) ended)
         output.new result }
     // The word for help has help printed: of its text, which `clap` makes, no contract speaks.
     ensures help { argument_faults (map S.text arguments.now) ≡ ErrorKind.DisplayHelp ∷ []
@@ -107,7 +85,7 @@ pub fn program<F: Files + Clock, S: AsStr, I: Read, O: Write, E: Write>(
         ShowsVersion I.remaining O.contents input.old input.new output.old written ended)
         output.new result }
 {
-    let ended = carry_out(alloc, files, host, arguments, input, output, errors);
+    let ended = carry_out(system, arguments, input, output, errors);
     let flushed = output.flush();
     finish(ended, flushed.is_ok(), errors)
 }
@@ -146,9 +124,7 @@ fn report<E: Write>(failure: Failure<'_>, errors: &mut E) -> u8
 }
 
 fn carry_out<'a, F: FileAccess + Clock, S: AsStr, I: Read, O: Write, E: Write>(
-    alloc: Global,
-    files: &F,
-    host: Host,
+    system: &System<'_, F>,
     arguments: &'a [S],
     input: &mut Counted<I>,
     output: &mut Counted<O>,
@@ -160,21 +136,21 @@ fn carry_out<'a, F: FileAccess + Clock, S: AsStr, I: Read, O: Write, E: Write>(
     ensures usage { AreFaulty (argument_faults (map S.text arguments.entry.now)) → IsUsage result
         × (input.new ≡ input.old) × (output.new ≡ output.old) }
     ensures good { argument_faults (map S.text arguments.entry.now) ≡ [] → Performs I.remaining O.contents
-        input.old input.new output.old output.new host.takes_color (map S.text arguments.entry.now)
+        input.old input.new output.old output.new system.now.host.takes_color (map S.text arguments.entry.now)
         result }
     ensures help { argument_faults (map S.text arguments.entry.now) ≡ ErrorKind.DisplayHelp ∷ []
         → ShowsHelp I.remaining O.contents input.old input.new output.old output.new result }
     ensures version { argument_faults (map S.text arguments.entry.now) ≡ ErrorKind.DisplayVersion ∷ []
         → ShowsVersion I.remaining O.contents input.old input.new output.old output.new result }
 {
-    match parse_arguments(alloc, arguments) {
+    match parse_arguments(system.alloc, arguments) {
         Ok(line) => {
-            let ended = perform(alloc, files, host, &line, input, output, errors);
+            let ended = perform(system, &line, input, output, errors);
             // The program ends here, and its memory goes back at once.
             mem::forget(line);
             ended
         }
-        Err(help) if !help.use_stderr() => show_help(alloc, &help, output),
+        Err(help) if !help.use_stderr() => show_help(system.alloc, &help, output),
         Err(fault) => Err(Failure::from(fault)),
     }
 }
@@ -182,16 +158,14 @@ fn carry_out<'a, F: FileAccess + Clock, S: AsStr, I: Read, O: Write, E: Write>(
 // The arguments are looked at behind a reference, since the arms would else each let go of what
 // they took.
 fn perform<'a, F: FileAccess + Clock, I: Read, O: Write, E: Write>(
-    alloc: Global,
-    files: &F,
-    host: Host,
+    system: &System<'_, F>,
     line: &CommandLine<'a>,
     input: &mut Counted<I>,
     output: &mut Counted<O>,
     errors: &mut E,
 ) -> Result<Ending, Failure<'a>>
     ensures { Does I.remaining O.contents input.old input.new output.old output.new
-        host.takes_color line.entry.now result }
+        system.now.host.takes_color line.entry.now result }
 {
     match line {
         CommandLine::Debug {
@@ -203,57 +177,29 @@ fn perform<'a, F: FileAccess + Clock, I: Read, O: Write, E: Write>(
             let given = Given {
                 source: *source,
                 is_image: *is_image,
-                is_typed: host.has_typist(*is_quiet),
-                name_seed: host.name_seed,
+                is_typed: system.host.has_typist(*is_quiet),
+                name_seed: system.host.name_seed,
             };
-            debug(alloc, files, given, settings, input, output, errors)
+            debug(system, given, settings, input, output, errors)
         }
-        CommandLine::Asm { source, image } => asm(alloc, files, *source, *image, input, output),
-        CommandLine::List { source, is_hex } => {
-            list(alloc, files, *source, *is_hex, input, output)
-        }
-        CommandLine::Syms { source, is_hex } => {
-            syms(alloc, files, *source, *is_hex, input, output)
-        }
-        CommandLine::Check(arguments) => check(
-            alloc, files, host, arguments, input, output, errors,
-        ),
-        CommandLine::Dis { image } => dis(alloc, files, *image, input, output),
-        CommandLine::Run(arguments) => run(alloc, files, arguments, input, output, errors),
-        CommandLine::Trace(arguments) => trace(alloc, files, arguments, input, output, errors),
-        CommandLine::Picture(arguments) => picture(alloc, files, arguments, input, output, errors),
-        CommandLine::Test(arguments) => test_files(alloc, files, arguments, output),
-        CommandLine::Explore(arguments) => {
-            explore(
-                alloc,
-                files,
-                host.has_reader,
-                arguments,
-                input,
-                output,
-                errors,
-            )
-        }
-        CommandLine::Prove(arguments) => {
-            prove_in_time(
-                alloc,
-                files,
-                host.has_reader,
-                arguments,
-                input,
-                output,
-                errors,
-            )
-        }
-        CommandLine::Explain { code } => explain(alloc, *code, output),
+        CommandLine::Asm { source, image } => asm(system, *source, *image, input, output),
+        CommandLine::List { source, is_hex } => list(system, *source, *is_hex, input, output),
+        CommandLine::Syms { source, is_hex } => syms(system, *source, *is_hex, input, output),
+        CommandLine::Check(arguments) => check(system, arguments, input, output, errors),
+        CommandLine::Dis { image } => dis(system, *image, input, output),
+        CommandLine::Run(arguments) => run(system, arguments, input, output, errors),
+        CommandLine::Trace(arguments) => trace(system, arguments, input, output, errors),
+        CommandLine::Picture(arguments) => picture(system, arguments, input, output, errors),
+        CommandLine::Test(arguments) => test_files(system, arguments, output),
+        CommandLine::Explore(arguments) => explore(system, arguments, input, output, errors),
+        CommandLine::Prove(arguments) => prove_in_time(system, arguments, input, output, errors),
+        CommandLine::Explain { code } => explain(system.alloc, *code, output),
     }
 }
 
 // `prove`, with its progress, up to the time that the arguments give.
 fn prove_in_time<'a, F: FileAccess + Clock, I: Read, O: Write, E: Write>(
-    alloc: Global,
-    files: &F,
-    has_reader: bool,
+    system: &System<'_, F>,
     arguments: &ProveArguments<'a>,
     input: &mut Counted<I>,
     output: &mut Counted<O>,
@@ -264,10 +210,10 @@ fn prove_in_time<'a, F: FileAccess + Clock, I: Read, O: Write, E: Write>(
 {
     let progress = Progress {
         errors,
-        is_shown: has_reader || arguments.search.is_progress_shown,
+        is_shown: system.host.has_reader || arguments.search.is_progress_shown,
     };
-    let mut timed = Timed::new(progress, files, arguments.seconds);
-    prove(alloc, files, arguments, input, output, &mut timed)
+    let mut timed = Timed::new(progress, system.files, arguments.seconds);
+    prove(system, arguments, input, output, &mut timed)
 }
 
 // Prints help or the version, of which only the version's text is known to contracts.
@@ -301,8 +247,7 @@ struct Given<'a> {
 
 // The settings are judged before SOURCE is read.
 fn debug<'a, F: FileAccess, I: Read, O: Write, E: Write>(
-    alloc: Global,
-    files: &F,
+    system: &System<'_, F>,
     given: Given<'a>,
     arguments: &SettingArguments<'_>,
     input: &mut Counted<I>,
@@ -312,7 +257,7 @@ fn debug<'a, F: FileAccess, I: Read, O: Write, E: Write>(
     ensures { Debugs I.remaining O.contents input.old input.new output.old output.new
         given.entry.source given.entry.is_image arguments.now result }
 {
-    let settings = settings_of(alloc, arguments)?;
+    let settings = settings_of(system.alloc, arguments)?;
     let seeded = settings.with_name_seed(given.name_seed);
     let empty = Begun {
         source: b"",
@@ -321,21 +266,20 @@ fn debug<'a, F: FileAccess, I: Read, O: Write, E: Write>(
     };
     match given.source {
         Some(name) => {
-            let bytes = read_file(alloc, files, name, MOST_SOURCE)?;
-            let source = as_source(alloc, name, given.is_image, bytes, errors)?;
+            let bytes = system.read(name, MOST_SOURCE)?;
+            let source = as_source(system.alloc, name, given.is_image, bytes, errors)?;
             let begun = Begun {
                 source: &source,
                 ..empty
             };
-            answer_begun(alloc, begun, seeded, input, output, errors)
+            answer_begun(system.alloc, begun, seeded, input, output, errors)
         }
-        None => answer_begun(alloc, empty, seeded, input, output, errors),
+        None => answer_begun(system.alloc, empty, seeded, input, output, errors),
     }
 }
 
 fn asm<'a, F: FileAccess, I: Read, O: Write>(
-    alloc: Global,
-    files: &F,
+    system: &System<'_, F>,
     source: &'a str,
     image: &'a str,
     input: &mut Counted<I>,
@@ -343,18 +287,17 @@ fn asm<'a, F: FileAccess, I: Read, O: Write>(
 ) -> Result<Ending, Failure<'a>>
     ensures did { Assembles I.remaining O.contents input.old input.new output.old output.new
         source.entry image.entry result }
-    ensures written { result ≡ Ok Ending.Done → IsImageWritten (F.wrote files.now image.entry.now) }
+    ensures written { result ≡ Ok Ending.Done → IsImageWritten (F.wrote system.now.files.now image.entry.now) }
 {
-    let bytes = read_source(alloc, files, source, input)?;
-    let Some(assembled) = image_or_faults(alloc, bytes, output)? else {
+    let bytes = read_source(system, source, input)?;
+    let Some(assembled) = image_or_faults(system.alloc, bytes, output)? else {
         return Ok(Ending::Faulty);
     };
-    write_image(alloc, files, &[file_name(source)], image, &assembled)
+    system.write(&[file_name(source)], image, &assembled)
 }
 
 fn list<'a, F: FileAccess, I: Read, O: Write>(
-    alloc: Global,
-    files: &F,
+    system: &System<'_, F>,
     source: &'a str,
     is_hex: bool,
     input: &mut Counted<I>,
@@ -363,13 +306,12 @@ fn list<'a, F: FileAccess, I: Read, O: Write>(
     ensures { Tells I.remaining O.contents input.old input.new output.old output.new
         (printed_listing is_hex) source.entry result }
 {
-    let bytes = read_source(alloc, files, source, input)?;
-    list_source(alloc, bytes, is_hex, output)
+    let bytes = read_source(system, source, input)?;
+    list_source(system.alloc, bytes, is_hex, output)
 }
 
 fn syms<'a, F: FileAccess, I: Read, O: Write>(
-    alloc: Global,
-    files: &F,
+    system: &System<'_, F>,
     source: &'a str,
     is_hex: bool,
     input: &mut Counted<I>,
@@ -378,31 +320,12 @@ fn syms<'a, F: FileAccess, I: Read, O: Write>(
     ensures { Tells I.remaining O.contents input.old input.new output.old output.new
         (printed_symbols is_hex) source.entry result }
 {
-    let bytes = read_source(alloc, files, source, input)?;
-    print_symbols(alloc, bytes, is_hex, output)
-}
-
-// Writes a file atomically. A file of the names that are taken stays.
-pub(crate) fn write_image<'a, F: FileAccess>(
-    alloc: Global,
-    files: &F,
-    taken: &[Option<&str>],
-    image: &'a str,
-    bytes: &[u8],
-) -> Result<Ending, Failure<'a>>
-    ensures ended { IsFileWritten image.entry result }
-    ensures written { OnOk result (F.wrote files.now image.entry.now bytes.now) }
-{
-    match files.write(alloc, taken, image, bytes) {
-        Ok(()) => Ok(Ending::Done),
-        Err(error) if error.kind() == io::ErrorKind::OutOfMemory => Err(Failure::OutOfMemory),
-        Err(error) => Err(Failure::CannotWrite(image, error)),
-    }
+    let bytes = read_source(system, source, input)?;
+    print_symbols(system.alloc, bytes, is_hex, output)
 }
 
 fn dis<'a, F: FileAccess, I: Read, O: Write>(
-    alloc: Global,
-    files: &F,
+    system: &System<'_, F>,
     image: &'a str,
     input: &mut Counted<I>,
     output: &mut Counted<O>,
@@ -410,17 +333,16 @@ fn dis<'a, F: FileAccess, I: Read, O: Write>(
     ensures { Disassembles I.remaining O.contents input.old input.new output.old output.new
         image.entry result }
 {
-    let bytes = read_source(alloc, files, image, input)?;
+    let bytes = read_source(system, image, input)?;
     if bytes.len() > IMAGE_BYTES {
         let error = io::Error::new(io::ErrorKind::InvalidData, "it has over 3584 bytes");
         return Err(Failure::CannotRead(image, error));
     }
-    print_source(alloc, &bytes, output)
+    print_source(system.alloc, &bytes, output)
 }
 
 fn run<'a, F: FileAccess, I: Read, O: Write, E: Write>(
-    alloc: Global,
-    files: &F,
+    system: &System<'_, F>,
     arguments: &RunArguments<'a>,
     input: &mut Counted<I>,
     output: &mut Counted<O>,
@@ -433,13 +355,19 @@ fn run<'a, F: FileAccess, I: Read, O: Write, E: Write>(
         source,
         keys,
         settings,
-    } = read_asked(alloc, files, arguments, input, errors)?;
-    run_source(alloc, &source, &keys, arguments.steps, settings, output)
+    } = read_asked(system, arguments, input, errors)?;
+    run_source(
+        system.alloc,
+        &source,
+        &keys,
+        arguments.steps,
+        settings,
+        output,
+    )
 }
 
 fn trace<'a, F: FileAccess, I: Read, O: Write, E: Write>(
-    alloc: Global,
-    files: &F,
+    system: &System<'_, F>,
     arguments: &TraceArguments<'a>,
     input: &mut Counted<I>,
     output: &mut Counted<O>,
@@ -448,12 +376,12 @@ fn trace<'a, F: FileAccess, I: Read, O: Write, E: Write>(
     ensures { Traces I.remaining O.contents input.old input.new output.old output.new
         arguments.entry.now result }
 {
-    let asked = read_asked(alloc, files, &arguments.run, input, errors)?;
+    let asked = read_asked(system, &arguments.run, input, errors)?;
     match arguments.against {
-        None => trace_alone(alloc, arguments, asked, output),
+        None => trace_alone(system.alloc, arguments, asked, output),
         Some(name) => {
-            let theirs = read_bounded(alloc, files, name, TRACE_FILE_BYTES)?;
-            trace_beside(alloc, arguments, asked, name, &theirs, output)
+            let theirs = system.read_within(name, TRACE_FILE_BYTES)?;
+            trace_beside(system.alloc, arguments, asked, name, &theirs, output)
         }
     }
 }
@@ -517,16 +445,19 @@ fn trace_beside<'a, O: Write>(
         Err(HeaderError::OutOfMemory) => return Err(Failure::OutOfMemory),
         Err(fault) => return Err(Failure::BadTrace(name, fault)),
     };
-    let shown = Shown {
-        columns,
-        form: Form::Fields,
-        from: first_shown(arguments),
-        to: arguments.run.steps,
+    let beside = Beside {
+        shown: Shown {
+            columns,
+            form: Form::Fields,
+            from: first_shown(arguments),
+            to: arguments.run.steps,
+        },
+        theirs,
     };
     let Asked {
         source,
         keys,
         settings,
     } = asked;
-    compare_source(alloc, &source, &keys, &shown, theirs, settings, output)
+    compare_source(alloc, &source, &keys, &beside, settings, output)
 }

@@ -2,7 +2,7 @@
 ghost use Rattle.std.specs.Prelude.{◌≡◌, ◌⊎◌, ◌<◌, ◌∷◌, [], ◌++◌, ℕ, List, Ok, IfOk, IfErr, MatchOption, OnOk, option_copied};
 ghost use Rattle.std.specs.Borrow.{Bor};
 ghost use Rattle.chip_asm.specs.Program.{image_of, symbols_of};
-ghost use Rattle.chip_explore.specs.declared.property.Property.{Property as Wanted};
+ghost use Rattle.chip_explore.specs.declared.property.Property.{Property as SearchProperty};
 ghost use Rattle.chip_machine.specs.Start.{start_of};
 ghost use Rattle.chip_bench.specs.Doing.{Explores, Fails, IsBadPlace, IsBadProperty, IsScriptUnwritten, Searches, SearchesFrom, image_in};
 ghost use Rattle.chip_bench.specs.inner.Written.{IsNamedWritten, IsScriptWritten};
@@ -10,13 +10,13 @@ ghost use Rattle.chip_bench.specs.Printing.{Prints, printed_faults};
 ghost use Rattle.chip_bench.specs.Exploring.{AsksProperty, StatesOne, address_of, answer_lines, cause_word, covering_text, first_lines, in_memory, met_line, met_word, number_line, search_ending, target_asked};
 
 use crate::ending::{Ending, Failure, Report};
-use crate::entry::write_image;
 use crate::file_access::FileAccess;
 use crate::output::{print, print_faults, refuse_source};
 use crate::progress::{Progress, Teller};
 use crate::reading::{file_name, read_given, settings_of};
 use crate::sets::{Sets, sets_of};
 use crate::stop_place::place_text;
+use crate::system::System;
 use chip_arguments::{ExploreArguments, SearchArguments};
 use chip_asm::Source;
 use chip_check::push_property_fault;
@@ -36,9 +36,7 @@ use std::mem;
 /// `explore`: what a search over all key scripts answers of a source's image, or the faults where
 /// there is no image. Settings and sets are judged before the source is read.
 pub(crate) fn explore<'a, F: FileAccess, I: Read, O: Write, E: Write>(
-    alloc: Global,
-    files: &F,
-    has_reader: bool,
+    system: &System<'_, F>,
     arguments: &ExploreArguments<'a>,
     input: &mut Counted<I>,
     output: &mut Counted<O>,
@@ -47,50 +45,44 @@ pub(crate) fn explore<'a, F: FileAccess, I: Read, O: Write, E: Write>(
     ensures { Explores I.remaining O.contents input.old input.new output.old output.new
         arguments.entry.now result }
 {
-    let settings = settings_of(alloc, &arguments.search.settings)?;
+    let settings = settings_of(system.alloc, &arguments.search.settings)?;
     let sets = sets_of(arguments)?;
-    let source = read_given(
-        alloc,
-        files,
-        arguments.search.source,
-        arguments.is_image,
-        input,
-        errors,
-    )?;
+    let name = arguments.search.source;
+    let source = read_given(system, name, arguments.is_image, input, errors)?;
     let mut progress = Progress {
         errors,
-        is_shown: has_reader || arguments.search.is_progress_shown,
+        is_shown: system.host.has_reader || arguments.search.is_progress_shown,
     };
-    search_source(
-        alloc,
-        files,
+    let wanted = Wanted {
         arguments,
-        source,
-        &settings,
+        settings: &settings,
         sets,
-        output,
-        &mut progress,
-    )
+    };
+    search_source(system, &wanted, source, output, &mut progress)
+}
+
+/// What is asked of a source.
+#[derive(Clone, Copy)]
+struct Wanted<'p, 'a> {
+    arguments: &'p ExploreArguments<'a>,
+    settings: &'p Settings,
+    sets: Sets,
 }
 
 fn search_source<'a, F: FileAccess, O: Write, T: Teller>(
-    alloc: Global,
-    files: &F,
-    arguments: &ExploreArguments<'a>,
+    system: &System<'_, F>,
+    wanted: &Wanted<'_, 'a>,
     source: Vec<u8>,
-    settings: &Settings,
-    sets: Sets,
     output: &mut Counted<O>,
     teller: &mut T,
 ) -> Result<Ending, Failure<'a>>
-    ensures { Searches O.contents output.old output.new arguments.entry.now settings.now sets.causes
-        sets.keys (image_in source.items) source.items result }
+    ensures { Searches O.contents output.old output.new wanted.now.arguments.now
+        wanted.now.settings.now wanted.now.sets.causes wanted.now.sets.keys
+        (image_in source.items) source.items result }
 {
-    match Source::open_bytes(alloc, source) {
+    match Source::open_bytes(system.alloc, source) {
         Ok(opened) => {
-            let ended = search_opened(
-                alloc, files, arguments, &opened, settings, sets, output, teller,
-            );
+            let ended = search_opened(system, wanted, &opened, output, teller);
             // The program ends here, and its memory goes back at once.
             mem::forget(opened);
             ended
@@ -100,42 +92,59 @@ fn search_source<'a, F: FileAccess, O: Write, T: Teller>(
 }
 
 fn search_opened<'a, F: FileAccess, O: Write, T: Teller>(
-    alloc: Global,
-    files: &F,
-    arguments: &ExploreArguments<'a>,
+    system: &System<'_, F>,
+    wanted: &Wanted<'_, 'a>,
     source: &Source,
-    settings: &Settings,
-    sets: Sets,
     output: &mut Counted<O>,
     teller: &mut T,
 ) -> Result<Ending, Failure<'a>>
     ensures { MatchOption (image_of source.now.lines)
         (Prints O.contents output.old output.new (printed_faults source.now.lines) result)
-        (λ image. ((properties : Bor (List Wanted))
-        × AsksProperty arguments.entry.now source.now.lines properties.now
-        × MatchOption (target_asked sets.causes (option_copied arguments.entry.now.place) properties
+        (λ image. ((properties : Bor (List SearchProperty))
+        × AsksProperty wanted.now.arguments.now source.now.lines properties.now
+        × MatchOption (target_asked wanted.now.sets.causes
+        (option_copied wanted.now.arguments.now.place) properties
         (symbols_of source.now.lines)) (Fails O.contents output.old output.new IsBadPlace result)
-        (λ target. SearchesFrom O.contents output.old output.new arguments.entry.now source.now.lines
-        settings.now.rate sets.keys target
-        (start_of image settings.now.tape settings.now.quirks) result))
+        (λ target. SearchesFrom O.contents output.old output.new wanted.now.arguments.now
+        source.now.lines wanted.now.settings.now.rate wanted.now.sets.keys target
+        (start_of image wanted.now.settings.now.tape wanted.now.settings.now.quirks)
+        result))
         ⊎ Fails O.contents output.old output.new IsBadProperty result) }
 {
+    let Wanted {
+        arguments,
+        settings,
+        sets,
+    } = *wanted;
     let Some(image) = source.image() else {
-        return print_faults(alloc, source, output);
+        return print_faults(system.alloc, source, output);
     };
-    let properties = properties_asked(alloc, arguments, source)?;
+    let properties = properties_asked(system.alloc, arguments, source)?;
     let Some(target) = target_of(arguments, sets.causes, source, &properties) else {
         return Err(Failure::BadPlace(arguments.place.unwrap_or("")));
     };
-    let start = machine_of(alloc, image, settings.tape(), settings.quirks())?;
+    let start = machine_of(system.alloc, image, settings.tape(), settings.quirks())?;
     let question = Question {
         rate: settings.rate(),
         allowed: sets.keys,
         target,
     };
-    search(
-        alloc, files, arguments, source, &start, &question, output, teller,
-    )
+    let search = Search {
+        arguments,
+        source,
+        start: &start,
+        question: &question,
+    };
+    search.carry_out(system, output, teller)
+}
+
+/// A search, and the source whose image is searched.
+#[derive(Clone, Copy)]
+struct Search<'p, 'a> {
+    arguments: &'p ExploreArguments<'a>,
+    source: &'p Source,
+    start: &'p Machine,
+    question: &'p Question<'p>,
 }
 
 // The machine of a source's image before its first step. The image is within its bounds, and the
@@ -243,34 +252,46 @@ fn in_memory(number: i64) -> Option<u16>
     }
 }
 
-fn search<'a, F: FileAccess, O: Write, T: Teller>(
-    alloc: Global,
-    files: &F,
-    arguments: &ExploreArguments<'a>,
-    source: &Source,
-    start: &Machine,
-    question: &Question<'_>,
-    output: &mut Counted<O>,
-    teller: &mut T,
-) -> Result<Ending, Failure<'a>>
-    requires rate { 0 < question.now.rate }
-    requires fresh { start.now.core.draws ≡ 0 }
-    ensures searched { SearchesFrom O.contents output.old output.new arguments.entry.now
-        source.now.lines question.now.rate question.now.allowed question.now.target start.now result }
-    // Where a script was found, the program ends so.
-    ensures written { result ≡ Ok Ending.Faulty
-        → IsNamedWritten (F.wrote files.now) arguments.entry.now.search.keys_to }
-{
-    let bounds = bounds_of(&arguments.search, ticks_of(arguments));
-    let explored = chip_explore::explore(alloc, start, question, &bounds, teller);
-    let place = if arguments.is_image {
-        Vec::new(alloc)
-    } else {
-        place_text(alloc, source, start, question.rate, &explored.outcome)?
-    };
-    let text = search_text(alloc, arguments, source, &explored, &place)?;
-    write_script(alloc, files, arguments, &explored.outcome, teller)?;
-    print(&text, search_ending(&explored), output)
+impl<'p, 'a> Search<'p, 'a> {
+    // Prints what the search finds, and writes the key events of a script where a file is named.
+    fn carry_out<F: FileAccess, O: Write, T: Teller>(
+        &self,
+        system: &System<'_, F>,
+        output: &mut Counted<O>,
+        teller: &mut T,
+    ) -> Result<Ending, Failure<'a>>
+        requires rate { 0 < self.now.question.now.rate }
+        requires fresh { self.now.start.now.core.draws ≡ 0 }
+        ensures searched { SearchesFrom O.contents output.old output.new self.now.arguments.now
+            self.now.source.now.lines self.now.question.now.rate self.now.question.now.allowed
+            self.now.question.now.target self.now.start.now result }
+        // Where a script was found, the program ends so.
+        ensures written { result ≡ Ok Ending.Faulty
+            → IsNamedWritten (F.wrote system.now.files.now) self.now.arguments.now.search.keys_to }
+    {
+        let Search {
+            arguments,
+            source,
+            start,
+            question,
+        } = *self;
+        let bounds = bounds_of(&arguments.search, ticks_of(arguments));
+        let explored = chip_explore::explore(system.alloc, start, question, &bounds, teller);
+        let place = if arguments.is_image {
+            Vec::new(system.alloc)
+        } else {
+            place_text(
+                system.alloc,
+                source,
+                start,
+                question.rate,
+                &explored.outcome,
+            )?
+        };
+        let text = search_text(system.alloc, arguments, source, &explored, &place)?;
+        write_script(system, arguments, &explored.outcome, teller)?;
+        print(&text, search_ending(&explored), output)
+    }
 }
 
 /// How far a search goes.
@@ -300,13 +321,12 @@ fn ticks_of(arguments: &ExploreArguments<'_>) -> Ticks {
 
 // Writes the key events of the script that was found, where there is a file for them.
 fn write_script<'a, F: FileAccess, T: Teller>(
-    alloc: Global,
-    files: &F,
+    system: &System<'_, F>,
     arguments: &ExploreArguments<'a>,
     outcome: &Outcome,
     teller: &mut T,
 ) -> Result<Ending, Failure<'a>>
-    ensures ok { OnOk result (IsScriptWritten (F.wrote files.now) outcome.now
+    ensures ok { OnOk result (IsScriptWritten (F.wrote system.now.files.now) outcome.now
         arguments.entry.now.search.keys_to) }
     ensures err { IfErr result (IsScriptUnwritten arguments.entry.now.search.keys_to) }
 {
@@ -316,9 +336,9 @@ fn write_script<'a, F: FileAccess, T: Teller>(
     let Some(name) = arguments.search.keys_to else {
         return Ok(Ending::Done);
     };
-    let text = script_text(alloc, events)?;
+    let text = script_text(system.alloc, events)?;
     let taken = [file_name(arguments.search.source)];
-    let ending = write_image(alloc, files, &taken, name, &text)?;
+    let ending = system.write(&taken, name, &text)?;
     teller.tell_written(name);
     Ok(ending)
 }

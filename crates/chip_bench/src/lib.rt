@@ -21,6 +21,7 @@ mod proving;
 mod reading;
 mod sets;
 mod stop_place;
+mod system;
 mod terminal;
 mod testing;
 mod tracing;
@@ -33,5 +34,6 @@ pub use chip_session::{
     Bench, Change, Command, CommandFault, Counted, Letters, OpenError, PictureForm, Question,
     Refusal, ServeError, SetError, Settings, StateQuestion, read_command, serve, tape_of,
 };
-pub use entry::{Host, program, refuse_arguments};
+pub use entry::{program, refuse_arguments};
 pub use held_writer::HeldWriter;
+pub use system::{Host, System};

@@ -4,21 +4,22 @@ ghost use Rattle.chip_asm.specs.Lines.{lines_of, open_fault};
 ghost use Rattle.chip_asm.specs.Program.{image_of, symbols_of};
 ghost use Rattle.chip_views.specs.Dis.{source_of_image};
 ghost use Rattle.chip_session.specs.Transcript.{refused};
-ghost use Rattle.chip_bench.specs.Printing.{Prints, Refuses, printed, printed_of, printed_faults, printed_listing, printed_run, printed_picture, printed_symbols, listing_shown, symbols_shown, unanswered, unopened_text, keys_failure, PrintsUnder, PrintsUnless};
+ghost use Rattle.chip_bench.specs.Printing.{Prints, Refuses, printed, printed_of, printed_faults, printed_listing, printed_run, printed_picture, printed_symbols, listing_shown, symbols_shown, unanswered, unopened_text, PrintsUnder, PrintsUnless};
 ghost use Rattle.chip_session.specs.KeyFile.{key_fault, session_under};
 ghost use Rattle.chip_bench.specs.Running.{AnswersScript};
 ghost use Rattle.chip_bench.specs.Doing.{Explains, IsShort};
 ghost use Rattle.chip_bench.specs.inner.Reads.{IsImageHindered, IsImageOrFaults};
 ghost use Rattle.chip_arguments.specs.Version.{version_text};
 
-use crate::ending::{Code, Ending, Failure};
+use crate::ending::{Ending, Failure};
+use crate::reading::KeyFile;
 use chip_arguments::VERSION;
 use chip_asm::{OpenError, Source};
 use chip_machine::limits::IMAGE_BYTES;
 use chip_pages::{contents, page_text};
 use chip_session::{
-    Bench, Counted, KeyFileError, Observer, PictureForm, Question, Refusal, ServeError, Settings,
-    faults_answer, insert_keys, listing_answer, refuse, serve_observed, symbols_answer, write_all,
+    Bench, Counted, Observer, PictureForm, Question, Refusal, ServeError, Settings, faults_answer,
+    insert_keys, listing_answer, refuse, serve_observed, symbols_answer, write_all,
 };
 use chip_views::{hex_listing, hex_symbols, source_of_image};
 use std::alloc::{AllocError, Global};
@@ -183,24 +184,6 @@ pub(crate) fn print_source<'a, O: Write>(
     print(&text, Ending::Done, output)
 }
 
-/// A file of key events: its name, and its bytes. Without one there are no bytes.
-#[derive(Drop)]
-pub(crate) struct KeyFile<'a> {
-    pub(crate) name: &'a str,
-    pub(crate) bytes: Vec<u8>,
-}
-
-impl<'a> KeyFile<'a> {
-    pub(crate) fn failure(&self, error: KeyFileError) -> Failure<'a>
-        ensures { result ≡ keys_failure self.now.name error }
-    {
-        match error {
-            KeyFileError::Line(number, code) => Failure::BadKeys(self.name, number, Code(code)),
-            KeyFileError::OutOfMemory => Failure::OutOfMemory,
-        }
-    }
-}
-
 /// `explain`: the page on a code, or all codes.
 pub(crate) fn explain<'a, O: Write>(
     alloc: Global,
@@ -272,22 +255,28 @@ fn print_run_under<'a, O: Write>(
     }
 }
 
+/// Which picture is asked for.
+#[derive(Clone, Copy)]
+pub(crate) struct Picture {
+    pub(crate) steps: u32,
+    pub(crate) form: PictureForm,
+}
+
 /// `picture`: the picture of the screen after some steps, or the faults where there is no image.
 pub(crate) fn picture_source<'a, O: Write>(
     alloc: Global,
     source: &[u8],
     keys: &KeyFile<'a>,
-    steps: u32,
-    form: PictureForm,
+    picture: Picture,
     settings: Settings,
     output: &mut Counted<O>,
 ) -> Result<Ending, Failure<'a>>
     ensures { PrintsUnder O.contents output.old output.new settings source.now keys.now.bytes.items
-        (λ session. printed_picture session steps form) result }
+        (λ session. printed_picture session picture.steps picture.form) result }
 {
     match Bench::open(alloc, source, settings) {
         Ok(mut bench) => {
-            let ended = print_picture_under(alloc, &mut bench, keys, steps, form, output);
+            let ended = print_picture_under(alloc, &mut bench, keys, picture, output);
             // Of two pictures the first one's bench goes before the second one's is opened.
             drop(bench);
             ended
@@ -300,16 +289,16 @@ fn print_picture_under<'a, O: Write>(
     alloc: Global,
     bench: &mut Bench,
     keys: &KeyFile<'a>,
-    steps: u32,
-    form: PictureForm,
+    picture: Picture,
     output: &mut Counted<O>,
 ) -> Result<Ending, Failure<'a>>
     ensures { PrintsUnless O.contents output.old output.new
         (key_fault bench.old.session keys.now.bytes.items)
-        (printed_picture (session_under bench.old.session keys.now.bytes.items) steps form) result }
+        (printed_picture (session_under bench.old.session keys.now.bytes.items) picture.steps
+        picture.form) result }
 {
     match insert_keys(alloc, bench, &keys.bytes) {
-        Ok(()) => print_picture(alloc, bench, steps, form, output),
+        Ok(()) => print_picture(alloc, bench, picture, output),
         Err(error) => Err(keys.failure(error)),
     }
 }
@@ -335,17 +324,17 @@ fn print_run<'a, O: Write>(
 fn print_picture<'a, O: Write>(
     alloc: Global,
     bench: &mut Bench,
-    steps: u32,
-    form: PictureForm,
+    picture: Picture,
     output: &mut Counted<O>,
 ) -> Result<Ending, Failure<'a>>
     ensures { Prints O.contents output.old output.new
-        (printed_picture bench.old.session steps form) result }
+        (printed_picture bench.old.session picture.steps picture.form) result }
 {
-    let mut picture = Vec::new(alloc);
+    let mut answer = Vec::new(alloc);
+    let Picture { steps, form } = picture;
     let question = Question::Picture { step: steps, form };
-    match bench.ask(alloc, &question, &mut picture) {
-        Ok(()) => print(&picture, Ending::Done, output),
+    match bench.ask(alloc, &question, &mut answer) {
+        Ok(()) => print(&answer, Ending::Done, output),
         Err(why) => print_why(alloc, bench, why, output),
     }
 }

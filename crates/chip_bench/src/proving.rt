@@ -23,6 +23,7 @@ use crate::output::print;
 use crate::progress::Teller;
 use crate::reading::{file_name, read_source, settings_of};
 use crate::sets::keys_of;
+use crate::system::System;
 use chip_arguments::ProveArguments;
 use chip_asm::Source;
 use chip_check::{push_property_fault, push_quoted};
@@ -39,8 +40,7 @@ use std::io::{Read, Write};
 /// `prove`: what a search answers of each property that a source states, or the faults where there is
 /// no image. Settings and keys are judged before the source is read.
 pub(crate) fn prove<'a, F: FileAccess, I: Read, O: Write, T: Teller>(
-    alloc: Global,
-    files: &F,
+    system: &System<'_, F>,
     arguments: &ProveArguments<'a>,
     input: &mut Counted<I>,
     output: &mut Counted<O>,
@@ -49,15 +49,15 @@ pub(crate) fn prove<'a, F: FileAccess, I: Read, O: Write, T: Teller>(
     ensures { Proves I.remaining O.contents input.old input.new output.old output.new
         arguments.entry.now result }
 {
-    let settings = settings_of(alloc, &arguments.search.settings)?;
+    let settings = settings_of(system.alloc, &arguments.search.settings)?;
     let keys = keys_of(arguments.search.allowed_keys)?;
-    let bytes = read_source(alloc, files, arguments.search.source, input)?;
+    let bytes = read_source(system, arguments.search.source, input)?;
     let asked = Asked {
         arguments,
         settings: &settings,
         keys,
     };
-    prove_source(alloc, files, &asked, &bytes, output, teller)
+    prove_source(system, &asked, &bytes, output, teller)
 }
 
 /// What is asked of a source.
@@ -70,8 +70,7 @@ struct Asked<'p, 'a> {
 }
 
 fn prove_source<'a, F: FileAccess, O: Write, T: Teller>(
-    alloc: Global,
-    files: &F,
+    system: &System<'_, F>,
     asked: &Asked<'_, 'a>,
     bytes: &[u8],
     output: &mut Counted<O>,
@@ -83,21 +82,20 @@ fn prove_source<'a, F: FileAccess, O: Write, T: Teller>(
     let arguments = asked.arguments;
     let name = arguments.search.source.as_bytes();
     let checker = Checker::for_faults(arguments.is_json);
-    match Source::open(alloc, bytes) {
+    match Source::open(system.alloc, bytes) {
         Ok(source) => {
             let Some(image) = source.image() else {
-                let text = checker.text_of(alloc, name, &source, &[])?;
+                let text = checker.text_of(system.alloc, name, &source, &[])?;
                 return print(&text, Ending::Faulty, output);
             };
-            prove_image(alloc, files, asked, &source, image, output, teller)
+            prove_image(system, asked, &source, image, output, teller)
         }
-        Err(error) => checker.refuse(alloc, name, error, output),
+        Err(error) => checker.refuse(system.alloc, name, error, output),
     }
 }
 
 fn prove_image<'a, F: FileAccess, O: Write, T: Teller>(
-    alloc: Global,
-    files: &F,
+    system: &System<'_, F>,
     asked: &Asked<'_, 'a>,
     source: &Source,
     image: &[u8],
@@ -110,10 +108,9 @@ fn prove_image<'a, F: FileAccess, O: Write, T: Teller>(
         ⊎ Fails O.contents output.old output.new IsShort result }
 {
     let settings = asked.settings;
-    let start = machine_of(alloc, image, settings.tape(), settings.quirks())?;
+    let start = machine_of(system.alloc, image, settings.tape(), settings.quirks())?;
     let prover = Prover {
-        alloc,
-        files,
+        system,
         arguments: asked.arguments,
         source,
         start: &start,
@@ -126,8 +123,7 @@ fn prove_image<'a, F: FileAccess, O: Write, T: Teller>(
 /// What properties are answered by, and how the answers are told.
 #[derive(Drop)]
 struct Prover<'p, 'a, F> {
-    alloc: Global,
-    files: &'p F,
+    system: &'p System<'p, F>,
     arguments: &'p ProveArguments<'a>,
     source: &'p Source,
     start: &'p Machine,
@@ -263,10 +259,10 @@ impl<'p, 'a, F: FileAccess> Prover<'p, 'a, F> {
             self.now.source.now.lines self.now.rate self.now.keys self.now.start.now properties result)
             ⊎ Fails O.contents output.old output.new IsShort result }
     {
-        let Properties { stated, faults } = properties_of(self.alloc, self.source)?;
+        let Properties { stated, faults } = properties_of(self.system.alloc, self.source)?;
         let arguments = self.arguments;
         let only = arguments.only;
-        let left = Left::of(self.alloc, only, stated)?;
+        let left = Left::of(self.system.alloc, only, stated)?;
         let is_faulty = has_faults(only, &faults);
         let is_empty = left.heads.is_empty();
         if let Some(line) = missing_line(only, is_empty, is_faulty) {
@@ -306,7 +302,7 @@ impl<'p, 'a, F: FileAccess> Prover<'p, 'a, F> {
     /// What is printed of the properties that can't be read.
     fn reports(&self, faults: &[PropertyFault]) -> Result<Vec<u8>, AllocError> {
         let arguments = self.arguments;
-        let mut text = Vec::new(self.alloc);
+        let mut text = Vec::new(self.system.alloc);
         for fault in faults {
             if is_asked(arguments.only, fault.line) {
                 self.push_report(&mut text, fault)?;
@@ -322,7 +318,7 @@ impl<'p, 'a, F: FileAccess> Prover<'p, 'a, F> {
         let arguments = self.arguments;
         let name = arguments.search.source.as_bytes();
         let is_json = arguments.is_json;
-        push_property_fault(self.alloc, text, is_json, name, line.text(), fault)
+        push_property_fault(self.system.alloc, text, is_json, name, line.text(), fault)
     }
 
     /// Answers properties, search by search: one that is met is told at once, and left out of the next
@@ -398,7 +394,7 @@ impl<'p, 'a, F: FileAccess> Prover<'p, 'a, F> {
         };
         let bounds = bounds_of(search, ticks);
         one_of_several();
-        explore(self.alloc, self.start, &question, &bounds, teller)
+        explore(self.system.alloc, self.start, &question, &bounds, teller)
     }
 
     /// Tells what a search says of each of these properties, and whether one is broken, or an `ever` isn't
@@ -429,7 +425,7 @@ impl<'p, 'a, F: FileAccess> Prover<'p, 'a, F> {
         ensures { IfOk result (λ text. text.items ≡ flat_map
             (printed_head self.now.arguments.now self.now.source.now.lines explored.now) heads.now) }
     {
-        let mut text = Vec::new(self.alloc);
+        let mut text = Vec::new(self.system.alloc);
         for head in heads {
             self.push_answer(&mut text, *head, explored)?;
         }
@@ -456,7 +452,7 @@ impl<'p, 'a, F: FileAccess> Prover<'p, 'a, F> {
             line: head.line,
             text: self.text_at(head.line),
         };
-        answer.push(self.alloc, text, arguments.is_json, &place)
+        answer.push(self.system.alloc, text, arguments.is_json, &place)
     }
 
     /// The text of the property of a line.
@@ -488,10 +484,10 @@ impl<'p, 'a, F: FileAccess> Prover<'p, 'a, F> {
         let Some(path) = arguments.search.keys_to else {
             return Ok(written);
         };
-        let text = script_text(self.alloc, events)?;
+        let text = script_text(self.system.alloc, events)?;
         if path.as_bytes().ends_with(b"/") {
             let line = head.line;
-            let name = format!(in self.alloc; "{path}{line}.keys")?;
+            let name = format!(in self.system.alloc; "{path}{line}.keys")?;
             self.write(path, name.as_str(), &text, teller)?;
             return Ok(written);
         }
@@ -515,7 +511,11 @@ impl<'p, 'a, F: FileAccess> Prover<'p, 'a, F> {
     {
         let arguments = self.arguments;
         let taken = [file_name(arguments.search.source)];
-        match self.files.write(self.alloc, &taken, name, bytes) {
+        match self
+            .system
+            .files
+            .write(self.system.alloc, &taken, name, bytes)
+        {
             Ok(()) => {
                 teller.tell_written(name);
                 Ok(())
@@ -527,7 +527,7 @@ impl<'p, 'a, F: FileAccess> Prover<'p, 'a, F> {
 
     /// What is printed last: how many states the searches kept.
     fn end_text(&self, told: &Told) -> Result<Vec<u8>, AllocError> {
-        let mut text = Vec::new(self.alloc);
+        let mut text = Vec::new(self.system.alloc);
         let arguments = self.arguments;
         let states = told.states as u64;
         if !arguments.is_json {
@@ -545,7 +545,11 @@ impl<'p, 'a, F: FileAccess> Prover<'p, 'a, F> {
             text.extend_from_slice(b",\"out_of_time\":true")?;
         }
         text.extend_from_slice(b",\"file\":")?;
-        push_quoted(self.alloc, &mut text, arguments.search.source.as_bytes())?;
+        push_quoted(
+            self.system.alloc,
+            &mut text,
+            arguments.search.source.as_bytes(),
+        )?;
         text.extend_from_slice(b"}\n")?;
         Ok(text)
     }

@@ -4,19 +4,20 @@ ghost use Rattle.hex.specs.Hex.{decode_of};
 ghost use Rattle.chip_lang.specs.declared.limits.TheConstants.{IMAGE_BYTES};
 ghost use Rattle.chip_views.specs.Dis.{source_of_image};
 ghost use Rattle.chip_bench.specs.SettingArguments.{settings_asked, tape_asked};
-ghost use Rattle.chip_bench.specs.Running.{IsUnread, IsUnreadWithin, source_bytes_read};
+ghost use Rattle.chip_bench.specs.Printing.{keys_failure};
+ghost use Rattle.chip_bench.specs.Running.{IsUnreadWithin, source_bytes_read};
 ghost use Rattle.chip_bench.specs.inner.Reads.{IsAsked, IsGiven, IsKeysUnread, IsNotGiven, IsNotTaken, IsTaken, IsUnasked};
 ghost use Rattle.chip_bench.specs.Doing.{GivesSource, IsImageRefused, IsInputUnread, IsSourceUnread};
 
-use crate::ending::Failure;
+use crate::ending::{Code, Failure};
 use crate::file_access::FileAccess;
 use crate::limits::KEY_FILE_BYTES;
-use crate::output::KeyFile;
+use crate::system::System;
 use chip_arguments::{RunArguments, SettingArguments};
 use chip_asm::limits::SOURCE_BYTES;
 use chip_files::read_most;
 use chip_machine::limits::IMAGE_BYTES;
-use chip_session::{Counted, Settings, tape_of};
+use chip_session::{Counted, KeyFileError, Settings, tape_of};
 use chip_views::source_of_image;
 use hex::FromHexError;
 use std::alloc::Global;
@@ -77,6 +78,24 @@ fn tape_from_hex<'a>(alloc: Global, digits: &str) -> Result<Vec<u8>, Failure<'a>
     }
 }
 
+/// A file of key events: its name, and its bytes. Without one there are no bytes.
+#[derive(Drop)]
+pub(crate) struct KeyFile<'a> {
+    pub(crate) name: &'a str,
+    pub(crate) bytes: Vec<u8>,
+}
+
+impl<'a> KeyFile<'a> {
+    pub(crate) fn failure(&self, error: KeyFileError) -> Failure<'a>
+        ensures { result ≡ keys_failure self.now.name error }
+    {
+        match error {
+            KeyFileError::Line(number, code) => Failure::BadKeys(self.name, number, Code(code)),
+            KeyFileError::OutOfMemory => Failure::OutOfMemory,
+        }
+    }
+}
+
 // What a run is asked on: a source, a file of key events and settings.
 #[derive(Drop)]
 pub(crate) struct Asked<'a> {
@@ -87,8 +106,7 @@ pub(crate) struct Asked<'a> {
 
 // The settings are judged before a file is read, and the key events are read before the source.
 pub(crate) fn read_asked<'a, F: FileAccess, I: Read, E: Write>(
-    alloc: Global,
-    files: &F,
+    system: &System<'_, F>,
     arguments: &RunArguments<'a>,
     input: &mut Counted<I>,
     errors: &mut E,
@@ -98,16 +116,9 @@ pub(crate) fn read_asked<'a, F: FileAccess, I: Read, E: Write>(
     ensures err { IfErr result (λ why. IsUnasked I.remaining input.old input.new arguments.entry.now
         why) }
 {
-    let settings = settings_of(alloc, &arguments.settings)?;
-    let keys = read_keys(alloc, files, arguments.keys)?;
-    let source = read_given(
-        alloc,
-        files,
-        arguments.source,
-        arguments.is_image,
-        input,
-        errors,
-    )?;
+    let settings = settings_of(system.alloc, &arguments.settings)?;
+    let keys = read_keys(system, arguments.keys)?;
+    let source = read_given(system, arguments.source, arguments.is_image, input, errors)?;
     Ok(Asked {
         source,
         keys,
@@ -117,8 +128,7 @@ pub(crate) fn read_asked<'a, F: FileAccess, I: Read, E: Write>(
 
 // The file of key events of that name, or no events without one.
 fn read_keys<'a, F: FileAccess>(
-    alloc: Global,
-    files: &F,
+    system: &System<'_, F>,
     name: Option<&'a str>,
 ) -> Result<KeyFile<'a>, Failure<'a>>
     ensures ok { IfOk result (λ keys. name.entry ≡ None → keys.bytes.items ≡ []) }
@@ -126,57 +136,29 @@ fn read_keys<'a, F: FileAccess>(
     ensures err { IfErr result (IsKeysUnread name.entry) }
 {
     match name {
-        Some(name) => read_key_file(alloc, files, name),
+        Some(name) => read_key_file(system, name),
         None => Ok(KeyFile {
             name: "",
-            bytes: Vec::new(alloc),
+            bytes: Vec::new(system.alloc),
         }),
     }
 }
 
 // A file of key events, unless it is too long.
 fn read_key_file<'a, F: FileAccess>(
-    alloc: Global,
-    files: &F,
+    system: &System<'_, F>,
     name: &'a str,
 ) -> Result<KeyFile<'a>, Failure<'a>>
     ensures ok { IfOk result (λ keys. length keys.bytes.items ≤ KEY_FILE_BYTES) }
     ensures err { IfErr result (IsUnreadWithin KEY_FILE_BYTES name.entry) }
 {
-    let bytes = read_bounded(alloc, files, name, KEY_FILE_BYTES)?;
+    let bytes = system.read_within(name, KEY_FILE_BYTES)?;
     Ok(KeyFile { name, bytes })
-}
-
-// The bytes of a file, unless there are over so many.
-pub(crate) fn read_bounded<'a, F: FileAccess>(
-    alloc: Global,
-    files: &F,
-    name: &'a str,
-    most: u32,
-) -> Result<Vec<u8>, Failure<'a>>
-    ensures ok { IfOk result (λ bytes. length bytes.items ≤ most) }
-    ensures err { IfErr result (IsUnreadWithin most name.entry) }
-{
-    let bytes = read_file(alloc, files, name, most.saturating_add(1))?;
-    unless_longer(bytes, name, most)
-}
-
-// The bytes that were read of a file, unless these are over so many.
-fn unless_longer<'a>(bytes: Vec<u8>, name: &'a str, most: u32) -> Result<Vec<u8>, Failure<'a>>
-    ensures ok { IfOk result (λ kept. (kept ≡ bytes) × (length bytes.items ≤ most)) }
-    ensures err { IfErr result (λ why. (why ≡ Failure.TooLong name.entry most)
-        × (most < length bytes.items)) }
-{
-    if bytes.len() > most as usize {
-        return Err(Failure::TooLong(name, most));
-    }
-    Ok(bytes)
 }
 
 // The source of that name, or where an image has the name, what `dis` prints of it.
 pub(crate) fn read_given<'a, F: FileAccess, I: Read, E: Write>(
-    alloc: Global,
-    files: &F,
+    system: &System<'_, F>,
     name: &'a str,
     is_image: bool,
     input: &mut Counted<I>,
@@ -186,8 +168,8 @@ pub(crate) fn read_given<'a, F: FileAccess, I: Read, E: Write>(
         source.items) }
     ensures err { IfErr result (IsNotGiven I.remaining input.old input.new is_image name.entry) }
 {
-    let bytes = read_source(alloc, files, name, input)?;
-    as_source(alloc, name, is_image, bytes, errors)
+    let bytes = read_source(system, name, input)?;
+    as_source(system.alloc, name, is_image, bytes, errors)
 }
 
 // The bytes themselves, or the source that `dis` prints of them. Where an image was given as a
@@ -236,8 +218,7 @@ fn source_of<'a>(alloc: Global, name: &'a str, image: &[u8]) -> Result<Vec<u8>, 
 
 // The bytes of a file, or of the standard input where the name is `-`.
 pub(crate) fn read_source<'a, F: FileAccess, I: Read>(
-    alloc: Global,
-    files: &F,
+    system: &System<'_, F>,
     name: &'a str,
     input: &mut Counted<I>,
 ) -> Result<Vec<u8>, Failure<'a>>
@@ -246,9 +227,9 @@ pub(crate) fn read_source<'a, F: FileAccess, I: Read>(
     ensures err { IfErr result (IsSourceUnread input.old input.new name.entry) }
 {
     if name == INPUT {
-        read_input(alloc, input)
+        read_input(system.alloc, input)
     } else {
-        read_file(alloc, files, name, MOST_SOURCE)
+        system.read(name, MOST_SOURCE)
     }
 }
 
@@ -264,21 +245,5 @@ fn read_input<'a, I: Read>(alloc: Global, input: &mut Counted<I>) -> Result<Vec<
         // Where no read failed memory ran out for the bytes.
         Err(_) if input.failures() == failures => Err(Failure::OutOfMemory),
         Err(_) => Err(Failure::Input),
-    }
-}
-
-// The bytes of a file, up to a number.
-pub(crate) fn read_file<'a, F: FileAccess>(
-    alloc: Global,
-    files: &F,
-    name: &'a str,
-    most: u32,
-) -> Result<Vec<u8>, Failure<'a>>
-    ensures { IfErr result (IsUnread name.entry) }
-{
-    match files.read(alloc, name, most) {
-        Ok(bytes) => Ok(bytes),
-        Err(error) if error.kind() == io::ErrorKind::OutOfMemory => Err(Failure::OutOfMemory),
-        Err(error) => Err(Failure::CannotRead(name, error)),
     }
 }

@@ -6,30 +6,27 @@ use crate::case_report::Report;
 use crate::case_run::{Verdict, run_case};
 use crate::case_setup::{case_keys, case_settings, case_source};
 use crate::ending::{Ending, Failure, TestFault};
-use crate::entry::write_image;
 use crate::file_access::FileAccess;
 use crate::limits::TEST_FILE_BYTES;
 use crate::output::print;
-use crate::reading::read_bounded;
+use crate::system::System;
 use chip_arguments::TestArguments;
 use chip_cases::{Case, FileFault, Given, misplaced_refusal, read_cases, updated_text};
 use chip_session::Counted;
-use std::alloc::{AllocError, Global};
+use std::alloc::AllocError;
 use std::io::Write;
 
 /// `test`: carries out the cases of the files, one file after another, and prints what failed.
 pub(crate) fn test_files<'a, F: FileAccess, O: Write>(
-    alloc: Global,
-    files: &F,
+    system: &System<'_, F>,
     arguments: &TestArguments<'a>,
     output: &mut Counted<O>,
 ) -> Result<Ending, Failure<'a>>
     ensures { Tests arguments.now result }
 {
-    let mut report = Report::new(alloc, arguments.is_tap);
+    let mut report = Report::new(system.alloc, arguments.is_tap);
     let has_passed = report_files(
-        alloc,
-        files,
+        system,
         &arguments.files,
         arguments.is_update,
         &mut report,
@@ -46,8 +43,7 @@ pub(crate) fn test_files<'a, F: FileAccess, O: Write>(
 
 // Carries out the cases of files, prints the outcomes file by file, and says whether all pass.
 fn report_files<'a, F: FileAccess, O: Write>(
-    alloc: Global,
-    files: &F,
+    system: &System<'_, F>,
     names: &[&'a str],
     is_update: bool,
     report: &mut Report,
@@ -58,7 +54,7 @@ fn report_files<'a, F: FileAccess, O: Write>(
 {
     let mut has_passed = true;
     for name in names {
-        let passes = test_file(alloc, files, name, is_update, report)?;
+        let passes = test_file(system, name, is_update, report)?;
         has_passed = has_passed && passes;
         print(report.text(), Ending::Done, output)?;
         report.clear();
@@ -68,8 +64,7 @@ fn report_files<'a, F: FileAccess, O: Write>(
 
 // Carries out the cases of a file, and says whether all pass.
 fn test_file<'a, F: FileAccess>(
-    alloc: Global,
-    files: &F,
+    system: &System<'_, F>,
     name: &'a str,
     is_update: bool,
     report: &mut Report,
@@ -77,8 +72,8 @@ fn test_file<'a, F: FileAccess>(
     ensures ok { IfOk result (JudgesFile name.entry) }
     ensures err { IfErr result IsHindrance }
 {
-    let text = read_bounded(alloc, files, name, TEST_FILE_BYTES)?;
-    let cases = match read_cases(alloc, &text) {
+    let text = system.read_within(name, TEST_FILE_BYTES)?;
+    let cases = match read_cases(system.alloc, &text) {
         Ok(cases) => cases,
         Err(FileFault::OutOfMemory) => return Err(Failure::OutOfMemory),
         Err(FileFault::Line(line, why)) => {
@@ -89,19 +84,18 @@ fn test_file<'a, F: FileAccess>(
     if !is_update && let Some((line, why)) = misplaced {
         return Err(Failure::BadTest(name, line, TestFault::Line(why)));
     }
-    let mut others = Vec::new(alloc);
-    let passes = test_cases(alloc, files, name, &cases, report, &mut others)?;
+    let mut others = Vec::new(system.alloc);
+    let passes = test_cases(system, name, &cases, report, &mut others)?;
     if is_update && (!others.is_empty() || misplaced.is_some()) {
-        let updated = updated_text(alloc, &text, &others)?;
-        write_image(alloc, files, &[], name, &updated)?;
+        let updated = updated_text(system.alloc, &text, &others)?;
+        system.write(&[], name, &updated)?;
     }
     Ok(passes)
 }
 
 // Carries out cases, says whether all pass, and adds the answers that are not as expected.
 fn test_cases<'a, F: FileAccess>(
-    alloc: Global,
-    files: &F,
+    system: &System<'_, F>,
     name: &'a str,
     cases: &[Case<'_>],
     report: &mut Report,
@@ -112,9 +106,9 @@ fn test_cases<'a, F: FileAccess>(
 {
     let mut has_passed = true;
     for case in cases {
-        let verdict = test_case(alloc, files, name, case)?;
+        let verdict = test_case(system, name, case)?;
         has_passed = has_passed && verdict.has_passed();
-        report.push_case(alloc, name, case, &verdict)?;
+        report.push_case(system.alloc, name, case, &verdict)?;
         if let Verdict::Answered(given) = verdict {
             push_all(others, given)?;
         }
@@ -131,16 +125,15 @@ fn push_all(others: &mut Vec<Given>, given: Vec<Given>) -> Result<(), AllocError
 
 // Carries out a case on the source, the key events and the settings that its lines ask for.
 fn test_case<'a, F: FileAccess>(
-    alloc: Global,
-    files: &F,
+    system: &System<'_, F>,
     name: &'a str,
     case: &Case<'_>,
 ) -> Result<Verdict, Failure<'a>>
     ensures ok { IfOk result (λ verdict. JudgesCase case.now (has_passed verdict)) }
     ensures err { IfErr result IsHindrance }
 {
-    let settings = case_settings(alloc, name, &case.setup)?;
-    let source = case_source(alloc, files, name, case.setup.source)?;
-    let keys = case_keys(alloc, files, name, case.setup.keys)?;
-    Ok(run_case(alloc, &source, settings, &keys, &case.steps)?)
+    let settings = case_settings(system.alloc, name, &case.setup)?;
+    let source = case_source(system, name, case.setup.source)?;
+    let keys = case_keys(system, name, case.setup.keys)?;
+    Ok(run_case(system.alloc, &source, settings, &keys, &case.steps)?)
 }

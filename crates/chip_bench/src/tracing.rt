@@ -7,7 +7,8 @@ ghost use Rattle.chip_bench.specs.Tracing.{IsCompared, is_past_last, printed_tra
 ghost use Rattle.chip_bench.specs.declared.ending.Ending.TheVariants.{Done};
 
 use crate::ending::{Ending, Failure};
-use crate::output::{KeyFile, print, print_why, refuse_source};
+use crate::output::{print, print_why, refuse_source};
+use crate::reading::KeyFile;
 use chip_replay::LAST_STEP;
 use chip_session::{Bench, Counted, Refusal, Settings, insert_keys};
 use chip_trace::{Columns, Form, Trace, difference_text};
@@ -34,6 +35,13 @@ impl Shown {
     {
         self.from > LAST_STEP || self.to > LAST_STEP
     }
+}
+
+/// What a trace shows, and the lines of another trace, which follow its header.
+#[derive(Drop)]
+pub(crate) struct Beside<'t> {
+    pub(crate) shown: Shown,
+    pub(crate) theirs: &'t [u8],
 }
 
 /// `trace`: the lines of the run of a source's image, or the faults where there is no image.
@@ -131,23 +139,23 @@ fn stream<'a, O: Write>(
     }
 }
 
-/// `trace --against`: where the lines of the run of a source's image and those of another trace,
-/// which follow its header, differ first; or the faults where there is no image.
+/// `trace --against`: where the lines of the run of a source's image and those of another trace
+/// differ first; or the faults where there is no image.
 pub(crate) fn compare_source<'a, O: Write>(
     alloc: Global,
     source: &[u8],
     keys: &KeyFile<'a>,
-    shown: &Shown,
-    theirs: &[u8],
+    beside: &Beside<'_>,
     settings: Settings,
     output: &mut Counted<O>,
 ) -> Result<Ending, Failure<'a>>
     ensures { PrintsSuchUnder O.contents output.old output.new settings source.now
-        keys.now.bytes.items (λ session. IsCompared session shown.now (lines theirs.now)) result }
+        keys.now.bytes.items
+        (λ session. IsCompared session beside.now.shown (lines beside.now.theirs.now)) result }
 {
     match Bench::open(alloc, source, settings) {
         Ok(mut bench) => {
-            let ended = compare_under(alloc, &mut bench, keys, shown, theirs, output);
+            let ended = compare_under(alloc, &mut bench, keys, beside, output);
             // The program ends here, and its memory goes back at once.
             mem::forget(bench);
             ended
@@ -160,17 +168,16 @@ fn compare_under<'a, O: Write>(
     alloc: Global,
     bench: &mut Bench,
     keys: &KeyFile<'a>,
-    shown: &Shown,
-    theirs: &[u8],
+    beside: &Beside<'_>,
     output: &mut Counted<O>,
 ) -> Result<Ending, Failure<'a>>
     ensures { PrintsSuchUnless O.contents output.old output.new
         (key_fault bench.old.session keys.now.bytes.items)
-        (IsCompared (session_under bench.old.session keys.now.bytes.items) shown.now
-        (lines theirs.now)) result }
+        (IsCompared (session_under bench.old.session keys.now.bytes.items) beside.now.shown
+        (lines beside.now.theirs.now)) result }
 {
     match insert_keys(alloc, bench, &keys.bytes) {
-        Ok(()) => print_difference(alloc, bench, shown, theirs, output),
+        Ok(()) => print_difference(alloc, bench, beside, output),
         Err(error) => Err(keys.failure(error)),
     }
 }
@@ -178,18 +185,18 @@ fn compare_under<'a, O: Write>(
 fn print_difference<'a, O: Write>(
     alloc: Global,
     bench: &mut Bench,
-    shown: &Shown,
-    theirs: &[u8],
+    beside: &Beside<'_>,
     output: &mut Counted<O>,
 ) -> Result<Ending, Failure<'a>>
     ensures { PrintsSuch O.contents output.old output.new
-        (IsCompared bench.old.session shown.now (lines theirs.now)) result }
+        (IsCompared bench.old.session beside.now.shown (lines beside.now.theirs.now)) result }
 {
+    let shown = &beside.shown;
     if let Some(why) = refusal_of(bench, shown) {
         return print_why(alloc, bench, why, output);
     }
     let mut trace = Trace::new(alloc, &shown.columns, shown.form, shown.from, shown.to);
-    match bench.first_difference(alloc, &mut trace, theirs) {
+    match bench.first_difference(alloc, &mut trace, beside.theirs) {
         Ok(None) => Ok(Ending::Done),
         Ok(Some(found)) => {
             let text = difference_text(alloc, &shown.columns, shown.from, &found)?;

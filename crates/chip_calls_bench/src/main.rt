@@ -27,7 +27,7 @@ mod streams;
 use crate::session::Session;
 use crate::streams::{Feed, Plan, Sink, each, talk};
 use anyhow::{Error, bail};
-use chip_bench::{Counted, HeldWriter, Host, Settings, program, refuse_arguments, tape_of};
+use chip_bench::{Counted, HeldWriter, Host, Settings, System, program, refuse_arguments, tape_of};
 use std::alloc::Global;
 use std::io;
 use std::io::{BufRead, BufReader, Read, Write};
@@ -137,20 +137,17 @@ fn run(rt: &HostRuntime, words: &str, script: &[u8], plan: &Plan) -> Result<Stri
     let mut input = Counted::new(Feed::new(script, plan));
     let mut output = Counted::new(Sink::new(rt.alloc(), plan));
     let mut errors = Vec::new(rt.alloc());
-    let status = program(
-        rt.alloc(),
-        rt,
-        Host {
+    let system = System {
+        alloc: rt.alloc(),
+        files: rt,
+        host: Host {
             name_seed: 0,
             takes_color: false,
             has_reader: false,
             is_typed: false,
         },
-        &list,
-        &mut input,
-        &mut output,
-        &mut errors,
-    );
+    };
+    let status = program(&system, &list, &mut input, &mut output, &mut errors);
     told(rt.alloc(), status, &output.get().taken, &errors)
 }
 

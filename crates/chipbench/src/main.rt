@@ -1,7 +1,7 @@
 //! An assembler and replay debugger for SUPER-CHIP 1.1.
 #![tactic(auto)]
 
-use chip_bench::{Counted, HeldWriter, Host, program, refuse_arguments};
+use chip_bench::{Counted, HeldWriter, Host, System, program, refuse_arguments};
 use std::fs::Files;
 use std::io::IsTerminal;
 use std::process::ExitCode;
@@ -28,15 +28,12 @@ fn main(rt: HostRuntime) -> ExitCode {
         has_reader: rt.stderr().is_terminal(),
         is_typed: rt.stdin().is_terminal(),
     };
-    let status = program(
+    let system = System {
         alloc,
-        &rt,
+        files: &rt,
         host,
-        &arguments,
-        &mut input,
-        &mut output,
-        &mut errors,
-    );
+    };
+    let status = program(&system, &arguments, &mut input, &mut output, &mut errors);
     ExitCode::from(status)
 }
 

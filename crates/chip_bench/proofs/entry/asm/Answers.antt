@@ -30,12 +30,12 @@ returns-clause-did g c =
     let image = subst (λ (found : Option (Vec ℕ)). IsImageOrFaults g.O.Write.contents c.args.output.now c.image_or_faults.new.output c.in_ok-bytes.bytes.items
     (option_map (λ (v : Vec ℕ). v.items) found)) c.in-Some.is c.in_ok-assembled.ensures in
     assembles_image g.I.Read.remaining g.O.Write.contents c.args.input.now c.read_source.new.input c.args.output.now c.image_or_faults.new.output
-    c.args.source c.args.image c.in_ok-bytes.bytes.items c.in_ok-bytes.bytes.items c.in-Some.assembled.items c.write_image.result refl
-    c.in_ok-bytes.ensures.ok image c.write_image.ensures.ended
+    c.args.source c.args.image c.in_ok-bytes.bytes.items c.in_ok-bytes.bytes.items c.in-Some.assembled.items c.write.result refl
+    c.in_ok-bytes.ensures.ok image c.write.ensures.ended
 
 pub returns-clause-written : goal.returns-clause-written
 returns-clause-written g c = λ done.
     let image = subst (λ (found : Option (Vec ℕ)). IsImageOrFaults g.O.Write.contents c.args.output.now c.image_or_faults.new.output c.in_ok-bytes.bytes.items
     (option_map (λ (v : Vec ℕ). v.items) found)) c.in-Some.is c.in_ok-assembled.ensures in
-    let wrote = rw done at c.write_image.ensures.written in
+    let wrote = rw done at c.write.ensures.written in
     (c.in_ok-bytes.bytes.items, (c.in-Some.assembled.items, image.0, rw c.deref.ensures.value at wrote))

@@ -4,65 +4,65 @@ use Rattle.chip_bench.proofs.entry.perform.Goals as goal
 
 pub returns-in-Debug : goal.returns-in-Debug
 returns-in-Debug g c =
-    does_it g.I.Read.remaining g.O.Write.contents c.args.input.now c.debug.new.input c.args.output.now c.debug.new.output c.args.host.takes_color c.args.line.now _ c.debug.result
+    does_it g.I.Read.remaining g.O.Write.contents c.args.input.now c.debug.new.input c.args.output.now c.debug.new.output c.args.system.now.host.takes_color c.args.line.now _ c.debug.result
     c.in-Debug.is c.debug.ensures
 
 pub returns-in-Asm : goal.returns-in-Asm
 returns-in-Asm g c =
-    does_it g.I.Read.remaining g.O.Write.contents c.args.input.now c.asm.new.input c.args.output.now c.asm.new.output c.args.host.takes_color c.args.line.now _ c.asm.result
+    does_it g.I.Read.remaining g.O.Write.contents c.args.input.now c.asm.new.input c.args.output.now c.asm.new.output c.args.system.now.host.takes_color c.args.line.now _ c.asm.result
     c.in-Asm.is c.asm.ensures.did
 
 pub returns-in-List : goal.returns-in-List
 returns-in-List g c =
-    does_it g.I.Read.remaining g.O.Write.contents c.args.input.now c.list.new.input c.args.output.now c.list.new.output c.args.host.takes_color c.args.line.now _ c.list.result
+    does_it g.I.Read.remaining g.O.Write.contents c.args.input.now c.list.new.input c.args.output.now c.list.new.output c.args.system.now.host.takes_color c.args.line.now _ c.list.result
     c.in-List.is c.list.ensures
 
 pub returns-in-Syms : goal.returns-in-Syms
 returns-in-Syms g c =
-    does_it g.I.Read.remaining g.O.Write.contents c.args.input.now c.syms.new.input c.args.output.now c.syms.new.output c.args.host.takes_color c.args.line.now _ c.syms.result
+    does_it g.I.Read.remaining g.O.Write.contents c.args.input.now c.syms.new.input c.args.output.now c.syms.new.output c.args.system.now.host.takes_color c.args.line.now _ c.syms.result
     c.in-Syms.is c.syms.ensures
 
 pub returns-in-Check : goal.returns-in-Check
 returns-in-Check g c =
-    does_it g.I.Read.remaining g.O.Write.contents c.args.input.now c.check.new.input c.args.output.now c.check.new.output c.args.host.takes_color c.args.line.now _ c.check.result
+    does_it g.I.Read.remaining g.O.Write.contents c.args.input.now c.check.new.input c.args.output.now c.check.new.output c.args.system.now.host.takes_color c.args.line.now _ c.check.result
     c.in-Check.is c.check.ensures
 
 pub returns-in-Dis : goal.returns-in-Dis
 returns-in-Dis g c =
-    does_it g.I.Read.remaining g.O.Write.contents c.args.input.now c.dis.new.input c.args.output.now c.dis.new.output c.args.host.takes_color c.args.line.now _ c.dis.result
+    does_it g.I.Read.remaining g.O.Write.contents c.args.input.now c.dis.new.input c.args.output.now c.dis.new.output c.args.system.now.host.takes_color c.args.line.now _ c.dis.result
     c.in-Dis.is c.dis.ensures
 
 pub returns-in-Run : goal.returns-in-Run
 returns-in-Run g c =
-    does_it g.I.Read.remaining g.O.Write.contents c.args.input.now c.run.new.input c.args.output.now c.run.new.output c.args.host.takes_color c.args.line.now _ c.run.result
+    does_it g.I.Read.remaining g.O.Write.contents c.args.input.now c.run.new.input c.args.output.now c.run.new.output c.args.system.now.host.takes_color c.args.line.now _ c.run.result
     c.in-Run.is c.run.ensures
 
 pub returns-in-Trace : goal.returns-in-Trace
 returns-in-Trace g c =
-    does_it g.I.Read.remaining g.O.Write.contents c.args.input.now c.trace.new.input c.args.output.now c.trace.new.output c.args.host.takes_color c.args.line.now _ c.trace.result
+    does_it g.I.Read.remaining g.O.Write.contents c.args.input.now c.trace.new.input c.args.output.now c.trace.new.output c.args.system.now.host.takes_color c.args.line.now _ c.trace.result
     c.in-Trace.is c.trace.ensures
 
 pub returns-in-Picture : goal.returns-in-Picture
 returns-in-Picture g c =
-    does_it g.I.Read.remaining g.O.Write.contents c.args.input.now c.picture.new.input c.args.output.now c.picture.new.output c.args.host.takes_color c.args.line.now _ c.picture.result
+    does_it g.I.Read.remaining g.O.Write.contents c.args.input.now c.picture.new.input c.args.output.now c.picture.new.output c.args.system.now.host.takes_color c.args.line.now _ c.picture.result
     c.in-Picture.is c.picture.ensures
 
 pub returns-in-Test : goal.returns-in-Test
 returns-in-Test g c =
-    does_it g.I.Read.remaining g.O.Write.contents c.args.input.now c.args.input.now c.args.output.now c.test_files.new.output c.args.host.takes_color c.args.line.now _ c.test_files.result
+    does_it g.I.Read.remaining g.O.Write.contents c.args.input.now c.args.input.now c.args.output.now c.test_files.new.output c.args.system.now.host.takes_color c.args.line.now _ c.test_files.result
     c.in-Test.is (c.test_files.ensures, refl)
 
 pub returns-in-Explain : goal.returns-in-Explain
 returns-in-Explain g c =
-    does_it g.I.Read.remaining g.O.Write.contents c.args.input.now c.args.input.now c.args.output.now c.explain.new.output c.args.host.takes_color c.args.line.now _ c.explain.result
+    does_it g.I.Read.remaining g.O.Write.contents c.args.input.now c.args.input.now c.args.output.now c.explain.new.output c.args.system.now.host.takes_color c.args.line.now _ c.explain.result
     c.in-Explain.is (c.explain.ensures, refl)
 
 pub returns-in-Explore : goal.returns-in-Explore
 returns-in-Explore g c =
-    does_it g.I.Read.remaining g.O.Write.contents c.args.input.now c.explore.new.input c.args.output.now c.explore.new.output c.args.host.takes_color c.args.line.now _ c.explore.result
+    does_it g.I.Read.remaining g.O.Write.contents c.args.input.now c.explore.new.input c.args.output.now c.explore.new.output c.args.system.now.host.takes_color c.args.line.now _ c.explore.result
     c.in-Explore.is c.explore.ensures
 
 pub returns-in-Prove : goal.returns-in-Prove
 returns-in-Prove g c =
-    does_it g.I.Read.remaining g.O.Write.contents c.args.input.now c.prove_in_time.new.input c.args.output.now c.prove_in_time.new.output c.args.host.takes_color c.args.line.now _ c.prove_in_time.result
+    does_it g.I.Read.remaining g.O.Write.contents c.args.input.now c.prove_in_time.new.input c.args.output.now c.prove_in_time.new.output c.args.system.now.host.takes_color c.args.line.now _ c.prove_in_time.result
     c.in-Prove.is c.prove_in_time.ensures

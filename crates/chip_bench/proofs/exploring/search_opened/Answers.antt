@@ -8,5 +8,5 @@ returns g c =
       c.deref.result,
       asks,
       rw (sym c.in-Some-target_of.ensures)
-          (rw (sym c.rate.ensures.value, sym c.tape.ensures.value, sym c.quirks.ensures, sym c.in_ok-start.ensures) c.search.ensures.searched),
+          (rw (sym c.rate.ensures.value, sym c.tape.ensures.value, sym c.quirks.ensures, sym c.in_ok-start.ensures) c.carry_out.ensures.searched),
     ))

@@ -19,6 +19,6 @@ returns-in-Ok-None g c =
 pub returns-in-Ok-Some : goal.returns-in-Ok-Some
 returns-in-Ok-Some g c =
     let found = rw (c.new-trace.ensures.lines (machine_of c.args.bench.now.session), c.in-Ok-Some.field-0-is) at c.in-Ok-Some.ensures.found in
-    let text : IsDifferenceText c.args.shown.now.from c.in-Ok-Some.found c.deref.result.now = rw c.deref.ensures.value c.in_ok-text-in-Ok-Some.ensures in
+    let text : IsDifferenceText c.args.beside.now.shown.from c.in-Ok-Some.found c.deref.result.now = rw c.deref.ensures.value c.in_ok-text-in-Ok-Some.ensures in
     rw (sym c.refusal_of.ensures ∙ c.in_default.is)
     (inl (printed c.deref.result.now Faulty, (Some c.in-Ok-Some.found, found, (refl, text)), c.print.ensures))

@@ -9,8 +9,8 @@ pub returns-in-Ok-Done-clause-did : goal.returns-in-Ok-Done-clause-did
 returns-in-Ok-Done-clause-did g c =
     let shot = c.args.self.now in
     picture_written (λ v. Some v.items) g.O.Write.contents c.new-picture.result c.print.new.output c.args.output.now c.args.output.now c.args.name
-    shot.asked.source.items shot.asked.keys.bytes.items shot.arguments.run.steps c.args.form (settings_asked shot.arguments.run.settings) c.write_image.result
-    (rw c.in-Ok-Done.field-0-is at c.in-Ok-Done.ensures) c.write_image.ensures.ended refl
+    shot.asked.source.items shot.asked.keys.bytes.items shot.arguments.run.steps c.args.form (settings_asked shot.arguments.run.settings) c.write.result
+    (rw c.in-Ok-Done.field-0-is at c.in-Ok-Done.ensures) c.write.ensures.ended refl
 
 pub returns-in-Ok-clause-did : goal.returns-in-Ok-clause-did
 returns-in-Ok-clause-did g c =

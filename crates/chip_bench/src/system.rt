@@ -1,0 +1,88 @@
+//! What the program runs on: memory, files, and what it is told of them.
+ghost use Rattle.std.specs.Prelude.{◌≡◌, ◌<◌, ◌≤◌, length, IfOk, IfErr, OnOk};
+ghost use Rattle.chip_bench.specs.Doing.{IsFileWritten};
+ghost use Rattle.chip_bench.specs.Running.{IsUnread, IsUnreadWithin};
+
+use crate::ending::{Ending, Failure};
+use crate::file_access::FileAccess;
+use std::alloc::Global;
+use std::io;
+
+/// What the program is told of the system that it runs on.
+#[derive(Clone, Copy)]
+pub struct Host {
+    /// From which number on the names of a session's source are hashed. No answer depends on it.
+    pub name_seed: u64,
+    /// Whether the output takes colours, as a terminal does.
+    pub takes_color: bool,
+    /// Whether somebody reads what is said on standard error while it is said, as at a terminal.
+    pub has_reader: bool,
+    /// Whether somebody types the input, as at a terminal.
+    pub is_typed: bool,
+}
+
+impl Host {
+    // Whether somebody types the script, reads what is said of it, and wants that.
+    pub(crate) fn has_typist(self, is_quiet: bool) -> bool {
+        self.is_typed && self.has_reader && !is_quiet
+    }
+}
+
+/// The system that the program runs on.
+#[derive(Drop)]
+pub struct System<'s, F> {
+    pub alloc: Global,
+    pub files: &'s F,
+    pub host: Host,
+}
+
+impl<'s, F: FileAccess> System<'s, F> {
+    /// The bytes of a file, up to a number.
+    pub(crate) fn read<'a>(&self, name: &'a str, most: u32) -> Result<Vec<u8>, Failure<'a>>
+        ensures { IfErr result (IsUnread name.entry) }
+    {
+        match self.files.read(self.alloc, name, most) {
+            Ok(bytes) => Ok(bytes),
+            Err(error) if error.kind() == io::ErrorKind::OutOfMemory => Err(Failure::OutOfMemory),
+            Err(error) => Err(Failure::CannotRead(name, error)),
+        }
+    }
+
+    /// The bytes of a file, unless there are over so many.
+    pub(crate) fn read_within<'a>(&self, name: &'a str, most: u32) -> Result<Vec<u8>, Failure<'a>>
+        ensures ok { IfOk result (λ bytes. length bytes.items ≤ most) }
+        ensures err { IfErr result (IsUnreadWithin most name.entry) }
+    {
+        let bytes = self.read(name, most.saturating_add(1))?;
+        unless_longer(bytes, name, most)
+    }
+
+    /// Writes a file atomically. A file of the names that are taken stays.
+    pub(crate) fn write<'a>(
+        &self,
+        taken: &[Option<&str>],
+        name: &'a str,
+        bytes: &[u8],
+    ) -> Result<Ending, Failure<'a>>
+        ensures ended { IsFileWritten name.entry result }
+        ensures written { OnOk result (F.wrote self.now.files.now name.entry.now bytes.now) }
+    {
+        match self.files.write(self.alloc, taken, name, bytes) {
+            Ok(()) => Ok(Ending::Done),
+            Err(error) if error.kind() == io::ErrorKind::OutOfMemory => Err(Failure::OutOfMemory),
+            Err(error) => Err(Failure::CannotWrite(name, error)),
+        }
+    }
+}
+
+// The bytes that were read of a file, unless these are over so many.
+fn unless_longer<'a>(bytes: Vec<u8>, name: &'a str, most: u32) -> Result<Vec<u8>, Failure<'a>>
+    ensures ok { IfOk result (λ kept. (kept ≡ bytes) × (length bytes.items ≤ most)) }
+    ensures err { IfErr result (λ why. (why ≡ Failure.TooLong name.entry most)
+        × (most < length bytes.items)) }
+{
+    if bytes.len() > most as usize {
+        return Err(Failure::TooLong(name, most));
+    }
+    Ok(bytes)
+}
