@@ -22,6 +22,7 @@ use chip_session::Counted;
 use chip_warnings::{Warning, warnings};
 use std::alloc::{AllocError, Global};
 use std::io::{Read, Write};
+use std::time::Clock;
 
 /// How sources are checked, and how what is found in them is printed.
 #[derive(Clone, Copy)]
@@ -41,7 +42,7 @@ pub(crate) struct Checker {
 
 /// `check`: what is found in each of the sources, one after another. The warnings that are allowed
 /// are judged before the first is read, and a source that can't be read ends the check.
-pub(crate) fn check<'a, F: FileAccess, I: Read, O: Write, E: Write>(
+pub(crate) fn check<'a, F: FileAccess + Clock, I: Read, O: Write, E: Write>(
     system: &System<'_, F>,
     arguments: &CheckArguments<'a>,
     input: &mut Counted<I>,
@@ -61,10 +62,7 @@ pub(crate) fn check<'a, F: FileAccess, I: Read, O: Write, E: Write>(
         is_alone: names.len() == 1,
         is_covering: arguments.is_covering,
     };
-    let mut progress = Progress {
-        errors,
-        is_shown: system.host.has_reader,
-    };
+    let mut progress = Progress::new(errors, system.host.has_reader, system.files, None);
     checker.check_each(system, names, input, output, &mut progress)
 }
 

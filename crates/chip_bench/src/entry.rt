@@ -8,7 +8,7 @@ ghost use Rattle.chip_session.specs.Settings.{default_settings};
 ghost use Rattle.chip_bench.specs.Running.{AnswersScript, RunsSession, status_of, failure_status, AreFaulty, IsWithoutArguments};
 ghost use Rattle.chip_bench.specs.inner.Reads.{IsUsage};
 ghost use Rattle.chip_bench.specs.inner.Written.{IsImageWritten};
-ghost use Rattle.chip_bench.specs.Doing.{Assembles, Debugs, Disassembles, Does, Ends, Performs, PrintsText, Proves, Runs, ShowsHelp, ShowsVersion, Tells, Traces, TracesAlone, TracesBeside, first_shown, form_of};
+ghost use Rattle.chip_bench.specs.Doing.{Assembles, Debugs, Disassembles, Does, Ends, Performs, PrintsText, Runs, ShowsHelp, ShowsVersion, Tells, Traces, TracesAlone, TracesBeside, first_shown, form_of};
 ghost use Rattle.chip_arguments.specs.CommandArguments.{argument_faults};
 ghost use Rattle.std.specs.Io.KnownBytes.{Keeps};
 ghost use Rattle.std.specs.IoError.{error_kind};
@@ -23,7 +23,6 @@ use crate::output::{
     run_source,
 };
 use crate::picturing::picture;
-use crate::progress::{Progress, Timed};
 use crate::proving::prove;
 use crate::reading::{
     Asked, MOST_SOURCE, as_source, file_name, read_asked, read_source, settings_of,
@@ -33,8 +32,7 @@ use crate::terminal::{Begun, answer_begun};
 use crate::testing::test_files;
 use crate::tracing::{Beside, Shown, compare_source, trace_source};
 use chip_arguments::{
-    CommandLine, ProveArguments, RunArguments, SettingArguments, TraceArguments, not_text,
-    parse_arguments,
+    CommandLine, RunArguments, SettingArguments, TraceArguments, not_text, parse_arguments,
 };
 use chip_files::first_line;
 use chip_machine::limits::IMAGE_BYTES;
@@ -192,28 +190,9 @@ fn perform<'a, F: FileAccess + Clock, I: Read, O: Write, E: Write>(
         CommandLine::Picture(arguments) => picture(system, arguments, input, output, errors),
         CommandLine::Test(arguments) => test_files(system, arguments, output),
         CommandLine::Explore(arguments) => explore(system, arguments, input, output, errors),
-        CommandLine::Prove(arguments) => prove_in_time(system, arguments, input, output, errors),
+        CommandLine::Prove(arguments) => prove(system, arguments, input, output, errors),
         CommandLine::Explain { code } => explain(system.alloc, *code, output),
     }
-}
-
-// `prove`, with its progress, up to the time that the arguments give.
-fn prove_in_time<'a, F: FileAccess + Clock, I: Read, O: Write, E: Write>(
-    system: &System<'_, F>,
-    arguments: &ProveArguments<'a>,
-    input: &mut Counted<I>,
-    output: &mut Counted<O>,
-    errors: &mut E,
-) -> Result<Ending, Failure<'a>>
-    ensures { Proves I.remaining O.contents input.old input.new output.old output.new
-        arguments.entry.now result }
-{
-    let progress = Progress {
-        errors,
-        is_shown: system.host.has_reader || arguments.search.is_progress_shown,
-    };
-    let mut timed = Timed::new(progress, system.files, arguments.seconds);
-    prove(system, arguments, input, output, &mut timed)
 }
 
 // Prints help or the version, of which only the version's text is known to contracts.

@@ -12,7 +12,7 @@ ghost use Rattle.chip_bench.specs.Exploring.{AsksProperty, StatesOne, address_of
 use crate::ending::{Ending, Failure, Report};
 use crate::file_access::FileAccess;
 use crate::output::{print, print_faults, refuse_source};
-use crate::progress::{Progress, Teller};
+use crate::progress::{News, Progress, Teller};
 use crate::reading::{file_name, read_given, settings_of};
 use crate::sets::{Sets, sets_of};
 use crate::stop_place::place_text;
@@ -32,10 +32,11 @@ use chip_trace::push_decimal;
 use std::alloc::{AllocError, Global};
 use std::io::{Read, Write};
 use std::mem;
+use std::time::Clock;
 
 /// `explore`: what a search over all key scripts answers of a source's image, or the faults where
 /// there is no image. Settings and sets are judged before the source is read.
-pub(crate) fn explore<'a, F: FileAccess, I: Read, O: Write, E: Write>(
+pub(crate) fn explore<'a, F: FileAccess + Clock, I: Read, O: Write, E: Write>(
     system: &System<'_, F>,
     arguments: &ExploreArguments<'a>,
     input: &mut Counted<I>,
@@ -49,10 +50,8 @@ pub(crate) fn explore<'a, F: FileAccess, I: Read, O: Write, E: Write>(
     let sets = sets_of(arguments)?;
     let name = arguments.search.source;
     let source = read_given(system, name, arguments.is_image, input, errors)?;
-    let mut progress = Progress {
-        errors,
-        is_shown: system.host.has_reader || arguments.search.is_progress_shown,
-    };
+    let is_shown = system.host.has_reader || arguments.search.is_progress_shown;
+    let mut progress = Progress::new(errors, is_shown, system.files, None);
     let wanted = Wanted {
         arguments,
         settings: &settings,
@@ -339,7 +338,7 @@ fn write_script<'a, F: FileAccess, T: Teller>(
     let text = script_text(system.alloc, events)?;
     let taken = [file_name(arguments.search.source)];
     let ending = system.write(&taken, name, &text)?;
-    teller.tell_written(name);
+    teller.tell(News::Written(name));
     Ok(ending)
 }
 

@@ -4,71 +4,44 @@ use chip_explore::Watcher;
 use std::io::Write;
 use std::time::{Clock, Duration, Instant};
 
+/// What a command tells beside its answers.
+#[derive(Clone, Copy)]
+pub(crate) enum News<'n> {
+    /// A file of this name was written.
+    Written(&'n str),
+    /// The source of this name states no property.
+    NothingStated(&'n str),
+    /// The time is over.
+    OutOfTime,
+}
+
 /// A watcher that also tells what a command did.
 pub(crate) trait Teller: Watcher {
-    /// Tells that a file of this name was written.
-    fn tell_written(&mut self, name: &str);
-
-    /// Tells that the source of this name states no property.
-    fn tell_nothing_stated(&mut self, name: &str);
-
-    /// Tells that the time is over.
-    fn tell_out_of_time(&mut self);
+    fn tell(&mut self, news: News<'_>);
 }
 
-/// How far a search is, said on standard error. Where that fails there is nobody to tell.
+/// How far a search is, said on standard error, and when it ends. Where standard error fails there is
+/// nobody to tell.
 #[derive(Drop)]
-pub(crate) struct Progress<'e, E> {
-    pub(crate) errors: &'e mut E,
-    pub(crate) is_shown: bool,
-}
-
-impl<'e, E: Write> Watcher for Progress<'e, E> {
-    fn note(&mut self, step: u64, states: usize, bytes: u64) {
-        if self.is_shown {
-            let megabytes = bytes / 1_000_000;
-            let _ = writeln!(
-                self.errors,
-                "chipbench: step {step}, {states} states, about {megabytes} MB"
-            );
-        }
-    }
-}
-
-impl<'e, E: Write> Teller for Progress<'e, E> {
-    fn tell_written(&mut self, name: &str) {
-        let _ = writeln!(self.errors, "chipbench: wrote {name}");
-    }
-
-    fn tell_nothing_stated(&mut self, name: &str) {
-        let _ = writeln!(
-            self.errors,
-            "chipbench: {name} states no property: a line such as `;! always V0 <= 9` does"
-        );
-    }
-
-    fn tell_out_of_time(&mut self) {
-        let _ = writeln!(self.errors, "chipbench: out of time");
-    }
-}
-
-/// The same, with a time at which searches end, if there is one.
-#[derive(Drop)]
-pub(crate) struct Timed<'e, E, C> {
-    progress: Progress<'e, E>,
+pub(crate) struct Progress<'e, E, C> {
+    errors: &'e mut E,
+    is_shown: bool,
     clock: &'e C,
+    /// When searches end, if they have a time.
     end: Option<Instant>,
 }
 
-impl<'e, E: Write, C: Clock> Timed<'e, E, C> {
+impl<'e, E: Write, C: Clock> Progress<'e, E, C> {
     /// With the end after so many seconds. Where the clock can't be read there is none.
     pub(crate) fn new(
-        progress: Progress<'e, E>,
+        errors: &'e mut E,
+        is_shown: bool,
         clock: &'e C,
         seconds: Option<u32>,
-    ) -> Timed<'e, E, C> {
-        Timed {
-            progress,
+    ) -> Progress<'e, E, C> {
+        Progress {
+            errors,
+            is_shown,
             clock,
             end: end_after(clock, seconds),
         }
@@ -84,29 +57,37 @@ fn end_after<C: Clock>(clock: &C, seconds: Option<u32>) -> Option<Instant> {
     }
 }
 
-impl<'e, E: Write, C: Clock> Watcher for Timed<'e, E, C> {
+impl<'e, E: Write, C: Clock> Watcher for Progress<'e, E, C> {
     fn note(&mut self, step: u64, states: usize, bytes: u64) {
-        self.progress.note(step, states, bytes);
+        if self.is_shown {
+            let megabytes = bytes / 1_000_000;
+            let _ = writeln!(
+                self.errors,
+                "chipbench: step {step}, {states} states, about {megabytes} MB"
+            );
+        }
     }
 
     fn goes_on(&mut self) -> bool {
-        match (self.end, Instant::now(self.clock)) {
-            (Some(end), Ok(now)) => now < end,
-            _ => true,
+        let Some(end) = self.end else {
+            return true;
+        };
+        match Instant::now(self.clock) {
+            Ok(now) => now < end,
+            Err(_) => true,
         }
     }
 }
 
-impl<'e, E: Write, C: Clock> Teller for Timed<'e, E, C> {
-    fn tell_written(&mut self, name: &str) {
-        self.progress.tell_written(name);
-    }
-
-    fn tell_nothing_stated(&mut self, name: &str) {
-        self.progress.tell_nothing_stated(name);
-    }
-
-    fn tell_out_of_time(&mut self) {
-        self.progress.tell_out_of_time();
+impl<'e, E: Write, C: Clock> Teller for Progress<'e, E, C> {
+    fn tell(&mut self, news: News<'_>) {
+        let _ = match news {
+            News::Written(name) => writeln!(self.errors, "chipbench: wrote {name}"),
+            News::NothingStated(name) => writeln!(
+                self.errors,
+                "chipbench: {name} states no property: a line such as `;! always V0 <= 9` does"
+            ),
+            News::OutOfTime => writeln!(self.errors, "chipbench: out of time"),
+        };
     }
 }

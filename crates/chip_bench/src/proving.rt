@@ -20,7 +20,7 @@ use crate::ending::{Ending, Failure};
 use crate::exploring::{bounds_of, machine_of, script_text};
 use crate::file_access::FileAccess;
 use crate::output::print;
-use crate::progress::Teller;
+use crate::progress::{News, Progress, Teller};
 use crate::reading::{file_name, read_source, settings_of};
 use crate::sets::keys_of;
 use crate::system::System;
@@ -36,19 +36,22 @@ use chip_trace::push_decimal;
 use std::alloc::{AllocError, Global};
 use std::io;
 use std::io::{Read, Write};
+use std::time::Clock;
 
 /// `prove`: what a search answers of each property that a source states, or the faults where there is
 /// no image. Settings and keys are judged before the source is read.
-pub(crate) fn prove<'a, F: FileAccess, I: Read, O: Write, T: Teller>(
+pub(crate) fn prove<'a, F: FileAccess + Clock, I: Read, O: Write, E: Write>(
     system: &System<'_, F>,
     arguments: &ProveArguments<'a>,
     input: &mut Counted<I>,
     output: &mut Counted<O>,
-    teller: &mut T,
+    errors: &mut E,
 ) -> Result<Ending, Failure<'a>>
     ensures { Proves I.remaining O.contents input.old input.new output.old output.new
         arguments.entry.now result }
 {
+    let is_shown = system.host.has_reader || arguments.search.is_progress_shown;
+    let mut progress = Progress::new(errors, is_shown, system.files, arguments.seconds);
     let settings = settings_of(system.alloc, &arguments.search.settings)?;
     let keys = keys_of(arguments.search.allowed_keys)?;
     let bytes = read_source(system, arguments.search.source, input)?;
@@ -57,7 +60,7 @@ pub(crate) fn prove<'a, F: FileAccess, I: Read, O: Write, T: Teller>(
         settings: &settings,
         keys,
     };
-    prove_source(system, &asked, &bytes, output, teller)
+    prove_source(system, &asked, &bytes, output, &mut progress)
 }
 
 /// What is asked of a source.
@@ -269,7 +272,7 @@ impl<'p, 'a, F: FileAccess> Prover<'p, 'a, F> {
             return Err(Failure::NoProperty(line));
         }
         if is_empty && !is_faulty {
-            teller.tell_nothing_stated(arguments.search.source);
+            teller.tell(News::NothingStated(arguments.search.source));
         }
         let reports = self.reports(&faults)?;
         self.prove_left(left, &reports, is_faulty, output, teller)
@@ -293,7 +296,7 @@ impl<'p, 'a, F: FileAccess> Prover<'p, 'a, F> {
         print(reports, Ending::Done, output)?;
         let told = self.answer(left, Told::NOTHING, output, teller)?;
         if told.is_late {
-            teller.tell_out_of_time();
+            teller.tell(News::OutOfTime);
         }
         let text = self.end_text(&told)?;
         print(&text, told.ending(is_faulty), output)
@@ -517,7 +520,7 @@ impl<'p, 'a, F: FileAccess> Prover<'p, 'a, F> {
             .write(self.system.alloc, &taken, name, bytes)
         {
             Ok(()) => {
-                teller.tell_written(name);
+                teller.tell(News::Written(name));
                 Ok(())
             }
             Err(error) if error.kind() == io::ErrorKind::OutOfMemory => Err(Failure::OutOfMemory),

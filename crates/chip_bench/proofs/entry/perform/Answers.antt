@@ -64,5 +64,5 @@ returns-in-Explore g c =
 
 pub returns-in-Prove : goal.returns-in-Prove
 returns-in-Prove g c =
-    does_it g.I.Read.remaining g.O.Write.contents c.args.input.now c.prove_in_time.new.input c.args.output.now c.prove_in_time.new.output c.args.system.now.host.takes_color c.args.line.now _ c.prove_in_time.result
-    c.in-Prove.is c.prove_in_time.ensures
+    does_it g.I.Read.remaining g.O.Write.contents c.args.input.now c.prove.new.input c.args.output.now c.prove.new.output c.args.system.now.host.takes_color c.args.line.now _ c.prove.result
+    c.in-Prove.is c.prove.ensures
