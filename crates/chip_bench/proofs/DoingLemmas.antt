@@ -2,16 +2,15 @@
 use Rattle.std.proofs.Common.{◌≡◌, ◌⊎◌, inl, inr, ℕ, Bool, true, false, List, [], ◌++◌, append_assoc, Option, Some, None, Result, Ok, Err, IfOk, IfErr, length, ◌<◌, ◌≤◌, arith, refl, sym, ◌∙◌, ap, subst}
 use Rattle.std.specs.Prelude.{IsErrAnd}
 use Rattle.std.specs.Borrow.{Bor}
-use Rattle.std.specs.declared.io.Error.{Error as IoError}
 use Rattle.chip_asm.specs.Lines.{lines_of, open_fault}
+use Rattle.chip_asm.specs.Program.{image_of}
 use Rattle.chip_lang.specs.declared.limits.TheConstants.{IMAGE_BYTES}
 use Rattle.chip_views.specs.Dis.{source_of_image}
-use Rattle.chip_bench.specs.Doing.{AsSource, Assembles, AssemblesBy, Debugs, Declined, Disassembles, DisassemblesBytes, Does, Explains, FromGiven, FromKeys, FromSource, GivesSource, IfSettled, IsFileWritten, IsImageRefused, IsShort, IsSourceUnread, IsUnsettled, Outcome, Pictures, PicturesBy, PrintsPage, PrintsPicture, Runs, Tells, Traces, TracesBy, WithAsked, image_in}
-use Rattle.chip_bench.specs.inner.Reads.{IsAsked, IsGiven, IsImageHindered, IsImageOrFaults, IsKeysUnread, IsNotGiven, IsNotTaken, IsTaken, IsUnasked}
+use Rattle.chip_bench.specs.Doing.{AsSource, Assembles, AssemblesBy, Debugs, Declined, Does, Explains, FromGiven, FromKeys, FromSource, GivesSource, IfSettled, IsImageRefused, IsShort, IsSourceUnread, IsUnsettled, Outcome, Pictures, PicturesBy, PrintsPage, Runs, Tells, Traces, TracesBy, WithAsked}
+use Rattle.chip_bench.specs.inner.Reads.{IsAsked, IsGiven, IsKeysUnread, IsNotGiven, IsNotTaken, IsTaken, IsUnasked}
 use Rattle.chip_pages.specs.Pages.{IsExplained}
-use Rattle.chip_bench.specs.Printing.{Printed, Prints, PrintsUnder, printed_picture, printed, printed_of, printed_run}
+use Rattle.chip_bench.specs.Printing.{IfOpens, Printed, Prints, WithSession, printed, printed_run}
 use Rattle.chip_arguments.specs.declared.command_line.PictureArguments.{PictureArguments}
-use Rattle.chip_session.specs.declared.question.PictureForm.{PictureForm}
 use Rattle.chip_bench.specs.Running.{AnswersScript, IsUnread, IsUnreadWithin}
 use Rattle.chip_bench.specs.declared.limits.TheConstants.{KEY_FILE_BYTES}
 use Rattle.chip_session.specs.Settings.{SessionSettings}
@@ -120,6 +119,22 @@ module _ {R : Type 0} (remaining : R → Option (List ℕ)) (in_old in_new : Tal
       (λ keys. FromGiven remaining in_old in_new V arguments.is_image arguments.source (Next settings keys))
       (λ keys. given_next arguments.is_image arguments.source (Did settings keys) (Next settings keys) (f settings keys)))
 
+module _ {R : Type 0} (remaining : R → Option (List ℕ)) (in_old in_new : Tally R) (V : Type 0) (is_image : Bool) (name : Bor (List ℕ))
+    (Did : List ℕ → Outcome → Type 0) (ended : Outcome) where
+  -- a source was read, and then this was done
+  pub given_then : (source : List ℕ) → IsGiven remaining in_old in_new is_image name source → Did source ended →
+      FromGiven remaining in_old in_new V is_image name Did ended
+  given_then source given did =
+      given_next remaining in_old in_new (Unit {0}) V (Ok Done) ended (λ Why h. absurd h) is_image name (λ taken done. taken ≡ source) Did
+      (λ taken e. rw e did) given
+
+  -- it wasn't
+  pub given_else : (quiet : V) (why : Failure) → ended ≡ Err why → IsNotGiven remaining in_old in_new is_image name why →
+      FromGiven remaining in_old in_new V is_image name Did ended
+  given_else quiet why e unread =
+      given_next remaining in_old in_new (Unit {0}) V (Err why) ended (λ Why h. (fails Why ended why e h, quiet)) is_image name (λ taken done. ⊥) Did
+      (λ taken none. absurd none) unread
+
 module _ {R : Type 0} (remaining : R → Option (List ℕ)) (in_old in_new : Tally R) (V : Type 0) (arguments : RunArguments)
     (Did : SessionSettings → List ℕ → List ℕ → Outcome → Type 0) (ended : Outcome) where
   -- a run's arguments were read, and then this was done
@@ -197,43 +212,6 @@ module _ {R W : Type 0} (remaining : R → Option (List ℕ)) (contents : W → 
   does_it takes_color asked other ended e did =
       subst (λ (line : CommandLine). Does remaining contents in_old in_new out_old out_new takes_color line ended) (sym e) did
 
-  -- the image of a source is written
-  pub assembles_image : (source name : Bor (List ℕ)) (bytes text image : List ℕ) (ended : Outcome) → text ≡ bytes →
-      GivesSource remaining in_old in_new source.now bytes → IsImageOrFaults contents out_old out_new text (Some image) →
-      IsFileWritten name ended → Assembles remaining contents in_old in_new out_old out_new source name ended
-  assembles_image source name bytes text image ended same gives found written =
-      inl (
-        bytes,
-        gives,
-        subst (λ (b : List ℕ). AssemblesBy contents out_old out_new (image_in b) b name ended) same
-            (subst (λ (o : Option (List ℕ)). AssemblesBy contents out_old out_new o text name ended) (sym found.0) (written, found.1)),
-      )
-
-  -- its faults are printed
-  pub assembles_faults : (source name : Bor (List ℕ)) (bytes text : List ℕ) (ended : Outcome) → text ≡ bytes →
-      GivesSource remaining in_old in_new source.now bytes → image_in text ≡ None → AssemblesBy contents out_old out_new None text name ended →
-      Assembles remaining contents in_old in_new out_old out_new source name ended
-  assembles_faults source name bytes text ended same gives none printed =
-      inl (
-        bytes,
-        gives,
-        subst (λ (b : List ℕ). AssemblesBy contents out_old out_new (image_in b) b name ended) same
-            (subst (λ (o : Option (List ℕ)). AssemblesBy contents out_old out_new o text name ended) (sym none) printed),
-      )
-
-  -- or neither can be
-  pub assembles_not : (source name : Bor (List ℕ)) (bytes text : List ℕ) (ended : Outcome) (why : Failure) → ended ≡ Err why → text ≡ bytes →
-      GivesSource remaining in_old in_new source.now bytes → IsImageHindered contents out_old out_new text why →
-      Assembles remaining contents in_old in_new out_old out_new source name ended
-  assembles_not source name bytes text ended why e same gives (inl (short, quiet)) =
-      inl (bytes, gives, by_image (image_in bytes))
-    where
-      by_image : (image : Option (List ℕ)) → AssemblesBy contents out_old out_new image bytes name ended
-      by_image (Some image) = (inr (fails (λ w. (w ≡ failure.OutOfMemory) ⊎ ((b : _) × (w ≡ failure.CannotWrite name b))) ended why e (inl short)), quiet)
-      by_image None = rw (e, short) quiet
-  assembles_not source name bytes text ended why e same gives (inr (none, prints)) =
-      assembles_faults source name bytes text ended same gives none (rw e prints)
-
 module _ {R W : Type 0} (remaining : R → Option (List ℕ)) (contents : W → Option (List ℕ)) (input : Tally R) (output : Tally W) where
   -- there are no settings for a session
   pub debugs_unsettled : (source : Option (Bor (List ℕ))) (is_image : Bool) (arguments : SettingArguments) (ended : Outcome) (why : Failure) → ended ≡ Err why →
@@ -282,62 +260,28 @@ module _ {R W : Type 0} (remaining : R → Option (List ℕ)) (contents : W → 
       IsSourceUnread in_old in_new source why → Tells remaining contents in_old in_new output output printed_by source ended
   tells_not printed_by source ended why e w =
       source_unread remaining in_old in_new (output ≡ output) refl source
-      (λ bytes. Prints contents output output (printed_of (open_fault bytes) (printed_by (lines_of bytes)))) ended why e w
-
-  pub disassembles_not : (image : Bor (List ℕ)) (ended : Outcome) (why : Failure) → ended ≡ Err why → IsSourceUnread in_old in_new image why →
-      Disassembles remaining contents in_old in_new output output image ended
-  disassembles_not image ended why e w =
-      source_unread remaining in_old in_new (output ≡ output) refl image (DisassemblesBytes contents output output image) ended why e w
+      (λ bytes. IfOpens contents output output (open_fault bytes) (Prints contents output output (printed_by (lines_of bytes)))) ended why e w
 
   pub assembles_unread : (source name : Bor (List ℕ)) (ended : Outcome) (why : Failure) → ended ≡ Err why → IsSourceUnread in_old in_new source why →
       Assembles remaining contents in_old in_new output output source name ended
   assembles_unread source name ended why e w =
       source_unread remaining in_old in_new (output ≡ output) refl source
-      (λ bytes. AssemblesBy contents output output (image_in bytes) bytes name) ended why e w
-
-  -- the image is too long
-  pub too_long : (image : Bor (List ℕ)) (bytes : List ℕ) (because : IoError) → IMAGE_BYTES < length bytes →
-      GivesSource remaining in_old in_new image.now bytes →
-      Disassembles remaining contents in_old in_new output output image (Err (failure.CannotRead image because))
-  too_long image bytes because long gives =
-      inl (bytes, gives, record { fits = λ short. absurd (omega arith); too_long = λ _. (inr (because, refl), refl) })
+      (λ bytes. IfOpens contents output output (open_fault bytes) (AssemblesBy contents output output (image_of (lines_of bytes)) (lines_of bytes) name)) ended why e w
 
   -- a run's arguments can't be read
   pub runs_not : (arguments : RunArguments) (ended : Outcome) (why : Failure) → ended ≡ Err why → IsUnasked remaining in_old in_new arguments why →
       Runs remaining contents in_old in_new output output arguments ended
   runs_not arguments ended why e is =
       asked_not remaining in_old in_new (output ≡ output) arguments
-      (λ settings keys source. PrintsUnder contents output output settings source keys (λ session. printed_run session arguments.steps)) ended refl why e is
+      (λ settings keys source. WithSession contents output output settings source keys (λ session. Prints contents output output (printed_run session arguments.steps))) ended refl why e is
 
 module _ {R W : Type 0} (remaining : R → Option (List ℕ)) (contents : W → Option (List ℕ)) (in_old in_new : Tally R) (old new : Tally W) where
-  pub tells : (printed_by : List (List ℕ) → Printed) (source : Bor (List ℕ)) (bytes text : List ℕ) (ended : Outcome) → text ≡ bytes →
-      GivesSource remaining in_old in_new source.now bytes →
-      Prints contents old new (printed_of (open_fault text) (printed_by (lines_of text))) ended →
-      Tells remaining contents in_old in_new old new printed_by source ended
-  tells printed_by source bytes text ended same gives did =
-      inl (bytes, gives, subst (λ (t : List ℕ). Prints contents old new (printed_of (open_fault t) (printed_by (lines_of t))) ended) same did)
-
-  pub disassembles : (image : Bor (List ℕ)) (bytes text : List ℕ) (ended : Outcome) → text ≡ bytes → length bytes ≤ IMAGE_BYTES →
-      GivesSource remaining in_old in_new image.now bytes → Prints contents old new (printed (source_of_image text) Done) ended →
-      Disassembles remaining contents in_old in_new old new image ended
-  disassembles image bytes text ended same short gives did =
-      inl (
-        bytes,
-        gives,
-        record {
-          fits = λ _. subst (λ (t : List ℕ). Prints contents old new (printed (source_of_image t) Done) ended) same did;
-          too_long = λ long. absurd (omega arith);
-        },
-      )
-
-  pub runs : (arguments : RunArguments) (asked : Asked) (settings : SessionSettings) (keys source : List ℕ) (ended : Outcome) →
-      IsAsked remaining in_old in_new arguments asked → settings ≡ asked.settings → keys ≡ asked.keys.bytes.items → source ≡ asked.source.items →
-      PrintsUnder contents old new settings source keys (λ session. printed_run session arguments.steps) ended →
+  pub runs : (arguments : RunArguments) (asked : Asked) (ended : Outcome) → IsAsked remaining in_old in_new arguments asked →
+      WithSession contents old new asked.settings asked.source.items asked.keys.bytes.items (λ session. Prints contents old new (printed_run session arguments.steps)) ended →
       Runs remaining contents in_old in_new old new arguments ended
-  runs arguments asked settings keys source ended is s k t did =
+  runs arguments asked ended is did =
       asked_then remaining in_old in_new (new ≡ old) arguments
-      (λ settings keys source. PrintsUnder contents old new settings source keys (λ session. printed_run session arguments.steps)) ended asked is
-      (rw (sym s, sym k, sym t) did)
+      (λ settings keys source. WithSession contents old new settings source keys (λ session. Prints contents old new (printed_run session arguments.steps))) ended asked is did
 
 module _ {R W : Type 0} (remaining : R → Option (List ℕ)) (contents : W → Option (List ℕ)) (in_old in_new : Tally R) (old new : Tally W) where
   pub traces : (arguments : TraceArguments) (asked : Asked) (ended : Outcome) → IsAsked remaining in_old in_new arguments.run asked →
@@ -382,39 +326,18 @@ module _ {R : Type 0} (remaining : R → Option (List ℕ)) (in_old in_new : Tal
       (keys_read remaining in_old in_new (Unit {0}) tt arguments.keys bytes
       (λ keys. FromGiven remaining in_old in_new (Unit {0}) arguments.is_image arguments.source (λ source ended. ⊥)) (Err why) keys fits w))
 
-module _ {W : Type 0} (contents : W → Option (List ℕ)) (old new : Tally W) where
-  -- there are no settings for a picture
-  pub picture_unsettled : (asked : Option SessionSettings) (source keys : List ℕ) (step : ℕ) (form : PictureForm) (ended : Outcome) (why : Failure) →
-      ended ≡ Err why → Unsettles asked why → new ≡ old → PrintsPicture contents old new asked source keys step form ended
-  picture_unsettled None source keys step form ended why e (inl m) same = (fails IsUnsettled ended why e (inr m), same)
-  picture_unsettled None source keys step form ended why e (inr b) same = (fails IsUnsettled ended why e (inl b.0), same)
-  picture_unsettled (Some settings) source keys step form ended why e (inl m) same = inr (fails IsShort ended why e m, same)
-  picture_unsettled (Some settings) source keys step form ended why e (inr b) same = absurd (some_is_none b.1)
-    where
-      some_is_none : Some settings ≡ None → ⊥
-      some_is_none h = cc
-
-  pub picture_printed : (asked : Option SessionSettings) (settings : SessionSettings) (source keys text events : List ℕ) (step : ℕ) (form : PictureForm)
-      (ended : Outcome) → asked ≡ Some settings → text ≡ source → events ≡ keys →
-      PrintsUnder contents old new settings text events (λ session. printed_picture session step form) ended →
-      PrintsPicture contents old new asked source keys step form ended
-  picture_printed asked settings source keys text events step form ended a s k did = rw (a, sym s, sym k) (inl did)
-
 module _ {R W : Type 0} (remaining : R → Option (List ℕ)) (contents : W → Option (List ℕ)) (in_old in_new : Tally R) (old new : Tally W)
     (arguments : PictureArguments) (ended : Outcome) where
+  abbrev Pictured : SessionSettings → List ℕ → List ℕ → Outcome → Type 0
+  Pictured settings keys source = WithSession contents old new settings source keys (PicturesBy contents old new arguments arguments.bitmap arguments.png)
+
   -- a picture's arguments were read, and then this was done
-  pub pictures : (asked : Asked) (bitmap png : Option (Bor (List ℕ))) → IsAsked remaining in_old in_new arguments.run asked → arguments.bitmap ≡ bitmap →
-      arguments.png ≡ png →
-      PicturesBy contents old new (settings_asked arguments.run.settings) asked.source.items asked.keys.bytes.items arguments bitmap png ended →
+  pub pictures : (asked : Asked) → IsAsked remaining in_old in_new arguments.run asked →
+      WithSession contents old new asked.settings asked.source.items asked.keys.bytes.items (PicturesBy contents old new arguments arguments.bitmap arguments.png) ended →
       Pictures remaining contents in_old in_new old new arguments ended
-  pictures asked bitmap png is b p did =
-      asked_then remaining in_old in_new (new ≡ old) arguments.run
-      (λ settings keys source. PicturesBy contents old new (Some settings) source keys arguments arguments.bitmap arguments.png) ended asked is
-      (rw (sym is.1, b, p) did)
+  pictures asked is did = asked_then remaining in_old in_new (new ≡ old) arguments.run Pictured ended asked is did
 
   -- they couldn't be
   pub pictures_not : (why : Failure) → new ≡ old → ended ≡ Err why → IsUnasked remaining in_old in_new arguments.run why →
       Pictures remaining contents in_old in_new old new arguments ended
-  pictures_not why same e is =
-      asked_not remaining in_old in_new (new ≡ old) arguments.run
-      (λ settings keys source. PicturesBy contents old new (Some settings) source keys arguments arguments.bitmap arguments.png) ended same why e is
+  pictures_not why same e is = asked_not remaining in_old in_new (new ≡ old) arguments.run Pictured ended same why e is

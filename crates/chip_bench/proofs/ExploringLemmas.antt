@@ -1,5 +1,5 @@
 -- What `explore` did, from what its steps did.
-use Rattle.std.proofs.Common.{◌≡◌, ◌⊎◌, inl, inr, ℕ, Bool, true, false, List, ◌++◌, Option, Some, None, Ok, Err, sym, subst}
+use Rattle.std.proofs.Common.{◌≡◌, ◌⊎◌, inl, inr, ℕ, Bool, true, false, List, ◌++◌, Option, Some, None, Err, refl, sym, subst}
 use Rattle.std.specs.Prelude.{MatchOption, option_copied}
 use Rattle.std.specs.Borrow.{Bor}
 use Rattle.chip_arguments.specs.declared.command_line.ExploreArguments.{ExploreArguments}
@@ -16,17 +16,18 @@ use Rattle.chip_machine.specs.Start.{start_of}
 use Rattle.chip_machine.specs.State.{State}
 use Rattle.chip_session.specs.Settings.{SessionSettings}
 use Rattle.chip_session.specs.Tally.{Tally}
-use Rattle.chip_bench.specs.Doing.{Declined, Explores, Fails, FromGiven, IfSets, IfSettled, IsBadPlace, IsBadProperty, IsBadSet, Outcome, Searches, SearchesFor, SearchesFrom, WithSets, image_in}
+use Rattle.chip_bench.specs.Doing.{Declined, Explores, Fails, FromGiven, IfSets, IfSettled, IsBadPlace, IsBadProperty, IsBadSet, Outcome, Searches, SearchesFrom, WithSets}
 use Rattle.chip_bench.specs.Exploring.{AsksCauses, AsksKeys, AsksProperty, answer_lines, covering_text, search_ending, target_asked}
-use Rattle.chip_bench.specs.Printing.{Prints, printed, printed_faults}
+use Rattle.chip_bench.specs.Printing.{IfOpens, Prints, printed, printed_faults}
 use Rattle.chip_bench.specs.SettingArguments.{settings_asked}
 use Rattle.chip_bench.specs.declared.ending.Ending.{Ending}
-use Rattle.chip_bench.specs.declared.ending.Ending.TheVariants.{Done, Faulty}
+use Rattle.chip_bench.specs.declared.ending.Ending.TheVariants.{Faulty}
 use Rattle.chip_bench.specs.declared.ending.Failure.{Failure}
+use Rattle.chip_bench.specs.declared.ending.Failure.TheVariants as failure
 use Rattle.chip_bench.specs.inner.Reads.{IsGiven, IsNotGiven}
 use Rattle.chip_bench.specs.inner.Sets.{IsBadSets}
 use Rattle.chip_bench.specs.inner.Written.{IsNamedWritten, IsScriptWritten}
-use Rattle.chip_bench.proofs.DoingLemmas.{Unsettles, declines, fails, given_next, settles, unsettles}
+use Rattle.chip_bench.proofs.DoingLemmas.{Unsettles, declines, fails, given_else, given_then, settles, unsettles}
 
 some_is_none : {k : ℕ} → Some k ≡ None → ⊥
 some_is_none h = cc
@@ -53,48 +54,26 @@ module _ {W : Type 0} (contents : W → Option (List ℕ)) (out_old out_new : Ta
   search_printed arguments lines rate keys target start explored text place others ending ended answers executed speed is end prints =
       inl (explored, answers, executed, speed, inl (printed text ending, record { place = place; others = others; text = is; ending = end }, prints))
 
-  module _ (arguments : ExploreArguments) (settings : SessionSettings) (causes keys : ℕ) (source : List ℕ) (ended : Outcome) where
-    abbrev Searched : Option (List ℕ) → Type 0
-    Searched image = Searches contents out_old out_new arguments settings causes keys image source ended
-
-    -- what a search of the machine of an image did, for a target that a source of these lines has
-    abbrev ByTarget : List (List ℕ) → List ℕ → Option Target → Type 0
-    ByTarget lines image target =
-        MatchOption target (Fails contents out_old out_new IsBadPlace ended)
-        (λ found. SearchesFrom contents out_old out_new arguments lines settings.rate keys found (start_of image settings.tape settings.quirks) ended)
-
-    -- the same for the image, if such a source has one
-    abbrev ByImage : List (List ℕ) → Option (List ℕ) → Type 0
-    ByImage lines image =
-        MatchOption image (Prints contents out_old out_new (printed_faults lines) ended)
-        (λ found. ((properties : Bor (List Property)) × AsksProperty arguments lines properties.now
-        × ByTarget lines found (target_asked causes (option_copied arguments.place) properties (symbols_of lines)))
-        ⊎ Fails contents out_old out_new IsBadProperty ended)
-
-    -- the source opens
-    pub searches_opened : (lines : List (List ℕ)) → open_fault source ≡ None → lines ≡ lines_of source → ByImage lines (image_of lines) →
-        Searched (image_in source)
-    searches_opened lines opens same did =
-        let at_lines = subst (λ (l : List (List ℕ)). ByImage l (image_of l)) same did in
-        rw opens (by_image (image_of (lines_of source)) at_lines)
-      where
-        by_target : (image : List ℕ) (target : Option Target) → ByTarget (lines_of source) image target →
-            SearchesFor contents out_old out_new arguments settings keys target image source ended
-        by_target image None did = did
-        by_target image (Some target) did = did
-
-        by_image : (image : Option (List ℕ)) → ByImage (lines_of source) image → Searched image
-        by_image None did = rw opens did
-        by_image (Some image) (inl (properties, asks, did)) =
-            inl (properties, asks, by_target image (target_asked causes (option_copied arguments.place) properties (symbols_of (lines_of source))) did)
-        by_image (Some image) (inr bad) = inr bad
+  -- memory ran out for a search
+  pub searches_short : (arguments : ExploreArguments) (settings : SessionSettings) (causes keys : ℕ) (lines : List (List ℕ)) (ended : Outcome) →
+      ended ≡ Err failure.OutOfMemory → out_new ≡ out_old → Searches contents out_old out_new arguments settings causes keys lines ended
+  searches_short arguments settings causes keys lines ended e same = by_image (image_of lines)
+    where
+      by_image : (image : Option (List ℕ)) →
+          MatchOption image (Prints contents out_old out_new (printed_faults lines) ended)
+          (λ image. ((properties : Bor (List Property)) × AsksProperty arguments lines properties.now
+          × MatchOption (target_asked causes (option_copied arguments.place) properties (symbols_of lines)) (Fails contents out_old out_new IsBadPlace ended)
+          (λ target. SearchesFrom contents out_old out_new arguments lines settings.rate keys target (start_of image settings.tape settings.quirks) ended))
+          ⊎ Fails contents out_old out_new IsBadProperty ended)
+      by_image None = rw e same
+      by_image (Some image) = inr (fails IsBadProperty ended failure.OutOfMemory e (inl refl), same)
 
 module _ {R W : Type 0} (remaining : R → Option (List ℕ)) (contents : W → Option (List ℕ)) (in_old in_new : Tally R) (out_old out_new : Tally W)
     (arguments : ExploreArguments) (ended : Outcome) where
   abbrev Did : SessionSettings → ℕ → ℕ → Outcome → Type 0
   Did settings causes keys =
       FromGiven remaining in_old in_new (out_new ≡ out_old) arguments.is_image arguments.search.source (λ source.
-      Searches contents out_old out_new arguments settings causes keys (image_in source) source)
+      IfOpens contents out_old out_new (open_fault source) (Searches contents out_old out_new arguments settings causes keys (lines_of source)))
 
   abbrev WithIts : SessionSettings → Outcome → Type 0
   WithIts settings = WithSets remaining in_old in_new (out_new ≡ out_old) arguments (Did settings)
@@ -133,18 +112,16 @@ module _ {R W : Type 0} (remaining : R → Option (List ℕ)) (contents : W → 
         Explores remaining contents in_old in_new out_old out_new arguments ended
     explores_unread why e quiet unread =
         with_sets
-        (given_next remaining in_old in_new (Unit {0}) (out_new ≡ out_old) (Err why) ended (λ Why h. (fails Why ended why e h, quiet))
-        arguments.is_image arguments.search.source (λ source done. ⊥)
-        (λ source. Searches contents out_old out_new arguments settings causes keys (image_in source) source)
-        (λ source none. absurd none) unread)
+        (given_else remaining in_old in_new (out_new ≡ out_old) arguments.is_image arguments.search.source
+        (λ source. IfOpens contents out_old out_new (open_fault source) (Searches contents out_old out_new arguments settings causes keys (lines_of source)))
+        ended quiet why e unread)
 
     -- it was searched
     pub explores_done : (bytes : List ℕ) → IsGiven remaining in_old in_new arguments.is_image arguments.search.source bytes →
-        Searches contents out_old out_new arguments settings causes keys (image_in bytes) bytes ended →
+        IfOpens contents out_old out_new (open_fault bytes) (Searches contents out_old out_new arguments settings causes keys (lines_of bytes)) ended →
         Explores remaining contents in_old in_new out_old out_new arguments ended
     explores_done bytes given did =
         with_sets
-        (given_next remaining in_old in_new (Unit {0}) (out_new ≡ out_old) (Ok Done) ended (λ Why h. absurd h)
-        arguments.is_image arguments.search.source (λ taken done. taken ≡ bytes)
-        (λ source. Searches contents out_old out_new arguments settings causes keys (image_in source) source)
-        (λ source e. rw e did) given)
+        (given_then remaining in_old in_new (out_new ≡ out_old) arguments.is_image arguments.search.source
+        (λ source. IfOpens contents out_old out_new (open_fault source) (Searches contents out_old out_new arguments settings causes keys (lines_of source)))
+        ended bytes given did)

@@ -6,7 +6,6 @@ pub mod CheckLemmas
 pub mod DoingLemmas
 pub mod SetLemmas
 pub mod ExploringLemmas
-pub mod PictureLemmas
 pub mod ProvingLemmas
 pub mod ProveLemmas
 pub mod SearchedLemmas

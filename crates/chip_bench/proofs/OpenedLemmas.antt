@@ -1,45 +1,164 @@
 -- What is printed of a source that opens.
-use Rattle.std.proofs.Common.{◌≡◌, ◌⊎◌, inl, inr, ℕ, List, Option, None, Some, Result, Ok, Err, IfOk, IfErr, subst, sym}
-use Rattle.std.specs.Prelude.{MatchOption, MatchResult, option_map}
-use Rattle.std.specs.Global.{Vec}
+use Rattle.std.proofs.Common.{◌≡◌, ◌∙◌, ◌⊎◌, inl, inr, ap, ℕ, Bool, false, true, List, Option, None, Some, Result, Ok, Err, IfOk, refl, subst, sym}
+use Rattle.std.specs.Prelude.{IsErr, IsOkAnd}
 use Rattle.chip_asm.specs.Lines.{lines_of, open_fault}
 use Rattle.chip_asm.specs.Program.{image_of}
 use Rattle.chip_asm.specs.declared.refusal.OpenError.{OpenError}
+use Rattle.chip_asm.specs.declared.refusal.OpenError.TheVariants as unopened
+use Rattle.std.specs.Borrow.{Bor}
+use Rattle.chip_session.specs.KeyFile.{IsKeyFault}
+use Rattle.chip_session.specs.declared.key_file.KeyFileError.{KeyFileError}
+use Rattle.chip_session.specs.declared.key_file.KeyFileError.TheVariants.{Line, OutOfMemory}
 use Rattle.chip_session.specs.KeyFile.{key_fault, session_under}
+use Rattle.chip_session.specs.IsAnswer.{IsUnanswered}
 use Rattle.chip_session.specs.Session.{Session, session_of}
 use Rattle.chip_session.specs.Settings.{SessionSettings}
 use Rattle.chip_session.specs.Tally.{Tally}
-use Rattle.chip_bench.specs.Doing.{IsShort}
-use Rattle.chip_bench.specs.Printing.{Printed, Prints, PrintsUnder, PrintsUnless, printed_faults, printed_of}
-use Rattle.chip_bench.specs.inner.Reads.{IsImageHindered, IsImageOrFaults}
-use Rattle.chip_bench.specs.declared.ending.Ending.{Ending}
-use Rattle.chip_bench.specs.declared.ending.Ending.TheVariants.{Faulty}
+use Rattle.chip_session.specs.declared.refusal.Refusal.{Refusal}
+use Rattle.chip_session.specs.declared.refusal.Refusal.TheVariants.{AnswerMemory}
+use Rattle.chip_bench.specs.Doing.{AssemblesBy, FromSource, GivesSource, Outcome}
+use Rattle.chip_bench.specs.Printing.{IfOpens, Printed, Prints, Refuses, UnlessRefused, WithSession, answer_or_why, both_answers, keys_failure, printed, unanswered, unopened_text}
+use Rattle.chip_bench.specs.inner.Written.{IsFoundWritten, IsImageWritten}
+use Rattle.chip_bench.specs.inner.Reads.{IsRefused, IsSessionOf, IsUnmade, IsUnopened, printed_by}
+use Rattle.chip_bench.specs.declared.output.Answer.{Answer}
+use Rattle.chip_bench.specs.declared.ending.Ending.TheVariants.{Done, Faulty}
 use Rattle.chip_bench.specs.declared.ending.Failure.{Failure}
+use Rattle.chip_bench.specs.declared.ending.Failure.TheVariants as failure
 
 module _ {W : Type 0} (contents : W → Option (List ℕ)) (old new : Tally W) where
-  -- what is printed of a bench that was opened on a source
-  pub prints_under : (settings : SessionSettings) (source keys : List ℕ) (s : Session) (printed_by : Session → Printed)
-      (result : Result Ending Failure) → open_fault source ≡ None → s ≡ session_of settings source →
-      PrintsUnless contents old new (key_fault s keys) (printed_by (session_under s keys)) result →
-      PrintsUnder contents old new settings source keys printed_by result
-  prints_under settings source keys s printed_by result opens same printed =
-      rw opens (subst (λ (t : Session). PrintsUnless contents old new (key_fault t keys) (printed_by (session_under t keys)) result) same printed)
+  refused : (e : OpenError) (ended : Outcome) → Refuses contents old new e ended → Prints contents old new (printed (unopened_text e) Faulty) ended
+  refused (unopened.LineTooLong n) ended r = r
+  refused unopened.TooManyLines ended r = r
+  refused unopened.OutOfMemory ended r = rw r.0 r.1
 
-  -- the image of a source that opens, or its faults
-  pub image_opened : (source : List ℕ) (lines : List (List ℕ)) (result : Result (Option (Vec ℕ)) Failure) → open_fault source ≡ None →
-      lines ≡ lines_of source →
-      IfOk result (λ found. MatchOption found ((image_of lines ≡ None) × Prints contents old new (printed_faults lines) (Ok Faulty))
-      (λ image. (image_of lines ≡ Some image.items) × (new ≡ old))) →
-      IfErr result (λ why. (IsShort why × (new ≡ old)) ⊎ ((image_of lines ≡ None) × Prints contents old new (printed_faults lines) (Err why))) →
-      MatchResult result (λ found. IsImageOrFaults contents old new source (option_map (λ (v : Vec ℕ). v.items) found))
-      (IsImageHindered contents old new source)
-  image_opened source lines (Ok None) opens same faulty _ =
-      rw opens (subst (λ (l : List (List ℕ)). (image_of l ≡ None) × Prints contents old new (printed_faults l) (Ok Faulty)) same faulty)
-  image_opened source lines (Ok (Some image)) opens same found _ =
-      rw opens (subst (λ (l : List (List ℕ)). (image_of l ≡ Some image.items) × (new ≡ old)) same found)
-  image_opened source lines (Err why) opens same _ (inl short) = inl short
-  image_opened source lines (Err why) opens same _ (inr faulty) =
-      let at_lines = subst (λ (l : List (List ℕ)). (image_of l ≡ None) × Prints contents old new (printed_faults l) (Err why)) same faulty in
-      let prints = subst (λ (fault : Option OpenError). Prints contents old new (printed_of fault (printed_faults (lines_of source))) (Err why)) (sym opens)
-      at_lines.1 in
-      inr (rw opens at_lines.0, prints)
+  module _ (settings : SessionSettings) (source keys : List ℕ) (Did : Session → Outcome → Type 0) (ended : Outcome) where
+    -- a session was opened, and this was done with it
+    pub with_session : (s : Session) → IsSessionOf settings source keys s → Did s ended → WithSession contents old new settings source keys Did ended
+    with_session s is did = inl (rw (is.opens, is.made) (subst (λ (t : Session). Did t ended) is.is did))
+
+    -- the source doesn't open
+    pub without_session : (e : OpenError) → IsUnopened source e → Refuses contents old new e ended → WithSession contents old new settings source keys Did ended
+    without_session e (inl memory) r =
+        let r' : Refuses contents old new unopened.OutOfMemory ended = subst (λ (o : OpenError). Refuses contents old new o ended) memory r in
+        inr (r'.0, r'.1)
+    without_session e (inr found) r = inl (rw found (refused e ended r))
+
+    -- the key events can't be made
+    pub unmade_session : (why : Failure) → ended ≡ Err why → IsUnmade settings source keys why → new ≡ old → WithSession contents old new settings source keys Did ended
+    unmade_session why e (inl short) same = inr (e ∙ ap (λ w. Err w) short, same)
+    unmade_session why e (inr (opens, line)) same = inl (rw opens (by_line (key_fault (session_of settings source) keys) why e line))
+      where
+        by_line : (fault : Option (ℕ × List ℕ)) (why : Failure) → ended ≡ Err why → IsRefused fault why →
+            UnlessRefused contents old new fault (Did (session_under (session_of settings source) keys)) ended
+        by_line fault (failure.BadKeys name number code) e is = rw (is, e) (refl, same)
+        by_line fault _ e is = absurd is
+
+  -- a source that doesn't open isn't done with
+  pub not_done : (e : OpenError) (ended : Outcome) → Refuses contents old new e ended → ended ≡ Ok Done → ⊥
+  not_done (unopened.LineTooLong n) ended r done = let printed = rw done at r in other printed.0
+    where
+      other : Done ≡ Faulty → ⊥
+      other h = cc
+  not_done unopened.TooManyLines ended r done = let printed = rw done at r in other printed.0
+    where
+      other : Done ≡ Faulty → ⊥
+      other h = cc
+  not_done unopened.OutOfMemory ended r done = short (sym done ∙ r.0)
+    where
+      short : ◌≡◌ {A = Outcome} (Ok Done) (Err failure.OutOfMemory) → ⊥
+      short h = cc
+
+  -- memory ran out for an image
+  pub assembles_short : (image : Option (List ℕ)) (lines : List (List ℕ)) (name : Bor (List ℕ)) (ended : Outcome) → ended ≡ Err failure.OutOfMemory → new ≡ old →
+      AssemblesBy contents old new image lines name ended
+  assembles_short (Some image) lines name ended e same = (rw e (inr (inl refl)), same)
+  assembles_short None lines name ended e same = rw e same
+
+module _ {W : Type 0} (contents : W → Option (List ℕ)) (old new : Tally W) (source : List ℕ) (ended : Outcome)
+    (Did : List (List ℕ) → Outcome → Type 0) where
+  -- what was done with the lines of a source that opens
+  pub opened_lines : (lines : List (List ℕ)) → open_fault source ≡ None → lines ≡ lines_of source → Did lines ended →
+      IfOpens contents old new (open_fault source) (Did (lines_of source)) ended
+  opened_lines lines opens same did = rw opens (subst (λ (l : List (List ℕ)). Did l ended) same did)
+
+  -- it doesn't open, or memory ran out
+  pub unopened_lines : (e : OpenError) → IsUnopened source e → Refuses contents old new e ended →
+      (ended ≡ Err failure.OutOfMemory → new ≡ old → Did (lines_of source) ended) →
+      IfOpens contents old new (open_fault source) (Did (lines_of source)) ended
+  unopened_lines e (inl memory) r short =
+      let r' : Refuses contents old new unopened.OutOfMemory ended = subst (λ (o : OpenError). Refuses contents old new o ended) memory r in
+      by_fault (open_fault source) r'.0 r'.1
+    where
+      by_fault : (fault : Option OpenError) → ended ≡ Err failure.OutOfMemory → new ≡ old → IfOpens contents old new fault (Did (lines_of source)) ended
+      by_fault None e same = short e same
+      by_fault (Some f) e same = rw e same
+  unopened_lines e (inr found) r short = rw found (refused contents old new e ended r)
+
+-- what was done with a source that was read
+module _ {R W : Type 0} (remaining : R → Option (List ℕ)) (contents : W → Option (List ℕ)) (in_old in_new : Tally R) (old new : Tally W)
+    (name : Bor (List ℕ)) (bytes : List ℕ) (ended : Outcome) (Did : List (List ℕ) → Outcome → Type 0) where
+  abbrev OfLines : Type 0
+  OfLines = FromSource remaining in_old in_new (new ≡ old) name (λ bytes. IfOpens contents old new (open_fault bytes) (Did (lines_of bytes))) ended
+
+  pub of_opened : (lines : List (List ℕ)) → GivesSource remaining in_old in_new name.now bytes → open_fault bytes ≡ None → lines ≡ lines_of bytes →
+      Did lines ended → OfLines
+  of_opened lines gives opens same did = inl (bytes, gives, opened_lines contents old new bytes ended Did lines opens same did)
+
+  pub of_unopened : (e : OpenError) → GivesSource remaining in_old in_new name.now bytes → IsUnopened bytes e → Refuses contents old new e ended →
+      (ended ≡ Err failure.OutOfMemory → new ≡ old → Did (lines_of bytes) ended) → OfLines
+  of_unopened e gives is r short = inl (bytes, gives, unopened_lines contents old new bytes ended Did e is r short)
+
+-- the image of a source that opens was written
+pub image_written : (wrote : List ℕ → Type 0) (source : List ℕ) (lines : List (List ℕ)) → open_fault source ≡ None → lines ≡ lines_of source →
+    IsFoundWritten wrote (image_of lines) → IsImageWritten wrote
+image_written wrote source lines opens same written =
+    by_image (image_of (lines_of source)) refl (subst (λ (l : List (List ℕ)). IsFoundWritten wrote (image_of l)) same written)
+  where
+    by_image : (image : Option (List ℕ)) → image_of (lines_of source) ≡ image → IsFoundWritten wrote image → IsImageWritten wrote
+    by_image None e written = absurd written
+    by_image (Some image) e written = (source, (image, rw opens e, written))
+
+-- a session on a source, under the key events of a file
+pub session_is : (settings : SessionSettings) (source keys file : List ℕ) (opened under : Session) → open_fault source ≡ None →
+    opened ≡ session_of settings source → file ≡ keys → key_fault opened file ≡ None → under ≡ session_under opened file →
+    IsSessionOf settings source keys under
+session_is settings source keys file opened under opens is same made later = record {
+  opens = opens;
+  made = rw (is, same) at made;
+  is = rw (is, same) at later;
+}
+
+-- or why they can't be made
+pub unmade_is : (settings : SessionSettings) (source keys file : List ℕ) (opened : Session) (name : Bor (List ℕ)) (error : KeyFileError) →
+    open_fault source ≡ None → opened ≡ session_of settings source → file ≡ keys → IsKeyFault (key_fault opened file) error →
+    IsUnmade settings source keys (keys_failure name error)
+unmade_is settings source keys file opened name (Line number code) opens is same fault = inr (opens, rw (is, same) at fault)
+unmade_is settings source keys file opened name OutOfMemory opens is same fault = inl refl
+
+false_is_true : ◌≡◌ {A = Bool} false true → ⊥
+false_is_true h = cc
+
+-- why a question isn't answered, unless memory ran out
+pub told_why : {E : Type 0} (answer : Result (List ℕ) Refusal) (why : Refusal) (result : Result Answer E) (faults : Printed) → IsUnanswered answer why →
+    IfOk result (λ given. printed_by given ≡ unanswered why faults) → (why ≡ AnswerMemory → IsErr result) →
+    IfOk result (λ given. printed_by given ≡ answer_or_why answer faults)
+told_why answer why result faults (inl is) told short = rw is told
+told_why answer why (Ok given) faults (inr m) told short = absurd (false_is_true (short m.0))
+told_why answer why (Err e) faults (inr m) told short = tt
+
+-- the first of two questions isn't
+pub told_first : {E : Type 0} (first second : Result (List ℕ) Refusal) (why : Refusal) (result : Result Answer E) (faults : Printed) → IsUnanswered first why →
+    IfOk result (λ given. printed_by given ≡ unanswered why faults) → (why ≡ AnswerMemory → IsErr result) →
+    IfOk result (λ given. printed_by given ≡ answer_or_why (both_answers first second) faults)
+told_first first second why result faults (inl is) told short = rw is told
+told_first first second why (Ok given) faults (inr m) told short = absurd (false_is_true (short m.0))
+told_first first second why (Err e) faults (inr m) told short = tt
+
+-- the second isn't
+pub told_second : {E : Type 0} (first second : Result (List ℕ) Refusal) (P : List ℕ → Type 0) (why : Refusal) (result : Result Answer E) (faults : Printed) →
+    IsOkAnd first P → IsUnanswered second why → IfOk result (λ given. printed_by given ≡ unanswered why faults) → (why ≡ AnswerMemory → IsErr result) →
+    IfOk result (λ given. printed_by given ≡ answer_or_why (both_answers first second) faults)
+told_second (Ok registers) second P why result faults ok (inl is) told short = rw is told
+told_second (Ok registers) second P why (Ok given) faults ok (inr m) told short = absurd (false_is_true (short m.0))
+told_second (Ok registers) second P why (Err e) faults ok (inr m) told short = tt
+told_second (Err e) second P why result faults ok is told short = absurd ok

@@ -1,21 +1,14 @@
 -- What a command prints part by part, and what `trace` prints.
-use Rattle.std.proofs.Common.{◌≡◌, ◌⊎◌, inl, inr, ℕ, ◌<◌, Bool, true, false, List, [], ◌∷◌, ◌++◌, append_assoc, append-nil, Option, Some, None, Result, Ok, Err, refl, sym, ◌∙◌, ap, subst, take, drop, length, arith}
-use Rattle.chip_asm.specs.Lines.{open_fault}
+use Rattle.std.proofs.Common.{◌≡◌, ◌⊎◌, inl, inr, ℕ, ◌<◌, Bool, true, false, List, [], ◌∷◌, ◌++◌, append_assoc, append-nil, Option, Some, None, Result, Ok, Err, refl, sym, ◌∙◌, ap, take, drop, length, arith}
 use Rattle.chip_asm.specs.Program.{image_of}
-use Rattle.chip_asm.specs.declared.refusal.OpenError.{OpenError}
 use Rattle.chip_asm.specs.declared.refusal.OpenError.TheVariants as unopened
-use Rattle.std.specs.Borrow.{Bor}
-use Rattle.chip_session.specs.KeyFile.{IsKeyFault, key_fault, session_under}
-use Rattle.chip_session.specs.declared.key_file.KeyFileError.{KeyFileError}
-use Rattle.chip_session.specs.declared.key_file.KeyFileError.TheVariants.{Line, OutOfMemory}
-use Rattle.chip_bench.specs.Printing.{IsPrintedOf, Printed, Prints, PrintsSuch, PrintsSuchUnder, PrintsSuchUnless, Refuses, Streams, StreamsUnder, StreamsUnless, WritesFront, keys_failure, printed, unopened_text}
-use Rattle.chip_session.specs.Session.{Session, session_of}
-use Rattle.chip_session.specs.Settings.{SessionSettings}
+use Rattle.chip_bench.specs.Printing.{Printed, Prints, Streams, WritesFront, printed}
+use Rattle.chip_session.specs.Session.{Session}
 use Rattle.chip_session.specs.Tally.{Tally}
 use Rattle.chip_session.specs.Writing.{Breaks, Writes}
 use Rattle.chip_bench.specs.Tracing.{trace_refusal}
 use Rattle.chip_bench.specs.declared.ending.Ending.{Ending}
-use Rattle.chip_bench.specs.declared.ending.Ending.TheVariants.{Done, Faulty}
+use Rattle.chip_bench.specs.declared.ending.Ending.TheVariants.{Done}
 use Rattle.chip_bench.specs.declared.ending.Failure.{Failure}
 use Rattle.chip_bench.specs.declared.ending.Failure.TheVariants as failure
 use Rattle.chip_session.specs.declared.refusal.Refusal.TheVariants.{NoImage}
@@ -43,85 +36,6 @@ module _ {W : Type 0} (contents : W → Option (List ℕ)) (old new : Tally W) w
   -- memory ran out before anything was printed
   pub short : (wanted : Printed) (result : Result Ending Failure) → result ≡ Err failure.OutOfMemory → new ≡ old → Streams contents old new wanted result
   short wanted result e same = rw e (nothing_written wanted.text same)
-
-  refused_source : (e : OpenError) (result : Result Ending Failure) → Refuses contents old new e result → Streams contents old new (printed (unopened_text e) Faulty) result
-  refused_source (unopened.LineTooLong n) result r = streams_prints _ result r
-  refused_source unopened.TooManyLines result r = streams_prints _ result r
-  refused_source unopened.OutOfMemory result r = short _ result r.0 r.1
-
-  short_unless : (fault : Option (ℕ × List ℕ)) (wanted : Printed) (result : Result Ending Failure) → result ≡ Err failure.OutOfMemory → new ≡ old → StreamsUnless contents old new fault wanted result
-  short_unless None wanted result e same = short wanted result e same
-  short_unless (Some line) wanted result e same = rw e same
-
-  module _ (settings : SessionSettings) (source keys : List ℕ) (printed_by : Session → Printed) (result : Result Ending Failure) where
-    -- the source doesn't open, or memory ran out as it was opened
-    pub streams_unopened : (e : OpenError) → (e ≡ unopened.OutOfMemory) ⊎ (open_fault source ≡ Some e) → Refuses contents old new e result
-        → StreamsUnder contents old new settings source keys printed_by result
-    streams_unopened e (inl memory) r =
-        let r' : Refuses contents old new unopened.OutOfMemory result = subst (λ (o : OpenError). Refuses contents old new o result) memory r in
-        short_unless _ _ result r'.0 r'.1
-    streams_unopened e (inr found) r = rw found (refused_source e result r)
-
-    -- memory ran out before
-    pub streams_short : result ≡ Err failure.OutOfMemory → new ≡ old → StreamsUnder contents old new settings source keys printed_by result
-    streams_short e same = short_unless _ _ result e same
-
-    -- it opens
-    pub streams_under : (s : Session) → open_fault source ≡ None → s ≡ session_of settings source
-        → StreamsUnless contents old new (key_fault s keys) (printed_by (session_under s keys)) result
-        → StreamsUnder contents old new settings source keys printed_by result
-    streams_under s opens same streams =
-        rw opens (subst (λ (t : Session). StreamsUnless contents old new (key_fault t keys) (printed_by (session_under t keys)) result) same streams)
-
--- a refused line of a key file, or memory ran out
-module _ {W : Type 0} (contents : W → Option (List ℕ)) (old : Tally W) where
-  pub streams_key_fault : (fault : Option (ℕ × List ℕ)) (wanted : Printed) (name : Bor (List ℕ)) (error : KeyFileError) → IsKeyFault fault error
-      → StreamsUnless contents old old fault wanted (Err (keys_failure name error))
-  streams_key_fault fault wanted name (Line number code) e = rw e (refl, refl)
-  streams_key_fault fault wanted name OutOfMemory e = short_unless contents old old fault wanted _ refl refl
-
--- what was printed of a comparison
-module _ {W : Type 0} (contents : W → Option (List ℕ)) (old new : Tally W) where
-  such_short : (fault : Option (ℕ × List ℕ)) (P : Printed → Type 0) (result : Result Ending Failure) → result ≡ Err failure.OutOfMemory → new ≡ old → PrintsSuchUnless contents old new fault P result
-  such_short None P result e same = inr (e, same)
-  such_short (Some line) P result e same = rw e same
-
-  such_refused : (e : OpenError) (result : Result Ending Failure) → Refuses contents old new e result
-      → PrintsSuch contents old new (λ wanted. wanted ≡ printed (unopened_text e) Faulty) result
-  such_refused (unopened.LineTooLong n) result r = inl (_, refl, r)
-  such_refused unopened.TooManyLines result r = inl (_, refl, r)
-  such_refused unopened.OutOfMemory result r = inr (r.0, r.1)
-
-  -- a source that opens or doesn't
-  pub such_opened : (found : Option OpenError) (P : Printed → Type 0) (result : Result Ending Failure) → found ≡ None → PrintsSuch contents old new P result
-      → PrintsSuch contents old new (IsPrintedOf found P) result
-  such_opened found P result opens such = rw opens such
-
-  pub such_not_opened : (found : Option OpenError) (P : Printed → Type 0) (e : OpenError) (result : Result Ending Failure)
-      → (e ≡ unopened.OutOfMemory) ⊎ (found ≡ Some e) → Refuses contents old new e result → PrintsSuch contents old new (IsPrintedOf found P) result
-  such_not_opened found P e result (inl memory) r =
-      let r' : Refuses contents old new unopened.OutOfMemory result = subst (λ (o : OpenError). Refuses contents old new o result) memory r in
-      inr (r'.0, r'.1)
-  such_not_opened found P e result (inr is) r = rw is (such_refused e result r)
-
-  module _ (settings : SessionSettings) (source keys : List ℕ) (P : Session → Printed → Type 0) (result : Result Ending Failure) where
-    pub such_unopened : (e : OpenError) → (e ≡ unopened.OutOfMemory) ⊎ (open_fault source ≡ Some e) → Refuses contents old new e result
-        → PrintsSuchUnder contents old new settings source keys P result
-    such_unopened e (inl memory) r =
-        let r' : Refuses contents old new unopened.OutOfMemory result = subst (λ (o : OpenError). Refuses contents old new o result) memory r in
-        such_short _ _ result r'.0 r'.1
-    such_unopened e (inr found) r = rw found (such_refused e result r)
-
-    pub such_under : (s : Session) → open_fault source ≡ None → s ≡ session_of settings source
-        → PrintsSuchUnless contents old new (key_fault s keys) (P (session_under s keys)) result
-        → PrintsSuchUnder contents old new settings source keys P result
-    such_under s opens same such =
-        rw opens (subst (λ (t : Session). PrintsSuchUnless contents old new (key_fault t keys) (P (session_under t keys)) result) same such)
-
-  pub such_key_fault : (fault : Option (ℕ × List ℕ)) (P : Printed → Type 0) (name : Bor (List ℕ)) (error : KeyFileError) → IsKeyFault fault error → new ≡ old
-      → PrintsSuchUnless contents old new fault P (Err (keys_failure name error))
-  such_key_fault fault P name (Line number code) e same = rw e (refl, same)
-  such_key_fault fault P name OutOfMemory e same = such_short fault P _ refl same
 
 -- there is an image where there is a trace
 pub has_image : (session : Session) (shown : Shown) → trace_refusal session shown ≡ None → is_none (image_of session.lines) ≡ false

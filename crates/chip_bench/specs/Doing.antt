@@ -16,7 +16,7 @@
 --     Ends                           how the program ended after that
 -- No contract says what bytes a file gives or takes: of a file's bytes these definitions say that
 -- there are some.
-use Rattle.std.specs.Prelude.{◌≡◌, ◌≢◌, ◌⊎◌, ℕ, ◌<◌, ◌≤◌, ◌==◌, min, Bool, true, false, List, [], ◌∷◌, codes, length, take, Option, Some, None, option_copied, IfSome, Result, Ok, Err, IsErrAnd, IfOk, if◌then◌else◌}
+use Rattle.std.specs.Prelude.{◌≡◌, ◌≢◌, ◌⊎◌, ℕ, ◌<◌, ◌≤◌, ◌==◌, min, Bool, true, false, List, [], ◌∷◌, codes, length, take, Option, Some, None, MatchOption, option_copied, IfSome, Result, Ok, Err, IsErrAnd, IfOk, if◌then◌else◌}
 use Rattle.std.specs.Borrow.{Bor}
 use Rattle.std.specs.Io.KnownBytes.{Keeps}
 use Rattle.std.specs.declared.io.Error.{Error as IoError}
@@ -28,8 +28,7 @@ use Rattle.chip_views.specs.Dis.{source_of_image}
 use Rattle.chip_views.specs.declared.picture.Letters.{Letters}
 use Rattle.chip_views.specs.declared.picture.Letters.TheVariants.{Blocks, Plain}
 use Rattle.chip_arguments.specs.CommandArguments.{AsksFor}
-use Rattle.chip_session.specs.KeyFile.{key_fault, session_under}
-use Rattle.chip_session.specs.Session.{session_of}
+use Rattle.chip_session.specs.Session.{Session}
 use Rattle.std.specs.Str.{str_to_ascii_lowercase}
 use Rattle.std.specs.Str.Lines.{lines}
 use Rattle.chip_trace.specs.Columns.{header_line, usual_columns}
@@ -42,7 +41,7 @@ use Rattle.chip_bench.specs.Tracing.{IsCompared, header_of, lines_after, printed
 use Rattle.chip_bench.specs.declared.tracing.Shown.{Shown}
 use Rattle.chip_pages.specs.Pages.{IsContents, IsExplained}
 use Rattle.chip_arguments.specs.Version.{version_text}
-use Rattle.chip_bench.specs.Printing.{IsPrintedCheckOf, Printed, Streams, WritesFront, PrintsSuch, PrintsSuchUnder, PrintsUnder, Prints, RefusesKeys, StreamsUnder, fault_under, printed_faults, printed_listing, printed_picture, printed, printed_of, printed_run, printed_symbols}
+use Rattle.chip_bench.specs.Printing.{IsPrintedCheckOf, Printed, IfOpens, Streams, WithSession, WritesFront, PrintsSuch, Prints, printed_faults, printed_picture, printed, printed_run, printed_table}
 use Rattle.chip_bench.specs.Running.{AnswersIfAsked, AnswersScript, IsUnread, IsUnreadWithin, source_bytes_read, status_of}
 use Rattle.chip_bench.specs.declared.limits.TheConstants.{KEY_FILE_BYTES, TRACE_FILE_BYTES}
 use Rattle.chip_bench.specs.SettingArguments.{settings_asked}
@@ -77,7 +76,7 @@ use Rattle.chip_bench.specs.declared.ending.Ending.TheVariants.{Done}
 use Rattle.chip_bench.specs.declared.ending.Failure.{Failure}
 use Rattle.chip_bench.specs.declared.ending.Failure.TheVariants as failure
 use Rattle.chip_bench.specs.declared.ending.Report.{Report}
-use Rattle.chip_session.specs.declared.question.PictureForm.{PictureForm}
+use Rattle.chip_bench.specs.declared.output.Table.TheVariants.{Listing, Symbols}
 use Rattle.chip_session.specs.declared.question.PictureForm.TheVariants as form
 
 abbrev pub Outcome : Type 0
@@ -200,9 +199,7 @@ shown_beside arguments columns = record (shown_by arguments columns) { form = Fi
 -- no memory
 abbrev pub IsImageRefused : Bor (List ℕ) → List ℕ → Failure → Type 0
 IsImageRefused name image why =
-    IsShort why
-    ⊎ ((IMAGE_BYTES < length image)
-    × ((because : IoError) × (why ≡ failure.CannotRead name because)))
+    IsShort why ⊎ ((IMAGE_BYTES < length image) × (why ≡ failure.TooLong name IMAGE_BYTES))
 
 -- What a command did with the source that some bytes are: themselves, or of an image what `dis`
 -- prints of it. `Quiet` holds where an image is refused.
@@ -288,73 +285,48 @@ module _ {W : Type 0} (contents : W → Option (List ℕ)) (out_old out_new : Ta
 
   -- `asm`: where the source has an image, its file was written, or couldn't be; else the faults are
   -- printed
-  abbrev pub AssemblesBy : Option (List ℕ) → List ℕ → Bor (List ℕ) → Outcome → Type 0
-  AssemblesBy (Some image) source name ended = IsFileWritten name ended × (out_new ≡ out_old)
-  AssemblesBy None source name ended =
-      Prints contents out_old out_new
-      (printed_of (open_fault source) (printed_faults (lines_of source))) ended
+  abbrev pub AssemblesBy : Option (List ℕ) → (lines : List (List ℕ)) → Bor (List ℕ) → Outcome → Type 0
+  AssemblesBy (Some image) lines name ended = IsFileWritten name ended × (out_new ≡ out_old)
+  AssemblesBy None lines name ended = Prints contents out_old out_new (printed_faults lines) ended
 
-  -- `dis`: of an image that isn't too long, a source of it
-  pub record DisassemblesBytes (name : Bor (List ℕ)) (image : List ℕ)
-      (ended : Outcome) : Type 0 where
-    pub fits : length image ≤ IMAGE_BYTES
-        → Prints contents out_old out_new (printed (source_of_image image) Done) ended
-    pub too_long : IMAGE_BYTES < length image → Fails (IsUnread name) ended
-
-  -- `picture` without a file: the picture is printed
-  abbrev pub PrintsPicture : Option SessionSettings → List ℕ → List ℕ → ℕ → PictureForm → Outcome
-      → Type 0
-  PrintsPicture None source keys step form ended = Fails IsUnsettled ended
-  PrintsPicture (Some settings) source keys step form ended =
-      PrintsUnder contents out_old out_new settings source keys
-      (λ session. printed_picture session step form) ended ⊎ Fails IsShort ended
-
-  -- with one: where there is a picture, its file was written, or couldn't be; else what there is in
-  -- its place is printed
+  -- a picture's file was written, or couldn't be; else what there is in its place is printed
   abbrev pub WritesBy : Ending → Printed → Bor (List ℕ) → Outcome → Type 0
   WritesBy Done wanted name ended = IsFileWritten name ended × (out_new ≡ out_old)
   WritesBy ending wanted name ended = Prints contents out_old out_new wanted ended
 
-  abbrev pub WritesUnless : Option (ℕ × List ℕ) → Printed → Bor (List ℕ) → Outcome → Type 0
-  WritesUnless None wanted name ended = WritesBy wanted.ending wanted name ended
-  WritesUnless (Some line) wanted name ended = RefusesKeys contents out_old out_new line ended
+  abbrev pub WritesPicture : Printed → Bor (List ℕ) → Outcome → Type 0
+  WritesPicture wanted name ended = WritesBy wanted.ending wanted name ended ⊎ Fails IsShort ended
 
-  abbrev pub WritesPicture : Option SessionSettings → List ℕ → List ℕ → ℕ → PictureForm
-      → Bor (List ℕ) → Outcome → Type 0
-  WritesPicture None source keys step form name ended = Fails IsUnsettled ended
-  WritesPicture (Some settings) source keys step form name ended =
-      WritesUnless (fault_under (open_fault source) (key_fault (session_of settings source) keys))
-      (printed_of (open_fault source)
-      (printed_picture (session_under (session_of settings source) keys) step form)) name ended
-      ⊎ Fails IsShort ended
-
-  -- both: the second where the first was written
-  abbrev pub PicturesBy : Option SessionSettings → List ℕ → List ℕ → PictureArguments
-      → Option (Bor (List ℕ)) → Option (Bor (List ℕ)) → Outcome → Type 0
-  PicturesBy settings source keys arguments None None ended =
-      PrintsPicture settings source keys arguments.run.steps (form.Text (letters_of arguments.ascii)) ended
-  PicturesBy settings source keys arguments (Some bitmap) None ended =
-      WritesPicture settings source keys arguments.run.steps form.Bitmap bitmap ended
-  PicturesBy settings source keys arguments None (Some png) ended =
-      WritesPicture settings source keys arguments.run.steps form.Png png ended
-  PicturesBy settings source keys arguments (Some bitmap) (Some png) ended =
-      (WritesPicture settings source keys arguments.run.steps form.Bitmap bitmap ended
+  -- `picture`: without a file it is printed; of two files the second is written where the first was
+  abbrev pub PicturesBy : PictureArguments → Option (Bor (List ℕ)) → Option (Bor (List ℕ))
+      → Session → Outcome → Type 0
+  PicturesBy arguments None None session ended =
+      Prints contents out_old out_new
+      (printed_picture session arguments.run.steps (form.Text (letters_of arguments.ascii))) ended
+  PicturesBy arguments (Some bitmap) None session ended =
+      WritesPicture (printed_picture session arguments.run.steps form.Bitmap) bitmap ended
+  PicturesBy arguments None (Some png) session ended =
+      WritesPicture (printed_picture session arguments.run.steps form.Png) png ended
+  PicturesBy arguments (Some bitmap) (Some png) session ended =
+      (WritesPicture (printed_picture session arguments.run.steps form.Bitmap) bitmap ended
       × (ended ≢ Ok Done))
-      ⊎ WritesPicture settings source keys arguments.run.steps form.Png png ended
+      ⊎ WritesPicture (printed_picture session arguments.run.steps form.Png) png ended
 
   -- `trace` without another trace: the lines of the run
   abbrev pub TracesAlone : TraceArguments → SessionSettings → (keys source : List ℕ) → Outcome → Type 0
   TracesAlone arguments settings keys source ended =
-      StreamsUnder contents out_old out_new settings source keys
-      (λ session. printed_trace session (shown_by arguments (usual_columns arguments.sums))) ended
+      WithSession contents out_old out_new settings source keys
+      (λ session. Streams contents out_old out_new
+      (printed_trace session (shown_by arguments (usual_columns arguments.sums)))) ended
 
   -- beside the lines of another trace, whose header names the columns
   abbrev pub TracesBeside : TraceArguments → SessionSettings → (keys source : List ℕ)
       → (name : Bor (List ℕ)) → (theirs : List (List ℕ)) → Outcome → Type 0
   TracesBeside arguments settings keys source name theirs ended =
       ((columns : List Column) × (header_line columns ≡ str_to_ascii_lowercase (header_of theirs))
-      × PrintsSuchUnder contents out_old out_new settings source keys
-      (λ session. IsCompared session (shown_beside arguments columns) (lines_after theirs)) ended)
+      × WithSession contents out_old out_new settings source keys
+      (λ session. PrintsSuch contents out_old out_new
+      (IsCompared session (shown_beside arguments columns) (lines_after theirs))) ended)
       ⊎ ((fault : HeaderError) × (header_fault (header_of theirs) ≡ Some fault)
       × Fails (λ why. why ≡ failure.BadTrace name fault) ended)
       ⊎ Fails IsShort ended
@@ -379,32 +351,20 @@ module _ {W : Type 0} (contents : W → Option (List ℕ)) (out_old out_new : Ta
       × PrintsSuch contents out_old out_new (IsSearchPrinted arguments lines explored) ended)
       ⊎ Fails (IsScriptUnwritten arguments.search.keys_to) ended
 
-  -- if the source has the place that is looked for
-  abbrev pub SearchesFor : ExploreArguments → SessionSettings → (keys : ℕ) → Option Target
-      → (image source : List ℕ) → Outcome → Type 0
-  SearchesFor arguments settings keys (Some target) image source ended =
-      SearchesFrom arguments (lines_of source) settings.rate keys target
-      (start_of image settings.tape settings.quirks) ended
-  SearchesFor arguments settings keys None image source ended = Fails IsBadPlace ended
-
-  -- with the property that the arguments state, if one
-  abbrev pub SearchesWith : ExploreArguments → SessionSettings → (causes keys : ℕ)
-      → (image source : List ℕ) → Outcome → Type 0
-  SearchesWith arguments settings causes keys image source ended =
-      (properties : Bor (List Property))
-      × AsksProperty arguments (lines_of source) properties.now
-      × SearchesFor arguments settings keys
-      (target_asked causes (option_copied arguments.place) properties (symbols_of (lines_of source)))
-      image source ended
-
-  -- `explore`: where the source has an image, that of its machine; else the faults
-  abbrev pub Searches : ExploreArguments → SessionSettings → (causes keys : ℕ) → Option (List ℕ)
-      → (source : List ℕ) → Outcome → Type 0
-  Searches arguments settings causes keys (Some image) source ended =
-      SearchesWith arguments settings causes keys image source ended ⊎ Fails IsBadProperty ended
-  Searches arguments settings causes keys None source ended =
-      Prints contents out_old out_new
-      (printed_of (open_fault source) (printed_faults (lines_of source))) ended
+  -- `explore`: where the lines have an image, a search of its machine is printed, for the property that
+  -- the arguments state and the place, if the lines have it; else the faults
+  abbrev pub Searches : ExploreArguments → SessionSettings → (causes keys : ℕ)
+      → (lines : List (List ℕ)) → Outcome → Type 0
+  Searches arguments settings causes keys lines ended =
+      MatchOption (image_of lines) (Prints contents out_old out_new (printed_faults lines) ended)
+      (λ image. ((properties : Bor (List Property))
+      × AsksProperty arguments lines properties.now
+      × MatchOption
+      (target_asked causes (option_copied arguments.place) properties (symbols_of lines))
+      (Fails IsBadPlace ended)
+      (λ target. SearchesFrom arguments lines settings.rate keys target
+      (start_of image settings.tape settings.quirks) ended))
+      ⊎ Fails IsBadProperty ended)
 
   -- This was printed part by part: all of it, or a front where a write failed, memory ran out or that
   -- hindered the rest.
@@ -527,15 +487,16 @@ module _ {R W : Type 0} (remaining : R → Option (List ℕ)) (contents : W → 
 
   abbrev pub Assembles : Bor (List ℕ) → Bor (List ℕ) → Outcome → Type 0
   Assembles source name ended =
-      FromSource remaining in_old in_new (out_new ≡ out_old) source
-      (λ bytes. AssemblesBy contents out_old out_new (image_in bytes) bytes name) ended
+      FromSource remaining in_old in_new (out_new ≡ out_old) source (λ bytes.
+      IfOpens contents out_old out_new (open_fault bytes)
+      (AssemblesBy contents out_old out_new (image_of (lines_of bytes)) (lines_of bytes) name)) ended
 
   -- `list` and `syms`: what is printed of the lines of the source
   abbrev pub Tells : (printed_by : List (List ℕ) → Printed) → Bor (List ℕ) → Outcome → Type 0
   Tells printed_by source ended =
       FromSource remaining in_old in_new (out_new ≡ out_old) source (λ bytes.
-      Prints contents out_old out_new
-      (printed_of (open_fault bytes) (printed_by (lines_of bytes)))) ended
+      IfOpens contents out_old out_new (open_fault bytes)
+      (Prints contents out_old out_new (printed_by (lines_of bytes)))) ended
 
   -- `check`: no contract speaks of the warnings, but of which ones the argument names
   abbrev pub Checks : (takes_color : Bool) → CheckArguments → Outcome → Type 0
@@ -545,17 +506,18 @@ module _ {R W : Type 0} (remaining : R → Option (List ℕ)) (contents : W → 
       ChecksEach remaining contents arguments.is_json (paints arguments.color takes_color)
       (length arguments.sources.items == 1) arguments.sources.items in_old in_new out_old out_new) ended
 
+  -- `dis`: of an image that isn't too long, a source of it is printed
   abbrev pub Disassembles : Bor (List ℕ) → Outcome → Type 0
   Disassembles image ended =
-      FromSource remaining in_old in_new (out_new ≡ out_old) image
-      (DisassemblesBytes contents out_old out_new image) ended
+      FromGiven remaining in_old in_new (out_new ≡ out_old) true image
+      (λ source. Prints contents out_old out_new (printed source Done)) ended
 
   -- `run`
   abbrev pub Runs : RunArguments → Outcome → Type 0
   Runs arguments ended =
       WithAsked remaining in_old in_new (out_new ≡ out_old) arguments (λ settings keys source.
-      PrintsUnder contents out_old out_new settings source keys
-      (λ session. printed_run session arguments.steps)) ended
+      WithSession contents out_old out_new settings source keys
+      (λ session. Prints contents out_old out_new (printed_run session arguments.steps))) ended
 
   -- `trace`
   abbrev pub Traces : TraceArguments → Outcome → Type 0
@@ -567,8 +529,8 @@ module _ {R W : Type 0} (remaining : R → Option (List ℕ)) (contents : W → 
   abbrev pub Pictures : PictureArguments → Outcome → Type 0
   Pictures arguments ended =
       WithAsked remaining in_old in_new (out_new ≡ out_old) arguments.run (λ settings keys source.
-      PicturesBy contents out_old out_new
-      (Some settings) source keys arguments arguments.bitmap arguments.png) ended
+      WithSession contents out_old out_new settings source keys
+      (PicturesBy contents out_old out_new arguments arguments.bitmap arguments.png)) ended
 
   -- `explore`
   abbrev pub Explores : ExploreArguments → Outcome → Type 0
@@ -576,8 +538,8 @@ module _ {R W : Type 0} (remaining : R → Option (List ℕ)) (contents : W → 
       IfSettled remaining in_old in_new (out_new ≡ out_old) (settings_asked arguments.search.settings)
       (λ settings. WithSets remaining in_old in_new (out_new ≡ out_old) arguments (λ causes keys.
       FromGiven remaining in_old in_new (out_new ≡ out_old) arguments.is_image arguments.search.source
-      (λ source. Searches contents out_old out_new arguments settings causes keys (image_in source)
-      source))) ended
+      (λ source. IfOpens contents out_old out_new (open_fault source)
+      (Searches contents out_old out_new arguments settings causes keys (lines_of source))))) ended
 
   -- `prove`
   abbrev pub Proves : ProveArguments → Outcome → Type 0
@@ -593,8 +555,8 @@ module _ {R W : Type 0} (remaining : R → Option (List ℕ)) (contents : W → 
   abbrev pub Does : (takes_color : Bool) → CommandLine → Outcome → Type 0
   Does takes_color (line.Debug source is_image is_quiet arguments) ended = Debugs source is_image arguments ended
   Does takes_color (line.Asm source image) ended = Assembles source image ended
-  Does takes_color (line.List source is_hex) ended = Tells (printed_listing is_hex) source ended
-  Does takes_color (line.Syms source is_hex) ended = Tells (printed_symbols is_hex) source ended
+  Does takes_color (line.List source is_hex) ended = Tells (printed_table Listing is_hex) source ended
+  Does takes_color (line.Syms source is_hex) ended = Tells (printed_table Symbols is_hex) source ended
   Does takes_color (line.Check arguments) ended = Checks takes_color arguments ended
   Does takes_color (line.Dis image) ended = Disassembles image ended
   Does takes_color (line.Run arguments) ended = Runs arguments ended

@@ -24,6 +24,8 @@ use Rattle.chip_views.specs.Hexadecimal.{hex_listing, hex_symbols}
 use Rattle.chip_bench.specs.declared.ending.Ending.{Ending}
 use Rattle.chip_bench.specs.declared.ending.Ending.TheVariants.{Done, Faulty}
 use Rattle.chip_bench.specs.declared.ending.Failure.{Failure}
+use Rattle.chip_bench.specs.declared.output.Table.{Table}
+use Rattle.chip_bench.specs.declared.output.Table.TheVariants.{Listing, Symbols}
 use Rattle.chip_bench.specs.declared.ending.Failure.TheVariants as failure
 use Rattle.chip_session.specs.declared.key_file.KeyFileError.{KeyFileError}
 use Rattle.chip_session.specs.declared.key_file.KeyFileError.TheVariants.{Line, OutOfMemory}
@@ -46,16 +48,6 @@ unopened_text (unopened.LineTooLong number) = codes "no O1\n"
 unopened_text unopened.TooManyLines = codes "no O2\n"
 unopened_text unopened.OutOfMemory = []
 
--- what is printed of a source: why it doesn't open, where it doesn't
-abbrev pub printed_of : Option OpenError → Printed → Printed
-printed_of (Some fault) opened = printed (unopened_text fault) Faulty
-printed_of None opened = opened
-
--- the same, where what is printed of a source that opens passes a test
-abbrev pub IsPrintedOf : Option OpenError → (Printed → Type 0) → Printed → Type 0
-IsPrintedOf (Some fault) P wanted = wanted ≡ printed (unopened_text fault) Faulty
-IsPrintedOf None P wanted = P wanted
-
 abbrev pub printed_faults : List (List ℕ) → Printed
 printed_faults lines = printed (faults_text (faults_of lines)) Faulty
 
@@ -69,25 +61,19 @@ abbrev pub listing_shown : (is_hex : Bool) → List (List ℕ) → List ℕ
 listing_shown false lines = listing_text (listing_of lines)
 listing_shown true lines = listing_text (hex_listing lines)
 
--- `list`
-abbrev pub printed_listing : (is_hex : Bool) → List (List ℕ) → Printed
-printed_listing is_hex lines = printed (listing_shown is_hex lines) (ending_with (image_of lines))
-
 -- the answer of `syms`, likewise
 abbrev pub symbols_shown : (is_hex : Bool) → List (List ℕ × Symbol) → List ℕ
 symbols_shown false symbols = symbols_text symbols
 symbols_shown true symbols = hex_symbols symbols ++ full_stop
 
--- what is printed of a source with an image, or else its faults
-abbrev pub unless_faulty : Option (List ℕ) → (sound faults : Printed) → Printed
-unless_faulty (Some image) sound faults = sound
-unless_faulty None sound faults = faults
+-- `list` and `syms`: a source without an image has faults in the place of its names
+abbrev pub table_with : Option (List ℕ) → Table → (is_hex : Bool) → List (List ℕ) → Printed
+table_with image Listing is_hex lines = printed (listing_shown is_hex lines) (ending_with image)
+table_with (Some image) Symbols is_hex lines = printed (symbols_shown is_hex (symbols_of lines)) Done
+table_with None Symbols is_hex lines = printed_faults lines
 
--- `syms`
-abbrev pub printed_symbols : (is_hex : Bool) → List (List ℕ) → Printed
-printed_symbols is_hex lines =
-    unless_faulty (image_of lines) (printed (symbols_shown is_hex (symbols_of lines)) Done)
-    (printed_faults lines)
+abbrev pub printed_table : Table → (is_hex : Bool) → List (List ℕ) → Printed
+printed_table table is_hex lines = table_with (image_of lines) table is_hex lines
 
 -- what `check` prints: text, in colours or without, or JSON objects
 abbrev pub IsCheckText : (is_json is_painted : Bool) → (name : List ℕ) (lines : List (List ℕ))
@@ -142,11 +128,6 @@ abbrev pub printed_picture : Session → ℕ → PictureForm → Printed
 printed_picture session step form =
     answer_or_why (answer_to session (Picture step form)) (printed_faults session.lines)
 
--- the first refused line of a key file, where the source opens
-abbrev pub fault_under : Option OpenError → Option (ℕ × List ℕ) → Option (ℕ × List ℕ)
-fault_under (Some fault) refused = None
-fault_under None refused = refused
-
 -- the failure of a key file of that name
 abbrev pub keys_failure : Bor (List ℕ) → KeyFileError → Failure
 keys_failure name (Line number code) = failure.BadKeys name number (record { 0 = code })
@@ -183,50 +164,34 @@ module _ {W : Type 0} (contents : W → Option (List ℕ)) (old new : Tally W) w
   RefusesKeys line (Err failure.OutOfMemory) = new ≡ old
   RefusesKeys line _ = ⊥
 
-  abbrev pub PrintsUnless : Option (ℕ × List ℕ) → Printed → Result Ending Failure → Type 0
-  PrintsUnless None wanted result = Prints wanted result
-  PrintsUnless (Some line) wanted result = RefusesKeys line result
-
-  abbrev pub StreamsUnless : Option (ℕ × List ℕ) → Printed → Result Ending Failure → Type 0
-  StreamsUnless None wanted result = Streams wanted result
-  StreamsUnless (Some line) wanted result = RefusesKeys line result
-
-  -- What a command prints of the session of a source and those settings, under the key events of a
-  -- file: why the source doesn't open, the first refused line of the key file, or what is printed
-  -- of the session.
-  abbrev pub PrintsUnder : SessionSettings → List ℕ → List ℕ → (Session → Printed)
-      → Result Ending Failure → Type 0
-  PrintsUnder settings source keys printed_by result =
-      PrintsUnless (fault_under (open_fault source) (key_fault (session_of settings source) keys))
-      (printed_of (open_fault source)
-      (printed_by (session_under (session_of settings source) keys))) result
-
-  -- the same of a command that prints part by part
-  abbrev pub StreamsUnder : SessionSettings → List ℕ → List ℕ → (Session → Printed)
-      → Result Ending Failure → Type 0
-  StreamsUnder settings source keys printed_by result =
-      StreamsUnless (fault_under (open_fault source) (key_fault (session_of settings source) keys))
-      (printed_of (open_fault source)
-      (printed_by (session_under (session_of settings source) keys))) result
-
   -- What was printed passes a test, or memory ran out before.
   abbrev pub PrintsSuch : (Printed → Type 0) → Result Ending Failure → Type 0
   PrintsSuch P result =
       ((wanted : Printed) × P wanted × Prints wanted result)
       ⊎ ((result ≡ Err failure.OutOfMemory) × (new ≡ old))
 
-  abbrev pub PrintsSuchUnless : Option (ℕ × List ℕ) → (Printed → Type 0) → Result Ending Failure
-      → Type 0
-  PrintsSuchUnless None P result = PrintsSuch P result
-  PrintsSuchUnless (Some line) P result = RefusesKeys line result
-
-  -- The same of the session of a source and those settings, under the key events of a file.
-  abbrev pub PrintsSuchUnder : SessionSettings → List ℕ → List ℕ → (Session → Printed → Type 0)
+  -- a source that opens, or why it doesn't
+  abbrev pub IfOpens : Option OpenError → (Did : Result Ending Failure → Type 0)
       → Result Ending Failure → Type 0
-  PrintsSuchUnder settings source keys P result =
-      PrintsSuchUnless
-      (fault_under (open_fault source) (key_fault (session_of settings source) keys))
-      (IsPrintedOf (open_fault source) (P (session_under (session_of settings source) keys))) result
+  IfOpens None Did result = Did result
+  IfOpens (Some fault) Did result = Prints (printed (unopened_text fault) Faulty) result
+
+  -- key events that can all be made, or their first refused line
+  abbrev pub UnlessRefused : Option (ℕ × List ℕ) → (Did : Result Ending Failure → Type 0)
+      → Result Ending Failure → Type 0
+  UnlessRefused None Did result = Did result
+  UnlessRefused (Some line) Did result = RefusesKeys line result
+
+  -- What a command did with the session of a source and those settings, under the key events of a
+  -- file. It says why the source doesn't open, or names the first refused line of the key file, or
+  -- memory ran out before.
+  abbrev pub WithSession : SessionSettings → (source keys : List ℕ)
+      → (Session → Result Ending Failure → Type 0) → Result Ending Failure → Type 0
+  WithSession settings source keys Did result =
+      IfOpens (open_fault source)
+      (UnlessRefused (key_fault (session_of settings source) keys)
+      (Did (session_under (session_of settings source) keys))) result
+      ⊎ ((result ≡ Err failure.OutOfMemory) × (new ≡ old))
 
   -- a source that doesn't open is refused
   abbrev pub Refuses : OpenError → Result Ending Failure → Type 0

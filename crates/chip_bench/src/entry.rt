@@ -2,13 +2,15 @@
 ghost use Rattle.std.specs.Prelude.{◌≡◌, [], ◌∷◌, ◌⊎◌, map, Ok, OnOk};
 ghost use Rattle.std.specs.Str.Lines.{lines};
 ghost use Rattle.clap.specs.Words.{kind_of};
+ghost use Rattle.chip_asm.specs.Program.{image_of};
 ghost use Rattle.chip_arguments.specs.Version.{version_text};
-ghost use Rattle.chip_bench.specs.Printing.{Prints, printed, printed_listing, printed_symbols};
+ghost use Rattle.chip_bench.specs.Printing.{Prints, printed, printed_table};
 ghost use Rattle.chip_session.specs.Settings.{default_settings};
+ghost use Rattle.chip_bench.specs.Tracing.{header_of, lines_after};
 ghost use Rattle.chip_bench.specs.Running.{AnswersScript, RunsSession, status_of, failure_status, AreFaulty, IsWithoutArguments};
 ghost use Rattle.chip_bench.specs.inner.Reads.{IsUsage};
-ghost use Rattle.chip_bench.specs.inner.Written.{IsImageWritten};
-ghost use Rattle.chip_bench.specs.Doing.{Assembles, Debugs, Disassembles, Does, Ends, Performs, PrintsText, Runs, ShowsHelp, ShowsVersion, Tells, Traces, TracesAlone, TracesBeside, first_shown, form_of};
+ghost use Rattle.chip_bench.specs.inner.Written.{IsFoundWritten, IsImageWritten};
+ghost use Rattle.chip_bench.specs.Doing.{Assembles, AssemblesBy, Debugs, Disassembles, Does, Ends, Performs, PrintsText, Runs, ShowsHelp, ShowsVersion, Tells, Traces, TracesAlone, TracesBeside, first_shown, form_of};
 ghost use Rattle.chip_arguments.specs.CommandArguments.{argument_faults};
 ghost use Rattle.std.specs.Io.KnownBytes.{Keeps};
 ghost use Rattle.std.specs.IoError.{error_kind};
@@ -18,14 +20,14 @@ use crate::ending::{Ending, Failure};
 use crate::exploring::explore;
 use crate::file_access::FileAccess;
 use crate::limits::TRACE_FILE_BYTES;
+use crate::opening::open_under;
 use crate::output::{
-    explain, image_or_faults, list_source, print, print_source, print_symbols, print_version,
-    run_source,
+    Table, deliver, explain, faults, print, print_version, refuse_source, run_at, tabulate,
 };
 use crate::picturing::picture;
 use crate::proving::prove;
 use crate::reading::{
-    Asked, MOST_SOURCE, as_source, file_name, read_asked, read_source, settings_of,
+    Asked, MOST_SOURCE, as_source, file_name, read_asked, read_given, read_source, settings_of,
 };
 use crate::system::System;
 use crate::terminal::{Begun, answer_begun};
@@ -34,8 +36,8 @@ use crate::tracing::{Beside, Shown, compare_source, trace_source};
 use chip_arguments::{
     CommandLine, RunArguments, SettingArguments, TraceArguments, not_text, parse_arguments,
 };
+use chip_asm::Source;
 use chip_files::first_line;
-use chip_machine::limits::IMAGE_BYTES;
 use chip_session::Counted;
 use chip_trace::{Columns, Form, HeaderError};
 use clap::error::ErrorKind;
@@ -181,10 +183,14 @@ fn perform<'a, F: FileAccess + Clock, I: Read, O: Write, E: Write>(
             debug(system, given, settings, input, output, errors)
         }
         CommandLine::Asm { source, image } => asm(system, *source, *image, input, output),
-        CommandLine::List { source, is_hex } => list(system, *source, *is_hex, input, output),
-        CommandLine::Syms { source, is_hex } => syms(system, *source, *is_hex, input, output),
+        CommandLine::List { source, is_hex } => {
+            tell(system, Table::Listing, *source, *is_hex, input, output)
+        }
+        CommandLine::Syms { source, is_hex } => {
+            tell(system, Table::Symbols, *source, *is_hex, input, output)
+        }
         CommandLine::Check(arguments) => check(system, arguments, input, output, errors),
-        CommandLine::Dis { image } => dis(system, *image, input, output),
+        CommandLine::Dis { image } => dis(system, *image, input, output, errors),
         CommandLine::Run(arguments) => run(system, arguments, input, output, errors),
         CommandLine::Trace(arguments) => trace(system, arguments, input, output, errors),
         CommandLine::Picture(arguments) => picture(system, arguments, input, output, errors),
@@ -266,58 +272,77 @@ fn asm<'a, F: FileAccess, I: Read, O: Write>(
 ) -> Result<Ending, Failure<'a>>
     ensures did { Assembles I.remaining O.contents input.old input.new output.old output.new
         source.entry image.entry result }
-    ensures written { result ≡ Ok Ending.Done → IsImageWritten (F.wrote system.now.files.now image.entry.now) }
+    ensures written { result ≡ Ok Ending.Done
+        → IsImageWritten (F.wrote system.now.files.now image.entry.now) }
 {
     let bytes = read_source(system, source, input)?;
-    let Some(assembled) = image_or_faults(system.alloc, bytes, output)? else {
-        return Ok(Ending::Faulty);
-    };
-    system.write(&[file_name(source)], image, &assembled)
+    match Source::open_bytes(system.alloc, bytes) {
+        Ok(opened) => {
+            let ended = assemble(system, &opened, &[file_name(source)], image, output);
+            // The program ends here, and its memory goes back at once.
+            mem::forget(opened);
+            ended
+        }
+        Err(error) => refuse_source(error, output),
+    }
 }
 
-fn list<'a, F: FileAccess, I: Read, O: Write>(
+// Writes the image of a source to a file, or prints the faults where there is none.
+fn assemble<'a, F: FileAccess, O: Write>(
     system: &System<'_, F>,
+    source: &Source,
+    taken: &[Option<&str>],
+    name: &'a str,
+    output: &mut Counted<O>,
+) -> Result<Ending, Failure<'a>>
+    ensures did { AssemblesBy O.contents output.old output.new (image_of source.now.lines)
+        source.now.lines name.entry result }
+    ensures written { result ≡ Ok Ending.Done
+        → IsFoundWritten (F.wrote system.now.files.now name.entry.now) (image_of source.now.lines) }
+{
+    match source.image() {
+        Some(image) => system.write(taken, name, image),
+        None => deliver(faults(system.alloc, source), output),
+    }
+}
+
+// `list` and `syms`.
+fn tell<'a, F: FileAccess, I: Read, O: Write>(
+    system: &System<'_, F>,
+    table: Table,
     source: &'a str,
     is_hex: bool,
     input: &mut Counted<I>,
     output: &mut Counted<O>,
 ) -> Result<Ending, Failure<'a>>
     ensures { Tells I.remaining O.contents input.old input.new output.old output.new
-        (printed_listing is_hex) source.entry result }
+        (printed_table table is_hex) source.entry result }
 {
     let bytes = read_source(system, source, input)?;
-    list_source(system.alloc, bytes, is_hex, output)
+    match Source::open_bytes(system.alloc, bytes) {
+        Ok(opened) => {
+            let answer = tabulate(system.alloc, table, &opened, is_hex);
+            // The program ends here, and its memory goes back at once.
+            mem::forget(opened);
+            deliver(answer, output)
+        }
+        Err(error) => refuse_source(error, output),
+    }
 }
 
-fn syms<'a, F: FileAccess, I: Read, O: Write>(
-    system: &System<'_, F>,
-    source: &'a str,
-    is_hex: bool,
-    input: &mut Counted<I>,
-    output: &mut Counted<O>,
-) -> Result<Ending, Failure<'a>>
-    ensures { Tells I.remaining O.contents input.old input.new output.old output.new
-        (printed_symbols is_hex) source.entry result }
-{
-    let bytes = read_source(system, source, input)?;
-    print_symbols(system.alloc, bytes, is_hex, output)
-}
-
-fn dis<'a, F: FileAccess, I: Read, O: Write>(
+// `dis`: a source of an image, whose image it is.
+fn dis<'a, F: FileAccess, I: Read, O: Write, E: Write>(
     system: &System<'_, F>,
     image: &'a str,
     input: &mut Counted<I>,
     output: &mut Counted<O>,
+    errors: &mut E,
 ) -> Result<Ending, Failure<'a>>
     ensures { Disassembles I.remaining O.contents input.old input.new output.old output.new
         image.entry result }
 {
-    let bytes = read_source(system, image, input)?;
-    if bytes.len() > IMAGE_BYTES {
-        let error = io::Error::new(io::ErrorKind::InvalidData, "it has over 3584 bytes");
-        return Err(Failure::CannotRead(image, error));
-    }
-    print_source(system.alloc, &bytes, output)
+    let source = read_given(system, image, true, input, errors)?;
+    print(&source, Ending::Done, output)
 }
 
 fn run<'a, F: FileAccess, I: Read, O: Write, E: Write>(
@@ -335,14 +360,16 @@ fn run<'a, F: FileAccess, I: Read, O: Write, E: Write>(
         keys,
         settings,
     } = read_asked(system, arguments, input, errors)?;
-    run_source(
-        system.alloc,
-        &source,
-        &keys,
-        arguments.steps,
-        settings,
-        output,
-    )
+    let opened = open_under(system.alloc, &source, &keys, settings)?;
+    match opened {
+        Ok(mut bench) => {
+            let answer = run_at(system.alloc, &mut bench, arguments.steps);
+            // The program ends here, and its memory goes back at once.
+            mem::forget(bench);
+            deliver(answer, output)
+        }
+        Err(error) => refuse_source(error, output),
+    }
 }
 
 fn trace<'a, F: FileAccess, I: Read, O: Write, E: Write>(
@@ -380,12 +407,7 @@ fn trace_alone<'a, O: Write>(
         from: first_shown(arguments),
         to: arguments.run.steps,
     };
-    let Asked {
-        source,
-        keys,
-        settings,
-    } = asked;
-    trace_source(alloc, &source, &keys, &shown, settings, output)
+    trace_source(alloc, asked, &shown, output)
 }
 
 // The first step that a trace shows: its last one, where the arguments name a later one.
@@ -402,6 +424,17 @@ fn form_of(is_json: bool) -> Form
     if is_json { Form::Json } else { Form::Fields }
 }
 
+// The header of a trace, and what follows it.
+fn split_header(trace: &[u8]) -> (&[u8], &[u8])
+    ensures header { result.0.now ≡ header_of (lines trace.now) }
+    ensures rest { lines result.1.now ≡ lines_after (lines trace.now) }
+{
+    if trace.is_empty() {
+        return (trace, trace);
+    }
+    first_line(trace)
+}
+
 // The first line of a trace names its columns.
 fn trace_beside<'a, O: Write>(
     alloc: Global,
@@ -414,11 +447,7 @@ fn trace_beside<'a, O: Write>(
     ensures { TracesBeside O.contents output.old output.new arguments.entry.now asked.entry.settings
         asked.entry.keys.bytes.items asked.entry.source.items name.entry (lines trace.now) result }
 {
-    let (header, theirs) = if trace.is_empty() {
-        (trace, trace)
-    } else {
-        first_line(trace)
-    };
+    let (header, theirs) = split_header(trace);
     let columns = match Columns::read_header(alloc, header) {
         Ok(columns) => columns,
         Err(HeaderError::OutOfMemory) => return Err(Failure::OutOfMemory),
@@ -433,10 +462,5 @@ fn trace_beside<'a, O: Write>(
         },
         theirs,
     };
-    let Asked {
-        source,
-        keys,
-        settings,
-    } = asked;
-    compare_source(alloc, &source, &keys, &beside, settings, output)
+    compare_source(alloc, asked, &beside, output)
 }

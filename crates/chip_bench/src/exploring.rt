@@ -1,17 +1,17 @@
 //! `explore`: what a search over all key scripts answers of a source's image.
 ghost use Rattle.std.specs.Prelude.{◌≡◌, ◌⊎◌, ◌<◌, ◌∷◌, [], ◌++◌, ℕ, List, Ok, IfOk, IfErr, MatchOption, OnOk, option_copied};
 ghost use Rattle.std.specs.Borrow.{Bor};
-ghost use Rattle.chip_asm.specs.Program.{image_of, symbols_of};
-ghost use Rattle.chip_explore.specs.declared.property.Property.{Property as SearchProperty};
+ghost use Rattle.chip_asm.specs.Lines.{lines_of, open_fault};
+ghost use Rattle.chip_asm.specs.Program.{symbols_of};
 ghost use Rattle.chip_machine.specs.Start.{start_of};
-ghost use Rattle.chip_bench.specs.Doing.{Explores, Fails, IsBadPlace, IsBadProperty, IsScriptUnwritten, Searches, SearchesFrom, image_in};
+ghost use Rattle.chip_bench.specs.Doing.{Explores, IsBadProperty, IsScriptUnwritten, Searches, SearchesFrom};
 ghost use Rattle.chip_bench.specs.inner.Written.{IsNamedWritten, IsScriptWritten};
-ghost use Rattle.chip_bench.specs.Printing.{Prints, printed_faults};
+ghost use Rattle.chip_bench.specs.Printing.{IfOpens};
 ghost use Rattle.chip_bench.specs.Exploring.{AsksProperty, StatesOne, address_of, answer_lines, cause_word, covering_text, first_lines, in_memory, met_line, met_word, number_line, search_ending, target_asked};
 
 use crate::ending::{Ending, Failure, Report};
 use crate::file_access::FileAccess;
-use crate::output::{print, print_faults, refuse_source};
+use crate::output::{deliver, faults, print, refuse_source};
 use crate::progress::{News, Progress, Teller};
 use crate::reading::{file_name, read_given, settings_of};
 use crate::sets::{Sets, sets_of};
@@ -75,9 +75,10 @@ fn search_source<'a, F: FileAccess, O: Write, T: Teller>(
     output: &mut Counted<O>,
     teller: &mut T,
 ) -> Result<Ending, Failure<'a>>
-    ensures { Searches O.contents output.old output.new wanted.now.arguments.now
+    ensures { IfOpens O.contents output.old output.new (open_fault source.items)
+        (Searches O.contents output.old output.new wanted.now.arguments.now
         wanted.now.settings.now wanted.now.sets.causes wanted.now.sets.keys
-        (image_in source.items) source.items result }
+        (lines_of source.items)) result }
 {
     match Source::open_bytes(system.alloc, source) {
         Ok(opened) => {
@@ -97,18 +98,8 @@ fn search_opened<'a, F: FileAccess, O: Write, T: Teller>(
     output: &mut Counted<O>,
     teller: &mut T,
 ) -> Result<Ending, Failure<'a>>
-    ensures { MatchOption (image_of source.now.lines)
-        (Prints O.contents output.old output.new (printed_faults source.now.lines) result)
-        (λ image. ((properties : Bor (List SearchProperty))
-        × AsksProperty wanted.now.arguments.now source.now.lines properties.now
-        × MatchOption (target_asked wanted.now.sets.causes
-        (option_copied wanted.now.arguments.now.place) properties
-        (symbols_of source.now.lines)) (Fails O.contents output.old output.new IsBadPlace result)
-        (λ target. SearchesFrom O.contents output.old output.new wanted.now.arguments.now
-        source.now.lines wanted.now.settings.now.rate wanted.now.sets.keys target
-        (start_of image wanted.now.settings.now.tape wanted.now.settings.now.quirks)
-        result))
-        ⊎ Fails O.contents output.old output.new IsBadProperty result) }
+    ensures { Searches O.contents output.old output.new wanted.now.arguments.now
+        wanted.now.settings.now wanted.now.sets.causes wanted.now.sets.keys source.now.lines result }
 {
     let Wanted {
         arguments,
@@ -116,7 +107,7 @@ fn search_opened<'a, F: FileAccess, O: Write, T: Teller>(
         sets,
     } = *wanted;
     let Some(image) = source.image() else {
-        return print_faults(system.alloc, source, output);
+        return deliver(faults(system.alloc, source), output);
     };
     let properties = properties_asked(system.alloc, arguments, source)?;
     let Some(target) = target_of(arguments, sets.causes, source, &properties) else {

@@ -14,6 +14,7 @@ mod file_access;
 mod held_writer;
 pub mod laws;
 pub mod limits;
+mod opening;
 mod output;
 mod picturing;
 mod progress;

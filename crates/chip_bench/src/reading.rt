@@ -21,7 +21,6 @@ use chip_session::{Counted, KeyFileError, Settings, tape_of};
 use chip_views::source_of_image;
 use hex::FromHexError;
 use std::alloc::Global;
-use std::io;
 use std::io::{Read, Write};
 
 // The name of a source that is read from the standard input.
@@ -210,8 +209,7 @@ fn source_of<'a>(alloc: Global, name: &'a str, image: &[u8]) -> Result<Vec<u8>, 
     ensures err { IfErr result (IsImageRefused name.entry image.now) }
 {
     if image.len() > IMAGE_BYTES {
-        let error = io::Error::new(io::ErrorKind::InvalidData, "it has over 3584 bytes");
-        return Err(Failure::CannotRead(name, error));
+        return Err(Failure::TooLong(name, IMAGE_BYTES as u32));
     }
     Ok(source_of_image(alloc, image)?)
 }

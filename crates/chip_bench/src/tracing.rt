@@ -1,16 +1,16 @@
 //! `trace`: the lines of a run, by themselves or beside those of another trace.
 ghost use Rattle.std.specs.Prelude.{◌≡◌, None};
 ghost use Rattle.std.specs.Str.Lines.{lines};
-ghost use Rattle.chip_session.specs.KeyFile.{key_fault, session_under};
-ghost use Rattle.chip_bench.specs.Printing.{PrintsSuch, PrintsSuchUnder, PrintsSuchUnless, Streams, StreamsUnder, StreamsUnless, printed};
+ghost use Rattle.chip_bench.specs.Printing.{PrintsSuch, Streams, WithSession, printed};
 ghost use Rattle.chip_bench.specs.Tracing.{IsCompared, is_past_last, printed_trace, trace_of, trace_refusal};
 ghost use Rattle.chip_bench.specs.declared.ending.Ending.TheVariants.{Done};
 
 use crate::ending::{Ending, Failure};
-use crate::output::{print, print_why, refuse_source};
-use crate::reading::KeyFile;
+use crate::opening::open_under;
+use crate::output::{deliver, print, refuse_source, unanswered};
+use crate::reading::Asked;
 use chip_replay::LAST_STEP;
-use chip_session::{Bench, Counted, Refusal, Settings, insert_keys};
+use chip_session::{Bench, Counted, Refusal};
 use chip_trace::{Columns, Form, Trace, difference_text};
 use std::alloc::Global;
 use std::io::Write;
@@ -47,40 +47,29 @@ pub(crate) struct Beside<'t> {
 /// `trace`: the lines of the run of a source's image, or the faults where there is no image.
 pub(crate) fn trace_source<'a, O: Write>(
     alloc: Global,
-    source: &[u8],
-    keys: &KeyFile<'a>,
+    asked: Asked<'a>,
     shown: &Shown,
-    settings: Settings,
     output: &mut Counted<O>,
 ) -> Result<Ending, Failure<'a>>
-    ensures { StreamsUnder O.contents output.old output.new settings source.now
-        keys.now.bytes.items (λ session. printed_trace session shown.now) result }
+    ensures { WithSession O.contents output.old output.new asked.entry.settings
+        asked.entry.source.items asked.entry.keys.bytes.items
+        (λ session. Streams O.contents output.old output.new (printed_trace session shown.now))
+        result }
 {
-    match Bench::open(alloc, source, settings) {
+    let Asked {
+        source,
+        keys,
+        settings,
+    } = asked;
+    let opened = open_under(alloc, &source, &keys, settings)?;
+    match opened {
         Ok(mut bench) => {
-            let ended = trace_under(alloc, &mut bench, keys, shown, output);
+            let ended = print_trace(alloc, &mut bench, shown, output);
             // The program ends here, and its memory goes back at once.
             mem::forget(bench);
             ended
         }
         Err(error) => refuse_source(error, output),
-    }
-}
-
-fn trace_under<'a, O: Write>(
-    alloc: Global,
-    bench: &mut Bench,
-    keys: &KeyFile<'a>,
-    shown: &Shown,
-    output: &mut Counted<O>,
-) -> Result<Ending, Failure<'a>>
-    ensures { StreamsUnless O.contents output.old output.new
-        (key_fault bench.old.session keys.now.bytes.items)
-        (printed_trace (session_under bench.old.session keys.now.bytes.items) shown.now) result }
-{
-    match insert_keys(alloc, bench, &keys.bytes) {
-        Ok(()) => print_trace(alloc, bench, shown, output),
-        Err(error) => Err(keys.failure(error)),
     }
 }
 
@@ -94,7 +83,7 @@ fn print_trace<'a, O: Write>(
         result }
 {
     match refusal_of(bench, shown) {
-        Some(why) => print_why(alloc, bench, why, output),
+        Some(why) => deliver(unanswered(alloc, bench, why), output),
         None => stream(alloc, bench, shown, output),
     }
 }
@@ -143,42 +132,29 @@ fn stream<'a, O: Write>(
 /// differ first; or the faults where there is no image.
 pub(crate) fn compare_source<'a, O: Write>(
     alloc: Global,
-    source: &[u8],
-    keys: &KeyFile<'a>,
+    asked: Asked<'a>,
     beside: &Beside<'_>,
-    settings: Settings,
     output: &mut Counted<O>,
 ) -> Result<Ending, Failure<'a>>
-    ensures { PrintsSuchUnder O.contents output.old output.new settings source.now
-        keys.now.bytes.items
-        (λ session. IsCompared session beside.now.shown (lines beside.now.theirs.now)) result }
+    ensures { WithSession O.contents output.old output.new asked.entry.settings
+        asked.entry.source.items asked.entry.keys.bytes.items
+        (λ session. PrintsSuch O.contents output.old output.new
+        (IsCompared session beside.now.shown (lines beside.now.theirs.now))) result }
 {
-    match Bench::open(alloc, source, settings) {
+    let Asked {
+        source,
+        keys,
+        settings,
+    } = asked;
+    let opened = open_under(alloc, &source, &keys, settings)?;
+    match opened {
         Ok(mut bench) => {
-            let ended = compare_under(alloc, &mut bench, keys, beside, output);
+            let ended = print_difference(alloc, &mut bench, beside, output);
             // The program ends here, and its memory goes back at once.
             mem::forget(bench);
             ended
         }
         Err(error) => refuse_source(error, output),
-    }
-}
-
-fn compare_under<'a, O: Write>(
-    alloc: Global,
-    bench: &mut Bench,
-    keys: &KeyFile<'a>,
-    beside: &Beside<'_>,
-    output: &mut Counted<O>,
-) -> Result<Ending, Failure<'a>>
-    ensures { PrintsSuchUnless O.contents output.old output.new
-        (key_fault bench.old.session keys.now.bytes.items)
-        (IsCompared (session_under bench.old.session keys.now.bytes.items) beside.now.shown
-        (lines beside.now.theirs.now)) result }
-{
-    match insert_keys(alloc, bench, &keys.bytes) {
-        Ok(()) => print_difference(alloc, bench, beside, output),
-        Err(error) => Err(keys.failure(error)),
     }
 }
 
@@ -193,7 +169,7 @@ fn print_difference<'a, O: Write>(
 {
     let shown = &beside.shown;
     if let Some(why) = refusal_of(bench, shown) {
-        return print_why(alloc, bench, why, output);
+        return deliver(unanswered(alloc, bench, why), output);
     }
     let mut trace = Trace::new(alloc, &shown.columns, shown.form, shown.from, shown.to);
     match bench.first_difference(alloc, &mut trace, beside.theirs) {

@@ -2,16 +2,23 @@
 -- contracts behind the commands (own).
 use Rattle.std.specs.Prelude.{◌≡◌, ◌⊎◌, ℕ, Bool, List, Option, Some, None, Ok, Err}
 use Rattle.std.specs.Borrow.{Bor}
-use Rattle.chip_asm.specs.Lines.{lines_of, open_fault}
-use Rattle.chip_bench.specs.Doing.{AsSource, FromGiven, IsShort, Outcome, WithAsked, image_in}
-use Rattle.chip_bench.specs.Printing.{Prints, printed_faults, printed_of}
+use Rattle.chip_asm.specs.Lines.{open_fault}
+use Rattle.chip_asm.specs.declared.refusal.OpenError.{OpenError}
+use Rattle.chip_asm.specs.declared.refusal.OpenError.TheVariants as unopened
+use Rattle.chip_session.specs.KeyFile.{key_fault, session_under}
+use Rattle.chip_session.specs.Session.{Session, session_of}
+use Rattle.chip_session.specs.Settings.{SessionSettings}
+use Rattle.chip_bench.specs.Doing.{AsSource, FromGiven, IsShort, Outcome, WithAsked}
+use Rattle.chip_bench.specs.Printing.{Printed, printed}
 use Rattle.chip_bench.specs.Running.{IsUnreadWithin, failure_status}
 use Rattle.chip_bench.specs.declared.limits.TheConstants.{KEY_FILE_BYTES}
 use Rattle.chip_bench.specs.SettingArguments.{settings_asked}
 use Rattle.chip_session.specs.Tally.{Tally}
 use Rattle.chip_arguments.specs.declared.command_line.RunArguments.{RunArguments}
-use Rattle.chip_bench.specs.declared.ending.Ending.TheVariants.{Done, Faulty}
+use Rattle.chip_bench.specs.declared.ending.Ending.TheVariants.{Done}
 use Rattle.chip_bench.specs.declared.ending.Failure.{Failure}
+use Rattle.chip_bench.specs.declared.ending.Failure.TheVariants as failure
+use Rattle.chip_bench.specs.declared.output.Answer.{Answer}
 use Rattle.chip_bench.specs.declared.reading.Asked.{Asked}
 
 -- arguments that have a fault, or that memory ran out
@@ -23,6 +30,32 @@ IsUsage (Err failure) = (failure_status failure ≡ 2) ⊎ (failure_status failu
 abbrev pub IsKeysUnread : Option (Bor (List ℕ)) → Failure → Type 0
 IsKeysUnread None why = ⊥
 IsKeysUnread (Some name) why = IsUnreadWithin KEY_FILE_BYTES name why
+
+-- what an answer has printed
+abbrev pub printed_by : Answer → Printed
+printed_by answer = printed answer.text.items answer.ending
+
+-- the session of a source and those settings, under the key events of a file, which can all be made
+pub record IsSessionOf (settings : SessionSettings) (source keys : List ℕ) (session : Session)
+    : Type 0 where
+  pub opens : open_fault source ≡ None
+  pub made : key_fault (session_of settings source) keys ≡ None
+  pub is : session ≡ session_under (session_of settings source) keys
+
+-- why a source doesn't open, or that memory ran out as it was opened
+abbrev pub IsUnopened : (source : List ℕ) → OpenError → Type 0
+IsUnopened source fault = (fault ≡ unopened.OutOfMemory) ⊎ (open_fault source ≡ Some fault)
+
+-- the first refused line of a key file hinders it
+abbrev pub IsRefused : Option (ℕ × List ℕ) → Failure → Type 0
+IsRefused fault (failure.BadKeys name number code) = fault ≡ Some (number, code.0.now)
+IsRefused fault why = ⊥
+
+-- the key events of a file can't all be made
+abbrev pub IsUnmade : SessionSettings → (source keys : List ℕ) → Failure → Type 0
+IsUnmade settings source keys why =
+    IsShort why
+    ⊎ ((open_fault source ≡ None) × IsRefused (key_fault (session_of settings source) keys) why)
 
 -- the source that some bytes are
 abbrev pub IsTaken : Bool → Bor (List ℕ) → (bytes source : List ℕ) → Type 0
@@ -58,20 +91,3 @@ module _ {R : Type 0} (remaining : R → Option (List ℕ)) (in_old in_new : Tal
   abbrev pub IsUnasked : RunArguments → Failure → Type 0
   IsUnasked arguments why =
       WithAsked remaining in_old in_new (Unit {0}) arguments (λ settings keys source ended. ⊥) (Err why)
-
-module _ {W : Type 0} (contents : W → Option (List ℕ)) (out_old out_new : Tally W) where
-  -- the image of a source, or its faults, which are printed
-  abbrev pub IsImageOrFaults : List ℕ → Option (List ℕ) → Type 0
-  IsImageOrFaults source (Some image) = (image_in source ≡ Some image) × (out_new ≡ out_old)
-  IsImageOrFaults source None =
-      (image_in source ≡ None)
-      × Prints contents out_old out_new
-      (printed_of (open_fault source) (printed_faults (lines_of source))) (Ok Faulty)
-
-  -- memory ran out, or the faults couldn't be printed
-  abbrev pub IsImageHindered : List ℕ → Failure → Type 0
-  IsImageHindered source why =
-      (IsShort why × (out_new ≡ out_old))
-      ⊎ ((image_in source ≡ None)
-      × Prints contents out_old out_new
-      (printed_of (open_fault source) (printed_faults (lines_of source))) (Err why))

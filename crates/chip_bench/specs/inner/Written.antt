@@ -1,6 +1,7 @@
 -- What the commands wrote to files, where `wrote` says of bytes that a file took them: nothing says so
 -- but a write that went well (own).
 --     IsSomeWritten     some bytes
+--     IsFoundWritten    an image, if there is one
 --     IsImageWritten    the image of a source
 --     IsNamedWritten, IsScriptWritten    the file of `explore --keys-to`, where a script was found
 use Rattle.std.specs.Prelude.{◌≡◌, List, ℕ, Option, Some, None}
@@ -11,6 +12,10 @@ use Rattle.chip_bench.specs.Doing.{image_in}
 
 abbrev pub IsSomeWritten : (wrote : List ℕ → Type 0) → Type 0
 IsSomeWritten wrote = (bytes : List ℕ) × wrote bytes
+
+abbrev pub IsFoundWritten : (wrote : List ℕ → Type 0) → Option (List ℕ) → Type 0
+IsFoundWritten wrote None = ⊥
+IsFoundWritten wrote (Some image) = wrote image
 
 abbrev pub IsImageWritten : (wrote : List ℕ → Type 0) → Type 0
 IsImageWritten wrote =

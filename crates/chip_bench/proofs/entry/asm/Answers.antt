@@ -1,8 +1,10 @@
 use Rattle.std.proofs.lemmas.Result.{err_from_is_err_and}
-use Rattle.std.proofs.Common.{◌∙◌, ap, refl, Err, ℕ, Option, option_map, subst}
-use Rattle.std.specs.Global.{Vec}
-use Rattle.chip_bench.specs.inner.Reads.{IsImageOrFaults}
-use Rattle.chip_bench.proofs.DoingLemmas.{assembles_faults, assembles_image, assembles_not, assembles_unread}
+use Rattle.std.proofs.Common.{◌∙◌, ap, Err}
+use Rattle.chip_asm.specs.Lines.{lines_of}
+use Rattle.chip_asm.specs.Program.{image_of}
+use Rattle.chip_bench.specs.Doing.{AssemblesBy}
+use Rattle.chip_bench.proofs.DoingLemmas.{assembles_unread}
+use Rattle.chip_bench.proofs.OpenedLemmas.{assembles_short, image_written, not_done, of_opened, of_unopened}
 use Rattle.chip_bench.proofs.entry.asm.Goals as goal
 
 pub returns-in_err-bytes-clause-did : goal.returns-in_err-bytes-clause-did
@@ -11,31 +13,24 @@ returns-in_err-bytes-clause-did g c =
     assembles_unread g.I.Read.remaining g.O.Write.contents c.args.input.now c.read_source.new.input c.args.output.now c.args.source c.args.image
     c.from_residual.result _ (p.1 ∙ ap (λ e. Err e) p.2) c.in_err-bytes.ensures.err
 
-pub returns-in_err-assembled-clause-did : goal.returns-in_err-assembled-clause-did
-returns-in_err-assembled-clause-did g c =
-    let p = err_from_is_err_and c.from_residual-in_err-assembled.result c.from_residual-in_err-assembled.ensures.1 in
-    assembles_not g.I.Read.remaining g.O.Write.contents c.args.input.now c.read_source.new.input c.args.output.now c.image_or_faults.new.output
-    c.args.source c.args.image c.in_ok-bytes.bytes.items c.in_ok-bytes.bytes.items c.from_residual-in_err-assembled.result _ (p.1 ∙ ap (λ e. Err e) p.2)
-    refl c.in_ok-bytes.ensures.ok c.in_err-assembled.ensures
+pub returns-in-Ok-clause-did : goal.returns-in-Ok-clause-did
+returns-in-Ok-clause-did g c =
+    of_opened g.I.Read.remaining g.O.Write.contents c.args.input.now c.read_source.new.input c.args.output.now c.assemble-ended.new.output c.args.source
+    c.in_ok-bytes.bytes.items c.assemble-ended.result (λ lines. AssemblesBy g.O.Write.contents c.args.output.now c.assemble-ended.new.output (image_of lines) lines c.args.image)
+    c.in-Ok.opened.lines c.in_ok-bytes.ensures.ok c.in-Ok.ensures.ok.0 c.in-Ok.ensures.ok.1 c.assemble-ended.ensures.did
 
-pub returns-in_default-clause-did : goal.returns-in_default-clause-did
-returns-in_default-clause-did g c =
-    let faults = subst (λ (found : Option (Vec ℕ)). IsImageOrFaults g.O.Write.contents c.args.output.now c.image_or_faults.new.output c.in_ok-bytes.bytes.items
-    (option_map (λ (v : Vec ℕ). v.items) found)) c.in_default.is c.in_ok-assembled.ensures in
-    assembles_faults g.I.Read.remaining g.O.Write.contents c.args.input.now c.read_source.new.input c.args.output.now c.image_or_faults.new.output
-    c.args.source c.args.image c.in_ok-bytes.bytes.items c.in_ok-bytes.bytes.items _ refl c.in_ok-bytes.ensures.ok faults.0 faults.1
+pub returns-in-Ok-clause-written : goal.returns-in-Ok-clause-written
+returns-in-Ok-clause-written g c = λ done.
+    image_written (g.F.FileAccess.wrote c.args.system.now.files.now c.args.image.now) c.in_ok-bytes.bytes.items c.in-Ok.opened.lines c.in-Ok.ensures.ok.0
+    c.in-Ok.ensures.ok.1 (c.assemble-ended.ensures.written done)
 
-pub returns-clause-did : goal.returns-clause-did
-returns-clause-did g c =
-    let image = subst (λ (found : Option (Vec ℕ)). IsImageOrFaults g.O.Write.contents c.args.output.now c.image_or_faults.new.output c.in_ok-bytes.bytes.items
-    (option_map (λ (v : Vec ℕ). v.items) found)) c.in-Some.is c.in_ok-assembled.ensures in
-    assembles_image g.I.Read.remaining g.O.Write.contents c.args.input.now c.read_source.new.input c.args.output.now c.image_or_faults.new.output
-    c.args.source c.args.image c.in_ok-bytes.bytes.items c.in_ok-bytes.bytes.items c.in-Some.assembled.items c.write.result refl
-    c.in_ok-bytes.ensures.ok image c.write.ensures.ended
+pub returns-in-Err-clause-did : goal.returns-in-Err-clause-did
+returns-in-Err-clause-did g c =
+    of_unopened g.I.Read.remaining g.O.Write.contents c.args.input.now c.read_source.new.input c.args.output.now c.refuse_source.new.output c.args.source
+    c.in_ok-bytes.bytes.items c.refuse_source.result (λ lines. AssemblesBy g.O.Write.contents c.args.output.now c.refuse_source.new.output (image_of lines) lines c.args.image)
+    c.in-Err.error c.in_ok-bytes.ensures.ok c.in-Err.ensures.err c.refuse_source.ensures
+    (assembles_short g.O.Write.contents c.args.output.now c.refuse_source.new.output (image_of (lines_of c.in_ok-bytes.bytes.items)) (lines_of c.in_ok-bytes.bytes.items) c.args.image c.refuse_source.result)
 
-pub returns-clause-written : goal.returns-clause-written
-returns-clause-written g c = λ done.
-    let image = subst (λ (found : Option (Vec ℕ)). IsImageOrFaults g.O.Write.contents c.args.output.now c.image_or_faults.new.output c.in_ok-bytes.bytes.items
-    (option_map (λ (v : Vec ℕ). v.items) found)) c.in-Some.is c.in_ok-assembled.ensures in
-    let wrote = rw done at c.write.ensures.written in
-    (c.in_ok-bytes.bytes.items, (c.in-Some.assembled.items, image.0, rw c.deref.ensures.value at wrote))
+pub returns-in-Err-clause-written : goal.returns-in-Err-clause-written
+returns-in-Err-clause-written g c = λ done.
+    absurd (not_done g.O.Write.contents c.args.output.now c.refuse_source.new.output c.in-Err.error c.refuse_source.result c.refuse_source.ensures done)

@@ -14,13 +14,13 @@ returns-in-Asm g c =
 
 pub returns-in-List : goal.returns-in-List
 returns-in-List g c =
-    does_it g.I.Read.remaining g.O.Write.contents c.args.input.now c.list.new.input c.args.output.now c.list.new.output c.args.system.now.host.takes_color c.args.line.now _ c.list.result
-    c.in-List.is c.list.ensures
+    does_it g.I.Read.remaining g.O.Write.contents c.args.input.now c.tell.new.input c.args.output.now c.tell.new.output c.args.system.now.host.takes_color c.args.line.now _ c.tell.result
+    c.in-List.is c.tell.ensures
 
 pub returns-in-Syms : goal.returns-in-Syms
 returns-in-Syms g c =
-    does_it g.I.Read.remaining g.O.Write.contents c.args.input.now c.syms.new.input c.args.output.now c.syms.new.output c.args.system.now.host.takes_color c.args.line.now _ c.syms.result
-    c.in-Syms.is c.syms.ensures
+    does_it g.I.Read.remaining g.O.Write.contents c.args.input.now c.tell-in-Syms.new.input c.args.output.now c.tell-in-Syms.new.output c.args.system.now.host.takes_color c.args.line.now _ c.tell-in-Syms.result
+    c.in-Syms.is c.tell-in-Syms.ensures
 
 pub returns-in-Check : goal.returns-in-Check
 returns-in-Check g c =

@@ -1,16 +1,40 @@
 use Rattle.std.proofs.lemmas.Result.{err_from_is_err_and}
 use Rattle.std.proofs.Common.{◌∙◌, ap, refl, Err}
+use Rattle.chip_bench.specs.Doing.{PicturesBy}
 use Rattle.chip_bench.proofs.DoingLemmas.{pictures, pictures_not}
+use Rattle.chip_bench.proofs.OpenedLemmas.{unmade_session, with_session, without_session}
 use Rattle.chip_bench.proofs.picturing.picture.Goals as goal
 
-pub returns-in_err-asked : goal.returns-in_err-asked
-returns-in_err-asked g c =
+pub returns-in_err-source : goal.returns-in_err-source
+returns-in_err-source g c =
     let p = err_from_is_err_and c.from_residual.result c.from_residual.ensures.1 in
     pictures_not g.I.Read.remaining g.O.Write.contents c.args.input.now c.read_asked.new.input c.args.output.now c.args.output.now c.args.arguments.now
-    c.from_residual.result _ refl (p.1 ∙ ap (λ e. Err e) p.2) c.in_err-asked.ensures.err
+    c.from_residual.result _ refl (p.1 ∙ ap (λ e. Err e) p.2) c.in_err-source.ensures.err
+
+pub returns-in_err-opened : goal.returns-in_err-opened
+returns-in_err-opened g c =
+    let asked = c.in_ok-source.field-0 in
+    let p = err_from_is_err_and c.from_residual-in_err-opened.result c.from_residual-in_err-opened.ensures.1 in
+    pictures g.I.Read.remaining g.O.Write.contents c.args.input.now c.read_asked.new.input c.args.output.now c.args.output.now
+    c.args.arguments.now c.from_residual-in_err-opened.result asked c.in_ok-source.ensures.ok
+    (unmade_session g.O.Write.contents c.args.output.now c.args.output.now asked.settings asked.source.items asked.keys.bytes.items
+    (PicturesBy g.O.Write.contents c.args.output.now c.args.output.now c.args.arguments.now c.args.arguments.now.bitmap c.args.arguments.now.png) c.from_residual-in_err-opened.result _ (p.1 ∙ ap (λ e. Err e) p.2)
+    (rw c.deref.ensures.value at c.in_err-opened.ensures.err) refl)
+
+pub returns-in-Ok : goal.returns-in-Ok
+returns-in-Ok g c =
+    let asked = c.in_ok-source.field-0 in
+    let is = rw (c.in-Ok.is, c.deref.ensures.value) at c.in_ok-opened.ensures.opened in
+    pictures g.I.Read.remaining g.O.Write.contents c.args.input.now c.read_asked.new.input c.args.output.now c.show-ended.new.output
+    c.args.arguments.now c.show-ended.result asked c.in_ok-source.ensures.ok
+    (with_session g.O.Write.contents c.args.output.now c.show-ended.new.output asked.settings asked.source.items asked.keys.bytes.items
+    (PicturesBy g.O.Write.contents c.args.output.now c.show-ended.new.output c.args.arguments.now c.args.arguments.now.bitmap c.args.arguments.now.png) c.show-ended.result c.in-Ok.bench.session is c.show-ended.ensures)
 
 pub returns : goal.returns
 returns g c =
-    let arguments = c.args.arguments.now in
-    pictures g.I.Read.remaining g.O.Write.contents c.args.input.now c.read_asked.new.input c.args.output.now c.show.new.output arguments
-    c.show.result c.in_ok-asked.asked arguments.bitmap arguments.png c.in_ok-asked.ensures.ok refl refl c.show.ensures
+    let asked = c.in_ok-source.field-0 in
+    let is = rw (c.in-Err.is, c.deref.ensures.value) at c.in_ok-opened.ensures.unopened in
+    pictures g.I.Read.remaining g.O.Write.contents c.args.input.now c.read_asked.new.input c.args.output.now c.refuse_source.new.output
+    c.args.arguments.now c.refuse_source.result asked c.in_ok-source.ensures.ok
+    (without_session g.O.Write.contents c.args.output.now c.refuse_source.new.output asked.settings asked.source.items asked.keys.bytes.items
+    (PicturesBy g.O.Write.contents c.args.output.now c.refuse_source.new.output c.args.arguments.now c.args.arguments.now.bitmap c.args.arguments.now.png) c.refuse_source.result c.in-Err.error is c.refuse_source.ensures)

@@ -8,7 +8,7 @@ use Rattle.chip_bench.proofs.tracing.print_difference.Goals as goal
 
 pub returns-in-Some : goal.returns-in-Some
 returns-in-Some g c =
-    rw (sym c.refusal_of.ensures ∙ c.in-Some.is) (inl (_, refl, c.print_why.ensures.why))
+    rw (sym c.refusal_of.ensures ∙ c.in-Some.is) (inl (_, refl, (c.deliver.ensures _ c.unanswered.ensures.answer)))
 
 pub returns-in-Ok-None : goal.returns-in-Ok-None
 returns-in-Ok-None g c =

@@ -1,13 +1,28 @@
+use Rattle.std.proofs.lemmas.Result.{err_from_is_err_and}
+use Rattle.std.proofs.Common.{◌∙◌, ap, refl, Err}
+use Rattle.chip_bench.specs.Printing.{Streams}
 use Rattle.chip_bench.specs.Tracing.{printed_trace}
-use Rattle.chip_bench.proofs.TraceLemmas.{streams_under, streams_unopened}
+use Rattle.chip_bench.proofs.OpenedLemmas.{unmade_session, with_session, without_session}
 use Rattle.chip_bench.proofs.tracing.trace_source.Goals as goal
+
+pub returns-in_err-opened : goal.returns-in_err-opened
+returns-in_err-opened g c =
+    let asked = c.args.asked in
+    let p = err_from_is_err_and c.from_residual.result c.from_residual.ensures.1 in
+    unmade_session g.O.Write.contents c.args.output.now c.args.output.now asked.settings asked.source.items asked.keys.bytes.items
+    (λ session. Streams g.O.Write.contents c.args.output.now c.args.output.now (printed_trace session c.args.shown.now)) c.from_residual.result _ (p.1 ∙ ap (λ e. Err e) p.2)
+    (rw c.deref.ensures.value at c.in_err-opened.ensures.err) refl
 
 pub returns-in-Ok : goal.returns-in-Ok
 returns-in-Ok g c =
-    streams_under g.O.Write.contents c.args.output.now c.trace_under-ended.new.output c.args.settings c.args.source.now c.args.keys.now.bytes.items
-    (λ session. printed_trace session c.args.shown.now) c.trace_under-ended.result c.in-Ok.bench.session c.in-Ok.ensures.ok.0 c.in-Ok.ensures.ok.1 c.trace_under-ended.ensures
+    let asked = c.args.asked in
+    let is = rw (c.in-Ok.is, c.deref.ensures.value) at c.in_ok-opened.ensures.opened in
+    with_session g.O.Write.contents c.args.output.now c.print_trace-ended.new.output asked.settings asked.source.items asked.keys.bytes.items
+    (λ session. Streams g.O.Write.contents c.args.output.now c.print_trace-ended.new.output (printed_trace session c.args.shown.now)) c.print_trace-ended.result c.in-Ok.bench.session is c.print_trace-ended.ensures
 
-pub returns-in-Err : goal.returns-in-Err
-returns-in-Err g c =
-    streams_unopened g.O.Write.contents c.args.output.now c.refuse_source.new.output c.args.settings c.args.source.now c.args.keys.now.bytes.items
-    (λ session. printed_trace session c.args.shown.now) c.refuse_source.result _ c.in-Err.ensures.err c.refuse_source.ensures
+pub returns : goal.returns
+returns g c =
+    let asked = c.args.asked in
+    let is = rw (c.in-Err.is, c.deref.ensures.value) at c.in_ok-opened.ensures.unopened in
+    without_session g.O.Write.contents c.args.output.now c.refuse_source.new.output asked.settings asked.source.items asked.keys.bytes.items
+    (λ session. Streams g.O.Write.contents c.args.output.now c.refuse_source.new.output (printed_trace session c.args.shown.now)) c.refuse_source.result c.in-Err.error is c.refuse_source.ensures

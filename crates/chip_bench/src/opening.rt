@@ -1,0 +1,30 @@
+//! A session on a source, under the key events of a file.
+ghost use Rattle.std.specs.Prelude.{IfErr, IfOk};
+ghost use Rattle.chip_bench.specs.inner.Reads.{IsSessionOf, IsUnmade, IsUnopened};
+
+use crate::ending::Failure;
+use crate::reading::KeyFile;
+use chip_asm::OpenError;
+use chip_session::{Bench, Settings, insert_keys};
+use std::alloc::Global;
+
+/// A session on a source under the key events of a file, or why the source doesn't open.
+pub(crate) fn open_under<'a>(
+    alloc: Global,
+    source: &[u8],
+    keys: &KeyFile<'a>,
+    settings: Settings,
+) -> Result<Result<Bench, OpenError>, Failure<'a>>
+    ensures opened { IfOk result (λ opened. IfOk opened (λ bench.
+        IsSessionOf settings source.now keys.now.bytes.items bench.session)) }
+    ensures unopened { IfOk result (λ opened. IfErr opened (IsUnopened source.now)) }
+    ensures err { IfErr result (IsUnmade settings source.now keys.now.bytes.items) }
+{
+    match Bench::open(alloc, source, settings) {
+        Ok(mut bench) => match insert_keys(alloc, &mut bench, &keys.bytes) {
+            Ok(()) => Ok(Ok(bench)),
+            Err(error) => Err(keys.failure(error)),
+        },
+        Err(error) => Ok(Err(error)),
+    }
+}
