@@ -34,6 +34,9 @@ COLUMNS: dict[str, int | None] = {
 }
 HEAD = f"# step {' '.join(COLUMNS)} text".encode()
 
+# the line that names the machine, where there is one, and the one that names the columns
+HEADER = re.compile(rb"(# (profile|quirks) [^\n]*\n)?" + HEAD + rb"\n")
+
 
 def skipped(names: list[str]) -> bytes:
     """What matches the columns with these names."""
@@ -95,11 +98,12 @@ class Reader:
     def take(self, piece: bytes) -> None:
         lines = self._lines + piece
         end = lines.rfind(b"\n")
-        if end < 0:
+        # the header has one line or two
+        if end < 0 or (self.is_trace is None and lines.count(b"\n") < 2):
             self._lines = lines
             return
         if self.is_trace is None:
-            self.is_trace = lines.startswith(HEAD + b"\n")
+            self.is_trace = HEADER.match(lines) is not None
         if self.is_trace:
             self._find(lines, end)
         self.last = lines[lines.rfind(b"\n", 0, end) + 1 : end]

@@ -60,7 +60,10 @@ class TraceHost extends MemoryHost {
 
   take(bytes, from, end) {
     if (this.isTrace === null) {
-      this.isTrace = textOf(bytes.subarray(from, end)) === HEAD;
+      const line = textOf(bytes.subarray(from, end));
+      // the line that names the machine, where there is one, is above the one that names the columns
+      if (/^# (profile|quirks) /.test(line)) return;
+      this.isTrace = line === HEAD;
       return;
     }
     if (!this.isTrace) return;

@@ -85,6 +85,8 @@ def traced(path, quirks, program):
     words = ["trace", "--image", path, "--steps", str(STEPS), "--tape", TAPE.hex(), "--quirks", quirks, "--hash"]
     ran = subprocess.run([program, *words], capture_output=True, text=True, timeout=120)
     header, *rows = ran.stdout.splitlines() or [ran.stderr]
+    if header.startswith(("# profile ", "# quirks ")):
+        header, *rows = rows
     names = header.split()[1:]
     rows = [dict(zip(names, row.split(maxsplit=len(names) - 1))) for row in rows]
     wanted = ["pc", *(f"v{number:x}" for number in range(16)), "i", "dt", "st", "depth"]

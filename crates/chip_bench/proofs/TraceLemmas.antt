@@ -6,7 +6,8 @@ use Rattle.chip_bench.specs.Printing.{Printed, Prints, Streams, WritesFront, pri
 use Rattle.chip_session.specs.Session.{Session}
 use Rattle.chip_session.specs.Tally.{Tally}
 use Rattle.chip_session.specs.Writing.{Breaks, Writes}
-use Rattle.chip_bench.specs.Tracing.{trace_refusal}
+use Rattle.chip_trace.specs.Machine.{names_machine}
+use Rattle.chip_bench.specs.Tracing.{below_machine, header_of, lines_after, trace_refusal}
 use Rattle.chip_bench.specs.declared.ending.Ending.{Ending}
 use Rattle.chip_bench.specs.declared.ending.Ending.TheVariants.{Done}
 use Rattle.chip_bench.specs.declared.ending.Failure.{Failure}
@@ -132,3 +133,12 @@ module _ {W : Type 0} (contents : W → Option (List ℕ)) where
   stream_fails old now next whole text rest failure.Output s p = stream_breaks old now next whole text rest s p
   stream_fails old now next whole text rest failure.OutOfMemory s p = rw p (stream_stops old now whole text rest s)
   stream_fails old now next whole text rest _ s p = absurd p
+
+-- the lines below the machine's name, where there is one
+pub below_named : (all : List (List ℕ)) → names_machine (header_of all) ≡ true → below_machine all ≡ lines_after all
+below_named [] named = refl
+below_named (line ∷ more) named = rw (named) refl
+
+pub below_unnamed : (all : List (List ℕ)) → names_machine (header_of all) ≡ false → below_machine all ≡ all
+below_unnamed [] unnamed = refl
+below_unnamed (line ∷ more) unnamed = rw (unnamed) refl

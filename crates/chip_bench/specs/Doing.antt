@@ -37,7 +37,7 @@ use Rattle.chip_trace.specs.declared.column.Column.{Column}
 use Rattle.chip_trace.specs.declared.form.Form.{Form}
 use Rattle.chip_trace.specs.declared.form.Form.TheVariants.{Fields, Json}
 use Rattle.chip_trace.specs.declared.header.HeaderError.{HeaderError}
-use Rattle.chip_bench.specs.Tracing.{IsCompared, header_of, lines_after, printed_trace}
+use Rattle.chip_bench.specs.Tracing.{IsCompared, below_machine, header_of, lines_after, printed_trace}
 use Rattle.chip_bench.specs.declared.tracing.Shown.{Shown}
 use Rattle.chip_pages.specs.Pages.{IsContents, IsExplained}
 use Rattle.chip_arguments.specs.Version.{version_text}
@@ -323,11 +323,12 @@ module _ {W : Type 0} (contents : W → Option (List ℕ)) (out_old out_new : Ta
   abbrev pub TracesBeside : TraceArguments → SessionSettings → (keys source : List ℕ)
       → (name : Bor (List ℕ)) → (theirs : List (List ℕ)) → Outcome → Type 0
   TracesBeside arguments settings keys source name theirs ended =
-      ((columns : List Column) × (header_line columns ≡ str_to_ascii_lowercase (header_of theirs))
+      let columned = below_machine theirs in
+      ((columns : List Column) × (header_line columns ≡ str_to_ascii_lowercase (header_of columned))
       × WithSession contents out_old out_new settings source keys
       (λ session. PrintsSuch contents out_old out_new
-      (IsCompared session (shown_beside arguments columns) (lines_after theirs))) ended)
-      ⊎ ((fault : HeaderError) × (header_fault (header_of theirs) ≡ Some fault)
+      (IsCompared session (shown_beside arguments columns) (lines_after columned))) ended)
+      ⊎ ((fault : HeaderError) × (header_fault (header_of columned) ≡ Some fault)
       × Fails (λ why. why ≡ failure.BadTrace name fault) ended)
       ⊎ Fails IsShort ended
 

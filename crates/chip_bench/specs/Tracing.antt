@@ -4,6 +4,7 @@ use Rattle.chip_asm.specs.Program.{image_of}
 use Rattle.chip_replay.specs.Limits.{last_step}
 use Rattle.chip_trace.specs.Difference.{IsComparison, IsDifferenceText}
 use Rattle.chip_trace.specs.Lines.{trace_lines, trace_text}
+use Rattle.chip_trace.specs.Machine.{names_machine}
 use Rattle.chip_trace.specs.declared.difference.Difference.{Difference}
 use Rattle.chip_session.specs.Answers.{machine_of}
 use Rattle.chip_bench.specs.Printing.{Printed, printed, printed_faults, unanswered}
@@ -23,9 +24,11 @@ trace_refusal session shown =
     if is_none (image_of session.lines) then Some NoImage
     else (if is_past_last shown then Some StepPastLast else None)
 
+-- the trace of the session's run
 abbrev pub trace_of : Session → Shown → List ℕ
 trace_of session shown =
-    trace_text shown.form shown.columns (machine_of session) shown.from shown.to
+    trace_text shown.form session.settings.quirks shown.columns (machine_of session) shown.from
+    shown.to
 
 abbrev pub trace_unless : Option Refusal → Session → Shown → Printed
 trace_unless (Some why) session shown = unanswered why (printed_faults session.lines)
@@ -60,7 +63,12 @@ abbrev pub IsCompared : Session → Shown → (theirs : List (List ℕ)) → Pri
 IsCompared session shown theirs wanted =
     IsComparedUnless (trace_refusal session shown) session shown theirs wanted
 
--- the header of a trace's lines, and the lines after it
+-- the lines of a trace below the one that names the machine, if there is one
+abbrev pub below_machine : List (List ℕ) → List (List ℕ)
+below_machine [] = []
+below_machine (line ∷ lines) = if names_machine line then lines else (line ∷ lines)
+
+-- the header of those lines, which names the columns, and the lines after it
 abbrev pub header_of : List (List ℕ) → List ℕ
 header_of [] = []
 header_of (line ∷ lines) = line

@@ -6,7 +6,7 @@ ghost use Rattle.chip_asm.specs.Program.{image_of};
 ghost use Rattle.chip_arguments.specs.Version.{version_text};
 ghost use Rattle.chip_bench.specs.Printing.{Prints, printed, printed_table};
 ghost use Rattle.chip_session.specs.Settings.{default_settings};
-ghost use Rattle.chip_bench.specs.Tracing.{header_of, lines_after};
+ghost use Rattle.chip_bench.specs.Tracing.{below_machine, header_of, lines_after};
 ghost use Rattle.chip_bench.specs.Running.{AnswersScript, RunsSession, status_of, failure_status, AreFaulty, IsWithoutArguments};
 ghost use Rattle.chip_bench.specs.inner.Reads.{IsUsage};
 ghost use Rattle.chip_bench.specs.inner.Written.{IsFoundWritten, IsImageWritten};
@@ -39,7 +39,7 @@ use chip_arguments::{
 use chip_asm::Source;
 use chip_files::first_line;
 use chip_session::Counted;
-use chip_trace::{Columns, Form, HeaderError};
+use chip_trace::{Columns, Form, HeaderError, names_machine};
 use clap::error::ErrorKind;
 use std::alloc::Global;
 use std::convert::AsStr;
@@ -424,15 +424,28 @@ fn form_of(is_json: bool) -> Form
     if is_json { Form::Json } else { Form::Fields }
 }
 
-// The header of a trace, and what follows it.
+// The line of a trace that names its columns, and what follows it. The line above it may name the
+// machine.
 fn split_header(trace: &[u8]) -> (&[u8], &[u8])
-    ensures header { result.0.now ≡ header_of (lines trace.now) }
-    ensures rest { lines result.1.now ≡ lines_after (lines trace.now) }
+    ensures header { result.0.now ≡ header_of (below_machine (lines trace.now)) }
+    ensures rest { lines result.1.now ≡ lines_after (below_machine (lines trace.now)) }
 {
-    if trace.is_empty() {
-        return (trace, trace);
+    let (first, rest) = split_line(trace);
+    if names_machine(first) {
+        return split_line(rest);
     }
-    first_line(trace)
+    (first, rest)
+}
+
+// The first line of a text, and what follows it.
+fn split_line(text: &[u8]) -> (&[u8], &[u8])
+    ensures first { result.0.now ≡ header_of (lines text.now) }
+    ensures rest { lines result.1.now ≡ lines_after (lines text.now) }
+{
+    if text.is_empty() {
+        return (text, text);
+    }
+    first_line(text)
 }
 
 // The first line of a trace names its columns.

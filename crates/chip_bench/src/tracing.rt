@@ -114,7 +114,9 @@ fn stream<'a, O: Write>(
 {
     let mut trace = Trace::new(alloc, &shown.columns, shown.form, shown.from, shown.to);
     let mut text = Vec::new(alloc);
-    shown.columns.push_header_lines(shown.form, &mut text)?;
+    shown
+        .columns
+        .push_header_lines(shown.form, bench.quirks(), &mut text)?;
     loop {
         // No step of the trace is past the last one, so that only memory can be wanting.
         let Ok(is_more) = bench.push_trace(&mut trace, &mut text, BLOCK_LINES) else {

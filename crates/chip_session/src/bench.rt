@@ -23,6 +23,7 @@ use crate::refusal::Refusal;
 use crate::settings::Settings;
 use chip_asm::{OpenError, Source};
 use chip_lang::Meter;
+use chip_machine::Quirks;
 use chip_replay::AtError;
 use chip_trace::{Difference, Trace};
 use std::alloc::Global;
@@ -210,6 +211,13 @@ impl Bench {
         ensures { result.now.lines ≡ self.now.session.lines }
     {
         &self.source
+    }
+
+    /// The quirks of the machine.
+    pub fn quirks(&self) -> Quirks
+        ensures { result ≡ self.now.session.settings.quirks }
+    {
+        self.run.quirks()
     }
 
     /// What opening the source and all edits so far read and encoded.

@@ -15,9 +15,9 @@ ghost use Rattle.std.specs.Str.Lines.{lines};
 use crate::machine_answer::push_state;
 use crate::question::StateQuestion;
 use crate::settings::Settings;
-use chip_machine::Machine;
 use chip_machine::laws::image_at_the_start;
 use chip_machine::limits::IMAGE_BYTES;
+use chip_machine::{Machine, Quirks};
 use chip_replay::{AtError, KeyFault, LAST_STEP, Replay};
 use chip_trace::{Difference, Trace, first_difference};
 use std::alloc::{AllocError, Global};
@@ -281,6 +281,13 @@ impl ImageRun {
         ensures runs { RunsOnly self.old self.new }
     {
         first_difference(alloc, &mut self.replay, trace, theirs)
+    }
+
+    /// The quirks of the machine.
+    pub(crate) fn quirks(&self) -> Quirks
+        ensures { result ≡ self.now.settings.quirks }
+    {
+        self.settings.quirks()
     }
 
     /// Up to which step the run is sound.

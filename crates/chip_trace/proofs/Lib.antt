@@ -6,3 +6,4 @@ mod TraceLemmas
 mod Comparing
 mod LinesLemmas
 mod Names
+mod MachineLemmas

@@ -1,9 +1,11 @@
 -- What the lines of a trace are in each form (own).
-use Rattle.std.specs.Prelude.{ℕ, Bool, List, [], ◌∷◌}
+use Rattle.std.specs.Prelude.{ℕ, Bool, List, [], ◌∷◌, ◌++◌}
 use Rattle.chip_machine.specs.State.{State}
+use Rattle.chip_machine.specs.declared.quirks.Quirks.{Quirks}
 use Rattle.chip_trace.specs.Columns.{header_line}
 use Rattle.chip_trace.specs.Json.{json_line_of}
 use Rattle.chip_trace.specs.Line.{line_of}
+use Rattle.chip_trace.specs.Machine.{machine_lines}
 use Rattle.chip_trace.specs.declared.column.Column.{Column}
 use Rattle.chip_trace.specs.declared.form.Form.{Form}
 use Rattle.chip_trace.specs.declared.form.Form.TheVariants.{Fields, Json}
@@ -13,7 +15,8 @@ unfoldable pub row_of : Form → List Column → (step : ℕ) → State → (is_
 row_of Fields columns step s is_last = line_of columns step s is_last
 row_of Json columns step s is_last = json_line_of columns step s is_last
 
--- the lines above those of the steps: the one that names the columns, or none
-abbrev pub header_lines : Form → List Column → List (List ℕ)
-header_lines Fields columns = header_line columns ∷ []
-header_lines Json columns = []
+-- the lines above those of the steps of a machine: the one that names the machine, where there is
+-- one, and the one that names the columns; none as JSON
+abbrev pub header_lines : Form → Quirks → List Column → List (List ℕ)
+header_lines Fields quirks columns = machine_lines quirks ++ header_line columns ∷ []
+header_lines Json quirks columns = []

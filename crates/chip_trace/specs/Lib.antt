@@ -5,6 +5,7 @@
 --     Sums         FNV-1a sums, and the bytes of a screen
 --     Columns      the columns, their names, and the line that names them
 --     Header       why a line does not name columns
+--     Machine      the line that names the machine
 --     Line         the line of a step, as fields
 --     Json         the line of a step, as a JSON object
 --     Form         the lines of each form
@@ -15,6 +16,7 @@ pub mod Digits
 pub mod Sums
 pub mod Columns
 pub mod Header
+pub mod Machine
 pub mod Line
 pub mod Json
 pub mod Form

@@ -3,6 +3,7 @@ use Rattle.std.specs.Prelude.{◌≡◌, ◌↔◌, ◌<◌, IsTrue, ℕ, ◌+�
 use Rattle.std.specs.List.{flat_map, range_with_len}
 use Rattle.chip_machine.specs.State.{State}
 use Rattle.chip_machine.specs.Step.{step_of}
+use Rattle.chip_machine.specs.declared.quirks.Quirks.{Quirks}
 use Rattle.chip_replay.specs.History.{History, state_at}
 use Rattle.chip_replay.specs.Run.{first_below}
 use Rattle.chip_trace.specs.Form.{header_lines, row_of}
@@ -28,10 +29,10 @@ trace_lines form columns state from to =
 abbrev pub newline_ended : List (List ℕ) → List ℕ
 newline_ended lines = flat_map (λ line. line ++ 10 ∷ []) lines
 
--- a whole trace as text
-abbrev pub trace_text : Form → List Column → (state : ℕ → State) (from to : ℕ) → List ℕ
-trace_text form columns state from to =
-    newline_ended (header_lines form columns ++ trace_lines form columns state from to)
+-- a whole trace of a machine as text
+abbrev pub trace_text : Form → Quirks → List Column → (state : ℕ → State) (from to : ℕ) → List ℕ
+trace_text form quirks columns state from to =
+    newline_ended (header_lines form quirks columns ++ trace_lines form columns state from to)
 
 -- the state at each step of a run
 abbrev pub states_of : History State → ℕ → State

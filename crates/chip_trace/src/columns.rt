@@ -12,7 +12,9 @@ use crate::column::Column;
 use crate::form::Form;
 use crate::header::{HeaderError, read_header};
 use crate::limits::FIRST_COLUMNS;
+use crate::machine_line::push_machine;
 use chip_lang::Reg;
+use chip_machine::Quirks;
 use std::alloc::{AllocError, Global};
 use std::marker::Model;
 
@@ -132,17 +134,24 @@ impl Columns {
         Ok(())
     }
 
-    /// Adds the lines that stand above those of the steps in a form, each with a newline.
+    /// Adds the lines that stand above those of the steps of a machine in a form, each with a
+    /// newline.
     ///
     /// # Errors
     ///
     /// Out of memory; a part of the lines may be added then.
-    pub fn push_header_lines(&self, form: Form, text: &mut Vec<u8>) -> Result<(), AllocError>
+    pub fn push_header_lines(
+        &self,
+        form: Form,
+        quirks: Quirks,
+        text: &mut Vec<u8>,
+    ) -> Result<(), AllocError>
         ensures { OnOk result (text.new.items
-            ≡ text.old.items ++ newline_ended (header_lines form self.now)) }
+            ≡ text.old.items ++ newline_ended (header_lines form quirks self.now)) }
     {
         match form {
             Form::Fields => {
+                push_machine(quirks, text)?;
                 self.push_header(text)?;
                 text.push(b'\n')?;
             }

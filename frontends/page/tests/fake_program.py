@@ -87,7 +87,7 @@ def debug(words: list[str]) -> int:
 
 def trace(words: list[str]) -> int:
     """Lines of a run whose pc goes round seven addresses, and which stops at the step that a line `stop N` of the source says. A
-    source with a line `fault` has one, and one with `columns` has other columns. `hang` hangs."""
+    source with a line `fault` has one, one with `columns` has other columns, and one with `machine` its name above them. `hang` hangs."""
     with open(words[-1], encoding="latin-1") as file:
         source = file.read().split("\n")
     if "fault" in source:
@@ -103,6 +103,8 @@ def trace(words: list[str]) -> int:
     stop = next((int(line[5:]) for line in source if line.startswith("stop ")), 1 << 30)
     first, last = (int(words[words.index(name) + 1]) for name in ("--from", "--steps"))
     end = min(last, stop)
+    if "machine" in source:
+        sys.stdout.write("# profile octo\n")
     sys.stdout.write("# " + " ".join(COLUMNS if "columns" not in source else COLUMNS[:2]) + "\n")
     for step in range(min(first, end), end + 1):
         text = "LD V0, #05" if step < end else "S1" if end == stop else "run"

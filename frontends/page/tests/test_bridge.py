@@ -418,6 +418,9 @@ class Searching(Running):
             self.assertEqual(self.steps(["v0", ["11"], False], most=10, last=500), [17, 273])
             self.assertEqual(self.steps(["v0", ["f4"], False], isLast=True, last=500), [500])
 
+    def test_a_trace_that_names_its_machine(self) -> None:
+        self.assertEqual(self.steps(["v0", ["ff"], False], source="machine\n"), [255])
+
     def test_what_the_program_refuses(self) -> None:
         pc = ["pc", ["0206"], False]
         self.assertEqual(self.good("search", **self.body(pc, source="fault\n"))["refused"]["status"], 1)

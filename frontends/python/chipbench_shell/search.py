@@ -100,6 +100,8 @@ class Search:
             *lines, rest = (rest + piece).split(b"\n")
             for line in lines:
                 if is_head:
+                    if line.startswith((b"# profile ", b"# quirks ")):
+                        continue
                     if line != HEAD:
                         raise ChipbenchError("`trace` prints other columns than the shell knows")
                     is_head = False

@@ -94,6 +94,12 @@ class Moves(AtTerminal):
             ("until pc = UP", "step 27, 020c, line 9: UP:     ADD V0, 1"),
         )
 
+    def test_until_under_another_profile(self) -> None:
+        """A trace begins with the machine's name there."""
+        terminal = self.opened()
+        terminal.ask("profile octo")
+        self.answers(terminal, ("until UP", "step 3, 020c, line 9: UP:     ADD V0, 1"))
+
     def test_watch(self) -> None:
         self.answers(
             self.opened(),

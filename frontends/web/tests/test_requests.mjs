@@ -59,6 +59,8 @@ test('the program answers words, files of key events and searches', { skip }, ()
   assert.deepEqual(requests.keys({ text: '3 1 down\n3 20 down\n' }), { refused: { line: 2, code: 'N6' } });
   const about = { source: 'L: ADD V0, 1\nJP L\n', keys: '', options: {}, first: 1, last: 101 };
   assert.deepEqual(requests.search({ ...about, most: 2, isLast: false, where: [['v0', ['05'], false]] }).steps, [9, 10]);
+  const onOcto = { ...about, options: { profile: 'octo' } };
+  assert.deepEqual(requests.search({ ...onOcto, most: 2, isLast: false, where: [['v0', ['05'], false]] }).steps, [9, 10]);
   const last = requests.search({ ...about, most: 2, isLast: true, where: [['v0', ['05'], true]] });
   assert.deepEqual(last.steps, [100, 101]);
   assert.equal(last.end.step, 101);

@@ -18,11 +18,12 @@ returns-in_err-push_header_lines g c =
 pub loop-is_more-init : goal.loop-is_more-init
 loop-is_more-init g c =
     let shown = c.args.shown.now in
-    let items : c.push_header_lines.new.text.items ≡ newline_ended (header_lines shown.form shown.columns) = search rules in
+    let quirks = c.args.bench.now.session.settings.quirks in
+    let items : c.push_header_lines.new.text.items ≡ newline_ended (header_lines shown.form quirks shown.columns) = search rules in
     let lines = c.new-trace.ensures.lines (machine_of c.args.bench.now.session) in
     record {
       session = refl;
-      streamed = rw (items, lines) (stream_starts g.O.Write.contents c.args.output.now (header_lines shown.form shown.columns) (trace_lines shown.form shown.columns (machine_of c.args.bench.now.session) shown.from shown.to));
+      streamed = rw (items, lines) (stream_starts g.O.Write.contents c.args.output.now (header_lines shown.form quirks shown.columns) (trace_lines shown.form shown.columns (machine_of c.args.bench.now.session) shown.from shown.to));
     }
 
 pub returns-in_err-print : goal.returns-in_err-print

@@ -1,0 +1,108 @@
+//! The line of a trace that names the machine.
+
+ghost use Rattle.std.specs.Prelude.{◌≡◌, ◌++◌, OnOk, map};
+ghost use Rattle.std.specs.List.{join_with_byte};
+ghost use Rattle.chip_trace.specs.Lines.{newline_ended};
+ghost use Rattle.chip_trace.specs.Machine.{has_choice, has_line, machine_lines, names_in, names_machine, profile_lines};
+
+use chip_machine::quirks::CHOICES;
+use chip_machine::{Choice, Profile, Quirks};
+use std::alloc::AllocError;
+
+const PROFILE: &[u8] = b"# profile ";
+
+const QUIRKS: &[u8] = b"# quirks ";
+
+/// Whether a line names a machine, and so no columns.
+pub fn names_machine(line: &[u8]) -> bool
+    ensures { result ≡ names_machine line.now }
+{
+    line.starts_with(PROFILE) || line.starts_with(QUIRKS)
+}
+
+/// Adds the line that names a machine, with a newline: its profile, or all its choices where it has
+/// none. It adds nothing for `schip` and `vip`.
+///
+/// # Errors
+///
+/// Out of memory; a part of the line may be added then.
+pub(crate) fn push_machine(quirks: Quirks, text: &mut Vec<u8>) -> Result<(), AllocError>
+    ensures { OnOk result (text.new.items
+        ≡ text.old.items ++ newline_ended (machine_lines quirks)) }
+{
+    match Profile::with_quirks(quirks) {
+        Some(profile) => push_profile(profile, text),
+        None => {
+            text.extend_from_slice(QUIRKS)?;
+            push_choices(&CHOICES, quirks, text)?;
+            text.push(b'\n')?;
+            Ok(())
+        }
+    }
+}
+
+/// Adds the line that names a profile, with a newline; nothing for `schip` and `vip`.
+fn push_profile(profile: Profile, text: &mut Vec<u8>) -> Result<(), AllocError>
+    ensures { OnOk result (text.new.items
+        ≡ text.old.items ++ newline_ended (profile_lines profile)) }
+{
+    if !has_line(profile) {
+        return Ok(());
+    }
+    text.extend_from_slice(PROFILE)?;
+    text.extend_from_slice(profile.name().as_bytes())?;
+    text.push(b'\n')?;
+    Ok(())
+}
+
+/// Whether a line names the profile. `schip` and `vip` had none beside them when the first traces
+/// were written.
+fn has_line(profile: Profile) -> bool
+    ensures { result ≡ has_line profile }
+{
+    match profile {
+        Profile::Schip | Profile::Vip => false,
+        _ => true,
+    }
+}
+
+/// Adds the names of those of some choices that a machine has, with a comma between each two.
+fn push_choices(
+    choices: &[(&str, Choice)],
+    quirks: Quirks,
+    text: &mut Vec<u8>,
+) -> Result<(), AllocError>
+    ensures { OnOk result (text.new.items ≡ text.old.items
+        ++ join_with_byte 44 (names_in (map (λ c. (c.0.now, c.1)) choices.now) quirks)) }
+{
+    let mut is_first = true;
+    for place in 0..choices.len() {
+        let choice = &choices[place];
+        if has_choice(quirks, choice.1) {
+            if !is_first {
+                text.push(b',')?;
+            }
+            text.extend_from_slice(choice.0.as_bytes())?;
+            is_first = false;
+        }
+    }
+    Ok(())
+}
+
+/// Whether a machine has a choice.
+fn has_choice(quirks: Quirks, choice: Choice) -> bool
+    ensures { result ≡ has_choice quirks choice }
+{
+    match choice {
+        Choice::ShiftsSecond(value) => quirks.shifts_second == value,
+        Choice::IndexMove(value) => quirks.index_move == value,
+        Choice::JumpsByFirst(value) => quirks.jumps_by_first == value,
+        Choice::ClearsFlag(value) => quirks.clears_flag == value,
+        Choice::Wraps(value) => quirks.wraps == value,
+        Choice::LowSixteen(value) => quirks.low_sixteen == value,
+        Choice::ScrollsWhole(value) => quirks.scrolls_whole == value,
+        Choice::ClearsAtSize(value) => quirks.clears_at_size == value,
+        Choice::FlagsOverflow(value) => quirks.flags_overflow == value,
+        Choice::HasSuperInstructions(value) => quirks.has_super_instructions == value,
+    }
+}
