@@ -582,11 +582,12 @@ class FileTests(PageTests):
             browser.value("chipbenchPage.model.setKeys(chipbenchPage.model.keys.with(20, 3, true))")
             self.rest()
             assert self.bridge is not None
-            children = Path(f"/proc/{self.bridge.pid}/task/{self.bridge.pid}/children").read_text().split()
             threads = [Path(f"/proc/{self.bridge.pid}/task/{thread}/children") for thread in os.listdir(f"/proc/{self.bridge.pid}/task")]
             children = [child for place in threads for child in place.read_text().split()]
-            assert len(children) == 1, children
-            os.kill(int(children[0]), signal.SIGKILL)
+            # a search for crashes may still run beside the session
+            sessions = [child for child in children if b"debug" in Path(f"/proc/{child}/cmdline").read_bytes().split(b"\0")]
+            assert len(sessions) == 1, (sessions, children)
+            os.kill(int(sessions[0]), signal.SIGKILL)
             self.put_line(1, "; mine")
             browser.wait("/The program ended because/.test(document.getElementById('notices').textContent)")
             self.picture("killed")
