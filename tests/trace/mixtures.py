@@ -80,13 +80,16 @@ def emulated(image, quirks):
     return lines, sum_of(rows_of(machine)), sum_of(machine.memory)
 
 
+def below_machine(lines):
+    """The lines of a trace below the one that names the machine, where there is one."""
+    return lines[1:] if lines and lines[0].startswith(("# profile ", "# quirks ")) else lines
+
+
 def traced(path, quirks, program):
     """The same, of the program under test."""
     words = ["trace", "--image", path, "--steps", str(STEPS), "--tape", TAPE.hex(), "--quirks", quirks, "--hash"]
     ran = subprocess.run([program, *words], capture_output=True, text=True, timeout=120)
-    header, *rows = ran.stdout.splitlines() or [ran.stderr]
-    if header.startswith(("# profile ", "# quirks ")):
-        header, *rows = rows
+    header, *rows = below_machine(ran.stdout.splitlines()) or [ran.stderr]
     names = header.split()[1:]
     rows = [dict(zip(names, row.split(maxsplit=len(names) - 1))) for row in rows]
     wanted = ["pc", *(f"v{number:x}" for number in range(16)), "i", "dt", "st", "depth"]
