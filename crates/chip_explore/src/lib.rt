@@ -25,7 +25,6 @@ mod sum;
 mod target;
 mod watcher;
 mod ways;
-mod window;
 
 pub use causes::Causes;
 pub use executed::Executed;

@@ -106,17 +106,14 @@ impl Item {
         }
     }
 
-    /// What it names of that which is forgotten, where pc is there.
-    fn named(self, forgotten: Forgotten, pc: u16) -> Forgotten {
-        let named = match self {
+    /// The parts of a state that it names.
+    fn parts(self) -> Forgotten {
+        match self {
             Item::Register(x) => Forgotten::register(x),
             Item::Index => Forgotten::index(),
             Item::Pixel { .. } => Forgotten::screen(),
-            Item::Byte(at) => Forgotten::bytes(at, 1),
-            Item::AsksKeys => Forgotten::bytes(pc, 2),
-            Item::Place | Item::Delay | Item::Depth | Item::High => Forgotten::nothing(),
-        };
-        forgotten.shared_with(named)
+            _ => Forgotten::nothing(),
+        }
     }
 }
 
@@ -172,12 +169,12 @@ impl Sum {
         self.terms.iter().any(|term| term.item == Item::Delay)
     }
 
-    fn named(&self, forgotten: Forgotten, pc: u16) -> Forgotten {
-        let mut named = Forgotten::nothing();
+    fn parts(&self) -> Forgotten {
+        let mut parts = Forgotten::nothing();
         for term in &self.terms {
-            named = named.with(term.item.named(forgotten, pc));
+            parts = parts.with(term.item.parts());
         }
-        named
+        parts
     }
 }
 
@@ -260,14 +257,14 @@ impl Property {
         })
     }
 
-    /// What it names of that which is forgotten, where pc is there.
-    pub(crate) fn named(&self, forgotten: Forgotten, pc: u16) -> Forgotten {
-        let mut named = Forgotten::nothing();
+    /// The parts of a state that it names.
+    pub(crate) fn parts(&self) -> Forgotten {
+        let mut parts = Forgotten::nothing();
         for comparison in &self.condition.comparisons {
-            named = named
-                .with(comparison.left.named(forgotten, pc))
-                .with(comparison.right.named(forgotten, pc));
+            parts = parts
+                .with(comparison.left.parts())
+                .with(comparison.right.parts());
         }
-        named
+        parts
     }
 }

@@ -82,7 +82,6 @@ impl<'a> Setting<'a> {
         let known = Known {
             forgotten,
             has_delay: !self.free || machine.delay() == 0,
-            pc: machine.pc(),
         };
         known.has_properties(machine.pc(), self.target.properties)
     }
@@ -93,10 +92,10 @@ impl<'a> Setting<'a> {
         let mut asked = Forgotten::nothing();
         for property in self.target.properties {
             if property.is_at(machine.pc()) {
-                asked = asked.with(property.named(forgotten, machine.pc()));
+                asked = asked.with(property.parts());
             }
         }
-        asked
+        forgotten.without(forgotten.without(asked))
     }
 
     /// The register that the next step of a machine sets to the delay timer, where that may have one

@@ -1,4 +1,3 @@
-pub mod Accesses
 pub mod Agree
 pub mod BitLemmas
 pub mod Blocks
