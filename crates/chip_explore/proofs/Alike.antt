@@ -1,11 +1,12 @@
 -- States that are alike in all but what is forgotten.
-use Rattle.std.proofs.Common.{◌≡◌, ◌==◌, ℕ, Bool, true, false, is_some, List, length, ap, sym, ◌∙◌, refl, arith}
+use Rattle.std.proofs.Common.{◌≡◌, ◌==◌, ◌-◌, ℕ, Bool, true, false, is_some, nat_le, slice_set, ap, sym, ◌∙◌, refl, arith}
+use Rattle.std.proofs.lemmas.Bool.{and_right}
+use Rattle.std.proofs.lemmas.List.{get_or-set_other, length-set}
 use Rattle.std.proofs.lemmas.Nat.Bits.{bit_at-zero}
-use Rattle.chip_machine.specs.Forgotten.{has_part, register_part, index_part, screen_part}
+use Rattle.chip_machine.specs.Forgotten.{AreWithin, has_byte, has_part, register_part, index_part, screen_part}
 use Rattle.chip_machine.specs.Relevant.{Alike}
-use Rattle.chip_machine.specs.State.{Core, State, IsProper}
+use Rattle.chip_machine.specs.State.{Core, State, IsProper, with_memory}
 use Rattle.chip_explore.specs.declared.setting.Setting.{Setting}
-use Rattle.chip_explore.specs.inner.Cover.{AreWithin}
 use Rattle.chip_explore.specs.inner.Delays.{AlikeTicks, with_delay}
 use Rattle.chip_explore.proofs.Delays.{alike_delayed}
 
@@ -13,22 +14,35 @@ unless : (b c : Bool) → (b ≡ true → c ≡ true) → c ≡ false → b ≡ 
 unless true c h none = let up : c ≡ true = h refl in absurd (cc)
 unless false c h none = refl
 
+no_part : (part : ℕ) → has_part 0 part ≡ false
+no_part part = ap (λ b. b == 1) (bit_at-zero part)
+
+no_byte : (at : ℕ) → has_byte 0 at ≡ false
+no_byte at = and_right (nat_le 0 at) _ (ap (λ b. b == 1) (bit_at-zero (at - 0)))
+
 pub all_within : (f : ℕ) → AreWithin 0 f
-all_within f part up =
-    let down : has_part 0 part ≡ false = ap (λ b. b == 1) (bit_at-zero part) in
-    absurd (cc)
+all_within f =
+    record {
+      parts = λ part up. let down = no_part part in absurd (cc);
+      bytes = λ at up. let down = no_byte at in absurd (cc);
+    }
+
+pub within_both : (f g h : ℕ) → AreWithin f g → AreWithin g h → AreWithin f h
+within_both f g h first second =
+    record { parts = λ part up. second.parts part (first.parts part up); bytes = λ at up. second.bytes at (first.bytes at up) }
 
 pub alike_same : (s : State) → IsProper s → Alike 0 s s
 alike_same s proper =
     record {
       proper = proper;
       others = refl;
-      memory = refl;
+      size = refl;
       draws = refl;
       count = refl;
       registers = λ going x known. refl;
       index = λ going known. refl;
       screen = λ going known. refl;
+      memory = λ going at known. refl;
     }
 
 module _ (f : ℕ) (a b : State) (h : Alike f a b) where
@@ -38,14 +52,15 @@ module _ (f : ℕ) (a b : State) (h : Alike f a b) where
   pub alike_turned : Alike f b a
   alike_turned =
       record {
-        proper = record { memory_size = ap (λ (xs : List ℕ). length xs) (sym h.memory) ∙ h.proper.memory_size };
+        proper = record { memory_size = sym h.size ∙ h.proper.memory_size };
         others = sym h.others;
-        memory = sym h.memory;
+        size = sym h.size;
         draws = sym h.draws;
         count = sym h.count;
         registers = λ going x known. sym (h.registers (same_stop ∙ going) x known);
         index = λ going known. sym (h.index (same_stop ∙ going) known);
         screen = λ going known. sym (h.screen (same_stop ∙ going) known);
+        memory = λ going at known. sym (h.memory (same_stop ∙ going) at known);
       }
 
   pub alike_within : (g : ℕ) → AreWithin f g → Alike g a b
@@ -53,12 +68,13 @@ module _ (f : ℕ) (a b : State) (h : Alike f a b) where
       record {
         proper = h.proper;
         others = h.others;
-        memory = h.memory;
+        size = h.size;
         draws = h.draws;
         count = h.count;
-        registers = λ going x known. h.registers going x (unless (has_part f (register_part x)) (has_part g (register_part x)) (within (register_part x)) known);
-        index = λ going known. h.index going (unless (has_part f index_part) (has_part g index_part) (within index_part) known);
-        screen = λ going known. h.screen going (unless (has_part f screen_part) (has_part g screen_part) (within screen_part) known);
+        registers = λ going x known. h.registers going x (unless (has_part f (register_part x)) (has_part g (register_part x)) (within.parts (register_part x)) known);
+        index = λ going known. h.index going (unless (has_part f index_part) (has_part g index_part) (within.parts index_part) known);
+        screen = λ going known. h.screen going (unless (has_part f screen_part) (has_part g screen_part) (within.parts screen_part) known);
+        memory = λ going at known. h.memory going at (unless (has_byte f at) (has_byte g at) (within.bytes at) known);
       }
 
   pub alike_through : (c : State) → Alike f b c → Alike f a c
@@ -66,13 +82,34 @@ module _ (f : ℕ) (a b : State) (h : Alike f a b) where
       record {
         proper = h.proper;
         others = h.others ∙ k.others;
-        memory = h.memory ∙ k.memory;
+        size = h.size ∙ k.size;
         draws = h.draws ∙ k.draws;
         count = h.count ∙ k.count;
         registers = λ going x known. h.registers going x known ∙ k.registers (sym same_stop ∙ going) x known;
         index = λ going known. h.index going known ∙ k.index (sym same_stop ∙ going) known;
         screen = λ going known. h.screen going known ∙ k.screen (sym same_stop ∙ going) known;
+        memory = λ going at known. h.memory going at known ∙ k.memory (sym same_stop ∙ going) at known;
       }
+
+pub alike_itself : (f : ℕ) (s : State) → IsProper s → Alike f s s
+alike_itself f s proper = alike_within 0 s s (alike_same s proper) f (all_within f)
+
+-- a byte that is forgotten is any
+pub alike_poked : (f : ℕ) (a b : State) (at byte : ℕ) → has_byte f at ≡ true → Alike f a b → Alike f (with_memory a (slice_set a.memory at byte)) b
+alike_poked f a b at byte gone h =
+    record {
+      proper = record { memory_size = length-set a.memory at byte ∙ h.proper.memory_size };
+      others = h.others;
+      size = length-set a.memory at byte ∙ h.size;
+      draws = h.draws;
+      count = h.count;
+      registers = h.registers;
+      index = h.index;
+      screen = h.screen;
+      memory = λ going k known.
+          get_or-set_other a.memory at k byte 0 (λ same. let here = ap (has_byte f) same in absurd (cc))
+          ∙ h.memory going k known;
+    }
 
 -- the same where the delay timer of the first may be a bound
 pub ticks_same : (p : Setting) (s : State) → IsProper s → AlikeTicks p 0 s s

@@ -1,14 +1,17 @@
 -- What a property has in two states that are alike in all that it names.
-use Rattle.std.proofs.Common.{◌≡◌, ◌==◌, ℕ, ◌+◌, ◌*◌, Bool, true, false, not, ◌&&◌, ◌||◌, is_some, List, [], ◌∷◌, Option, Some, None, option_map, position, length, slice_index, ap, sym, ◌∙◌, refl, arith, if◌then◌else◌}
+use Rattle.std.proofs.Common.{◌≡◌, ◌==◌, ℕ, ◌+◌, ◌*◌, Bool, true, false, not, ◌&&◌, ◌||◌, is_some, List, [], ◌∷◌, Option, Some, None, option_map, position, length, nat_lt, slice_index, ap, sym, ◌∙◌, refl, arith, if◌then◌else◌}
 use Rattle.std.proofs.lemmas.Bool.{eqb-true, not-true}
 use Rattle.std.proofs.lemmas.Iterator.Adapters.{position_from-zero}
 use Rattle.std.proofs.lemmas.List.Sums.{sum_by-cons}
 use Rattle.std.specs.List.{list_all, list_any, position_from, sum_by}
 use Rattle.chip_machine.specs.declared.stop.Stop.{Stop}
-use Rattle.chip_machine.specs.Forgotten.{has_part, next_instr, register_part, index_part, screen_part}
+use Rattle.chip_machine.specs.Forgotten.{has_byte, has_part, register_part, index_part, screen_part}
 use Rattle.chip_machine.specs.Points.{Points, is_lit}
 use Rattle.chip_machine.specs.Relevant.{Alike}
 use Rattle.chip_machine.specs.State.{Core, State}
+use Rattle.chip_machine.specs.Step.{word_at}
+use Rattle.chip_machine.specs.declared.limits.TheConstants.{LAST_WORD}
+use Rattle.chip_lang.specs.Decoding.{decode_of}
 use Rattle.chip_explore.specs.Property.{asks_keys, compares, holds_in, is_at, is_met, is_related, one_if, stored, sum_in, value_in}
 use Rattle.chip_explore.specs.Target.{is_address, met_by, met_in}
 use Rattle.chip_explore.specs.declared.known.Known.{Known}
@@ -88,6 +91,9 @@ module _ (p : Setting) (f : ℕ) (a b : State) (near : AlikeTicks p f a b) (goin
       omega arith
   delay_same true is false zero_is h = absurd (cc)
 
+  byte_same : (at : ℕ) → not (has_byte f at) ≡ true → slice_index a.memory at ≡ slice_index b.memory at
+  byte_same at h = alike.memory going at (not-true (has_byte f at) h)
+
   value_same : (item : Item) → is_item_known known item ≡ true → value_in a item ≡ value_in b item
   value_same (Register x) h = alike.registers going x (known_part f (register_part x) h)
   value_same Index h = alike.index going (known_part f index_part h)
@@ -96,9 +102,13 @@ module _ (p : Setting) (f : ℕ) (a b : State) (near : AlikeTicks p f a b) (goin
   value_same Depth h = ap (λ (c : Core). length c.frames) alike.others
   value_same High h = ap (λ (c : Core). one_if c.high) alike.others
   value_same AsksKeys h =
-      ap (λ (c : Core). one_if (asks_keys (next_instr (record { core = record a.core { pc = c.pc }; memory = a.memory })))) alike.others
-      ∙ ap (λ (m : List ℕ). one_if (asks_keys (next_instr (record { core = record a.core { pc = b.core.pc }; memory = m })))) alike.memory
-  value_same (Byte at) h = ap (λ (m : List ℕ). slice_index m at) alike.memory
+      let pc = a.core.pc in
+      let first = byte_same pc (both_left (not (has_byte f pc)) (not (has_byte f (pc + 1))) h) in
+      let second = byte_same (pc + 1) (both_right (not (has_byte f pc)) (not (has_byte f (pc + 1))) h) in
+      ap (λ (n : ℕ). one_if (asks_keys (if nat_lt LAST_WORD pc then None else decode_of (n * 256 + slice_index a.memory (pc + 1))))) first
+      ∙ ap (λ (n : ℕ). one_if (asks_keys (if nat_lt LAST_WORD pc then None else decode_of (slice_index b.memory pc * 256 + n)))) second
+      ∙ ap (λ (place : ℕ). one_if (asks_keys (if nat_lt LAST_WORD place then None else decode_of (word_at b.memory place)))) pc_same
+  value_same (Byte at) h = byte_same at h
   value_same (Pixel x y) h =
       ap (λ (lit : Points). one_if (is_lit lit (stored a.core.high x) (stored a.core.high y))) (alike.screen going (known_part f screen_part h))
       ∙ ap (λ (c : Core). one_if (is_lit b.core.lit (stored c.high x) (stored c.high y))) alike.others

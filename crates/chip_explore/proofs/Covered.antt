@@ -17,7 +17,7 @@ use Rattle.chip_explore.specs.Speeds.{AvoidsAtAnySpeed, run_ticking}
 use Rattle.chip_explore.specs.Target.{met_in}
 use Rattle.chip_explore.proofs.Asked.{met_same}
 use Rattle.chip_explore.proofs.Alike.{same_stop, through_member, ticks_same}
-use Rattle.chip_explore.proofs.Delays.{Delayed, alike_silent, delayed_step, read_step, ticked_step, timed_reads, within_bound, with_timers}
+use Rattle.chip_explore.proofs.Delays.{Delayed, after_delayed, alike_silent, delayed_step, read_step, ticked_step, timed_reads, unread_delayed, within_bound, with_timers}
 use Rattle.chip_explore.specs.declared.setting.Setting.{Setting}
 use Rattle.chip_explore.specs.inner.Cover.{phase, tick_at, View, IsFine, forgotten_at, Joins, SafeFor, Safe, GoesBy, GoesTo, IsTaken}
 use Rattle.chip_explore.specs.inner.Delays.{AlikeTicks, bound_after, delay_register, read_as, timed_register, with_delay}
@@ -79,9 +79,9 @@ module _ (alike : AlikeSteps) (grow : DrawsGrow) where
         }
 
     -- where it has free ticks: after a step without a tick, of the state with the delay timer of the run
-    slowed : p.free ≡ true → (d : ℕ) → Alike f (with_delay d a) s → (next : State) → Delayed next (step_of (with_delay d a) keys false)
+    slowed : p.free ≡ true → (d : ℕ) → d ≤ a.core.delay → Alike f (with_delay d a) s → (next : State) → Delayed next (step_of (with_delay d a) keys false)
         → IsForgottenAfter f a next.core.pc after → AlikeTicks p after next (step_of s keys tick)
-    slowed free d same next delayed is_after =
+    slowed free d low same next delayed is_after =
         let t = ticked_step (with_delay d a) keys tick in
         let least = delayed.most in
         let less : t.delay ≤ (step_of (with_delay d a) keys false).core.delay = t.most in
@@ -89,7 +89,8 @@ module _ (alike : AlikeSteps) (grow : DrawsGrow) where
         let whole : step_of (with_delay d a) keys tick ≡ with_timers t.delay t.sound next = t.is ∙ ap (with_timers t.delay t.sound) delayed.is in
         let there : next.core.pc ≡ (step_of (with_delay d a) keys tick).core.pc = sym (ap (λ (b : State). b.core.pc) whole) in
         let made : Alike after (step_of (with_delay d a) keys tick) (step_of s keys tick) =
-        alike f after (with_delay d a) s keys tick same unread (subst (λ (pc : ℕ). IsForgottenAfter f a pc after) there is_after) low_a low_s in
+        alike f after (with_delay d a) s keys tick same (unread_delayed a d low f unread)
+        (subst (λ (pc : ℕ). IsForgottenAfter f (with_delay d a) pc after) there (after_delayed a d low f next.core.pc after is_after)) low_a low_s in
         record {
           delay = t.delay;
           most = omega arith;
@@ -107,12 +108,12 @@ module _ (alike : AlikeSteps) (grow : DrawsGrow) where
         let most = near.most in
         let d : near.delay ≡ a.core.delay = omega arith in
         subst (λ (t : Bool). AlikeTicks p after (step_of a keys t) (step_of s keys tick)) (sym same)
-        (slowed is a.core.delay (subst (λ (d : ℕ). Alike f (with_delay d a) s) d near.alike) (step_of a keys false)
+        (slowed is a.core.delay (omega arith) (subst (λ (d : ℕ). Alike f (with_delay d a) s) d near.alike) (step_of a keys false)
         (record { delay = (step_of a keys false).core.delay; most = omega arith; is = refl })
         (subst (λ (t : Bool). IsForgottenAfter f a (step_of a keys t).core.pc after) same is_after))
     untimed true is false zero_is u ours same near is_after =
         subst (λ (t : Bool). AlikeTicks p after (step_of a keys t) (step_of s keys tick)) (sym same)
-        (slowed is near.delay near.alike (step_of a keys false) (delayed_step a near.delay near.most keys u)
+        (slowed is near.delay near.most near.alike (step_of a keys false) (delayed_step a near.delay near.most keys u)
         (subst (λ (t : Bool). IsForgottenAfter f a (step_of a keys t).core.pc after) same is_after))
 
     -- a step that does
@@ -125,7 +126,7 @@ module _ (alike : AlikeSteps) (grow : DrawsGrow) where
         let theirs : step_of (with_delay d a) keys false ≡ bare = read_step (with_delay d a) x keys reads in
         let same : read_as d a ≡ with_delay (bound_after d a.core.delay) bare = ap (with_delay (bound_after d a.core.delay)) ours in
         subst (λ (b : State). AlikeTicks p after b (step_of s keys tick)) (sym same)
-        (slowed free d near.alike (with_delay (bound_after d a.core.delay) bare)
+        (slowed free d near.most near.alike (with_delay (bound_after d a.core.delay) bare)
         (record { delay = d; most = within_bound d a.core.delay near.most; is = theirs })
         (subst (λ (b : State). IsForgottenAfter f a b.core.pc after) same is_after))
 

@@ -9,7 +9,7 @@ use Rattle.chip_lang.specs.declared.instr.Instr.TheVariants as row
 use Rattle.chip_machine.specs.declared.limits.TheConstants.{LAST_WORD}
 use Rattle.chip_machine.specs.declared.stop.Stop.{Stop}
 use Rattle.chip_machine.specs.declared.stop.Stop.TheVariants as cause
-use Rattle.chip_machine.specs.Forgotten.{next_instr}
+use Rattle.chip_machine.specs.Forgotten.{AreKept, IsForgottenAfter, IsUnread, is_in_row, loaded, next_instr, stored as written}
 use Rattle.chip_machine.specs.Relevant.{Alike}
 use Rattle.chip_machine.specs.Scroll.{scrolled_down, scrolled_right, scrolled_left}
 use Rattle.chip_machine.specs.Sprite.{sprite_bytes}
@@ -125,6 +125,47 @@ module _ (c : Core) (d : ℕ) (low : d ≤ c.delay) where
   at_slow true word u = refl
   at_slow false None u = refl
   at_slow false (Some instr) u = row_slow instr u
+
+-- how many bytes at I a step reads and writes doesn't depend on the delay timer
+abbrev Counts : Effect → Effect → Type 0
+Counts a b = (loaded a ≡ loaded b) × (written a ≡ written b)
+
+slow_counts : (x y : Effect) → Slow x y → Counts x y
+slow_counts (Stops a) (Stops b) h = (refl, refl)
+slow_counts (Changes a) (Changes b) h = (refl, refl)
+slow_counts (Keyed f) (Keyed g) h = (refl, refl)
+slow_counts (Loads m f) (Loads n g) h = (h.0, refl)
+slow_counts (Stores x a) (Stores y b) h = (refl, ap (λ (bytes : List ℕ). length bytes) h.0)
+slow_counts _ _ h = absurd h
+
+module _ (c : Core) (d : ℕ) (low : d ≤ c.delay) where
+  abbrev slowed : Core
+  slowed = record c { delay = d }
+
+  row_counts : (instr : Instr) → Counts (effect instr c) (effect instr slowed)
+  unfolding effect
+  row_counts (row.ReadDelay x) = (refl, refl)
+  row_counts instr = slow_counts (effect instr c) (effect instr slowed) (row_slow c d low instr refl)
+
+  at_counts : (past : Bool) (word : Option Instr) → Counts (if past then Stops cause.PcOutOfRange else effect_of_word word c) (if past then Stops cause.PcOutOfRange else effect_of_word word slowed)
+  at_counts true word = (refl, refl)
+  at_counts false None = (refl, refl)
+  at_counts false (Some instr) = row_counts instr
+
+module _ (s : State) (d : ℕ) (low : d ≤ s.core.delay) (f : ℕ) where
+  counts : Counts (effect_at s) (effect_at (with_delay d s))
+  counts = at_counts s.core d low (nat_lt LAST_WORD s.core.pc) (decode_of (word_at s.memory s.core.pc))
+
+  pub unread_delayed : IsUnread f s → IsUnread f (with_delay d s)
+  unread_delayed h =
+      record { parts = h.parts; fetched = h.fetched; loaded = subst (λ (n : ℕ). AreKept f s.core.index n) counts.0 h.loaded }
+
+  pub after_delayed : (to after : ℕ) → IsForgottenAfter f s to after → IsForgottenAfter f (with_delay d s) to after
+  after_delayed to after h =
+      record {
+        parts = h.parts;
+        bytes = λ at was unwritten. h.bytes at was (subst (λ (n : ℕ). is_in_row s.core.index n at ≡ false) (sym counts.1) unwritten);
+      }
 
 -- a state is like another one but for a delay timer that is at most that one's
 pub record Delayed (a b : State) : Type 0 where
@@ -253,12 +294,13 @@ alike_silent f delay sound a b h =
     record {
       proper = record { memory_size = h.proper.memory_size };
       others = h.others;
-      memory = h.memory;
+      size = h.size;
       draws = h.draws;
       count = h.count;
       registers = h.registers;
       index = h.index;
       screen = h.screen;
+      memory = h.memory;
     }
 
 pub alike_delayed : (f d : ℕ) (a b : State) → Alike f a b → Alike f (with_delay d a) (with_delay d b)
@@ -266,12 +308,13 @@ alike_delayed f d a b h =
     record {
       proper = record { memory_size = h.proper.memory_size };
       others = ap (λ (o : Core). record o { delay = d }) h.others;
-      memory = h.memory;
+      size = h.size;
       draws = h.draws;
       count = h.count;
       registers = h.registers;
       index = h.index;
       screen = h.screen;
+      memory = h.memory;
     }
 
 pub within_bound : (value bound : ℕ) → value ≤ bound → value ≤ bound_after value bound

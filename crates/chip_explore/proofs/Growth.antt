@@ -7,7 +7,7 @@ use Rattle.std.proofs.Math.Seq.{get_or-append_seam}
 use Rattle.std.proofs.Common.{◌==◌}
 use Rattle.std.proofs.lemmas.Nat.Bits.{bit_at_above}
 use Rattle.chip_machine.specs.Choices.{IsChoice}
-use Rattle.chip_machine.specs.Forgotten.{IsUnread}
+use Rattle.chip_machine.specs.Forgotten.{AreWithin, IsUnread}
 use Rattle.chip_machine.specs.Relevant.{Alike}
 use Rattle.chip_machine.specs.State.{State}
 use Rattle.chip_machine.specs.Step.{is_key_down, step_of}
@@ -18,8 +18,9 @@ use Rattle.chip_explore.specs.declared.setting.Setting.{Setting}
 use Rattle.chip_explore.specs.declared.ways.Reading.{Reading}
 use Rattle.chip_explore.specs.Executed.{is_among, is_at_one}
 use Rattle.chip_explore.specs.inner.Kept.{state_at}
-use Rattle.chip_explore.specs.inner.Cover.{phase, tick_at, View, Grows, IsFine, Moves, AreWithin, forgotten_at, Joins, SafeFor, Safe, IsTaken, Extends, GoesTo, GoesOn, GoesBy, HasChoices, HasValues, Holds, IsAt, Goes, Leads, LeadsAs, view_of}
+use Rattle.chip_explore.specs.inner.Cover.{phase, tick_at, View, Grows, IsFine, Moves, forgotten_at, Joins, SafeFor, Safe, IsTaken, Extends, GoesTo, GoesOn, GoesBy, HasChoices, HasValues, Holds, IsAt, Goes, Leads, LeadsAs, view_of}
 use Rattle.chip_explore.specs.inner.Delays.{read_as, timed_register}
+use Rattle.chip_explore.proofs.Alike.{alike_through, alike_within, within_both}
 
 -- what is fine stays so where more addresses are noted
 or_more : (stopped early late : Bool) → (early ≡ true → late ≡ true) → (stopped || early) ≡ true → (stopped || late) ≡ true
@@ -231,19 +232,44 @@ pub safe_joined : (p : Setting) (m n : Members) → Goes p m n → (f : ℕ) (s 
 safe_joined p m n more f s t fine joins =
     record { moves = 0; path = inr (still_fine p m.executed n.executed more.extends.executed f s fine, inr joins) }
 
-pub safe_lowered : (p : Setting) (m n : Members) → Goes p m n → (place f : ℕ) (s : State) (t : ℕ) → IsFine p m.executed f s → IsAt p m place f s t → slice_index n.steps.items place ≡ t → Safe p (view_of n) f s t
-safe_lowered p m n more place f s t fine at lowered =
+-- a kept state that is like one, which was reached at that step or before
+pub joins_at : (p : Setting) (m : Members) (place f : ℕ) (s : State) (t : ℕ) → IsAt p m place f s t → slice_index m.steps.items place ≤ t → Joins p (view_of m) f s t
+joins_at p m place f s t at early =
+    record { place = place; kept = at.kept; early = early; phased = at.phased; within = at.within; alike = at.alike }
+
+pub joins_lowered : (p : Setting) (m n : Members) → Goes p m n → (place f : ℕ) (s : State) (t : ℕ) → IsAt p m place f s t → slice_index n.steps.items place ≡ t → Joins p (view_of n) f s t
+joins_lowered p m n more place f s t at lowered =
     let kept = at.kept in
     let count = more.extends.count in
-    safe_joined p m n more f s t fine
-    (record {
+    record {
       place = place;
       kept = omega arith;
       early = omega arith;
       phased = ap (phase p) lowered;
       within = still_within p (view_of m) (view_of n) more.extends f place kept at.within;
       alike = still_alike p (view_of m) (view_of n) more.extends s place kept at.alike;
-    })
+    }
+
+-- what is known of a state in which bytes that are forgotten are other ones
+joins_as : (p : Setting) (v : View) (f g : ℕ) (s erased : State) (t : ℕ) → AreWithin f g → Alike g erased s → Joins p v g erased t → Joins p v f s t
+joins_as p v f g s erased t within same joins =
+    let all = forgotten_at v joins.place in
+    record {
+      place = joins.place;
+      kept = joins.kept;
+      early = joins.early;
+      phased = joins.phased;
+      within = within_both f g all within joins.within;
+      alike = alike_through all (v.member joins.place) erased joins.alike s (alike_within g erased s same all joins.within);
+    }
+
+pub safe_erased : (p : Setting) (m n : Members) → Goes p m n → (f g : ℕ) (s erased : State) (t : ℕ) → IsFine p m.executed f s → AreWithin f g → Alike g erased s
+    → (n.limit ≤ t) ⊎ Joins p (view_of n) g erased t → Safe p (view_of n) f s t
+safe_erased p m n more f g s erased t fine within same ends =
+    elim ends [
+      | inl past ↦ record { moves = 0; path = inl past }
+      | inr joins ↦ safe_joined p m n more f s t fine (joins_as p (view_of n) f g s erased t within same joins)
+    ]
 
 pub goes_more : (p : Setting) (l m n : Members) → Goes p l m → Goes p m n → Goes p l n
 goes_more p l m n one two = record { start = two.start ∙ one.start; extends = extends_more p (view_of l) (view_of m) (view_of n) one.extends two.extends; holds = two.holds }

@@ -47,6 +47,8 @@ pub(crate) struct Backdrops {
     by_sum: HashMap<u64, Rc<Backdrop>>,
     /// About how many bytes they take.
     pub(crate) room: u64,
+    /// Whether one is new, and not noted yet.
+    pub(crate) is_new: bool,
 }
 
 impl RowPatch {
@@ -175,6 +177,7 @@ impl Backdrops {
             alloc,
             by_sum: HashMap::new(alloc),
             room: 0,
+            is_new: false,
         }
     }
 
@@ -191,6 +194,7 @@ impl Backdrops {
         let backdrop = Rc::new(self.alloc, Backdrop::of(self.alloc, base, machine)?)?;
         self.room = self.room.saturating_add(backdrop.room());
         self.by_sum.insert(sum, backdrop.clone()?)?;
+        self.is_new = true;
         Ok(backdrop)
     }
 }

@@ -1,7 +1,9 @@
 //! In which order states are taken up, where one may be found, and how each was reached. Nothing is
 //! claimed of it: what it answers is checked.
 
+use crate::backdrop::{Backdrop, Backdrops};
 use crate::guesses::Guesses;
+use crate::kept::Kept;
 use crate::leg::Runner;
 use crate::limits::{MOST_PRESSES, MOST_WAYS};
 use crate::seen::Seen;
@@ -130,6 +132,18 @@ impl Finder {
         } else {
             self.guesses.at(runner.machine.pc())
         }
+    }
+
+    /// Notes which bytes of the memory changed in the last of the states, where it is the first one with its
+    /// backdrop.
+    pub(crate) fn note_changed(&mut self, backdrops: &mut Backdrops, states: &[Kept]) {
+        if backdrops.is_new
+            && let Some(kept) = states.last()
+        {
+            let backdrop: &Backdrop = &kept.backdrop;
+            self.guesses.note_changed(&backdrop.bytes, states.len());
+        }
+        backdrops.is_new = false;
     }
 
     /// The place of a state with this sum, if one is known.

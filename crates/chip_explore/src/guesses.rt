@@ -1,50 +1,71 @@
 //! What of a state is taken to be read by no later step. Nothing is claimed of it: a step that reads
 //! some of it refutes it, and the search begins anew.
 
-use chip_machine::Forgotten;
+use crate::backdrop::BytePatch;
+use crate::window::Window;
 use chip_machine::limits::MEMORY_BYTES;
+use chip_machine::{Forgotten, Machine};
 use std::alloc::{AllocError, Global};
 
-/// For each address the parts that are forgotten of a state whose next step is there and can tell
-/// keys apart. None where there was no such state yet.
+/// For each address the parts that are forgotten of a state whose next step is there and can tell keys
+/// apart, and the bytes that are forgotten of all states. None where there was no such state yet.
 #[derive(Drop)]
 pub(crate) struct Guesses {
     parts: Vec<Option<Forgotten>>,
-    /// Whether a step refuted one of them.
+    window: Window,
+    /// Whether a step refuted one of them, or the search is to begin anew with another window.
     pub(crate) is_refuted: bool,
     /// Whether nothing is forgotten of any state.
     gives_up: bool,
 }
 
 impl Guesses {
-    /// All is forgotten of each state.
-    pub(crate) fn new(alloc: Global) -> Result<Guesses, AllocError> {
+    /// All parts and bytes are forgotten of each state of a search from a machine, with these keys.
+    pub(crate) fn new(alloc: Global, start: &Machine, keys: u16) -> Result<Guesses, AllocError> {
         let mut parts = Vec::with_capacity(alloc, MEMORY_BYTES)?;
         parts.resize(MEMORY_BYTES, None)?;
         Ok(Guesses {
             parts,
+            window: Window::new(alloc, start, keys)?,
             is_refuted: false,
             gives_up: false,
         })
     }
 
-    /// The same guesses for another search.
+    /// The same guesses for another search, with the bytes that are best by what was seen.
     pub(crate) fn again(self) -> Guesses {
-        Guesses {
-            is_refuted: false,
-            ..self
-        }
+        let mut guesses = self;
+        guesses.is_refuted = false;
+        guesses.window.choose();
+        guesses
     }
 
-    /// The parts that are forgotten of a state whose next step is at an address.
+    /// What is forgotten of a state whose next step is at an address: never the bytes there.
     pub(crate) fn at(&mut self, address: u16) -> Forgotten {
         if self.gives_up {
             return Forgotten::nothing();
         }
+        let bytes = self.window.bytes().without(Forgotten::bytes(address, 2));
         match self.parts.get_mut(address as usize) {
-            Some(parts) => *parts.get_or_insert(Forgotten::all()),
+            Some(parts) => bytes.with(*parts.get_or_insert(Forgotten::all())),
             None => Forgotten::nothing(),
         }
+    }
+
+    /// Notes that bytes of the memory change, where so many states are kept.
+    pub(crate) fn note_changed(&mut self, bytes: &[BytePatch], states: usize) {
+        if self.window.note(bytes, states) {
+            self.is_refuted = true;
+        }
+    }
+
+    /// Notes that a step read some of the bytes that are forgotten, where so many states are kept: they are
+    /// forgotten of no state in the next search.
+    pub(crate) fn note_read(&mut self, read: Forgotten, states: usize) {
+        if !self.is_refuted {
+            self.window.note_read(read, states);
+        }
+        self.is_refuted = true;
     }
 
     /// Forgets nothing of any state, so that no step refutes that.

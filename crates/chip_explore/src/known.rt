@@ -14,6 +14,8 @@ pub(crate) struct Known {
     pub(crate) forgotten: Forgotten,
     /// Its delay timer is that of a run, and no mere bound.
     pub(crate) has_delay: bool,
+    /// Where its next instruction stands.
+    pub(crate) pc: u16,
 }
 
 impl Known {
@@ -25,7 +27,12 @@ impl Known {
             Item::Index => !self.forgotten.has_index(),
             Item::Pixel { .. } => !self.forgotten.has_screen(),
             Item::Delay => self.has_delay,
-            _ => true,
+            Item::Byte(at) => !self.forgotten.has_byte(usize::from(at)),
+            Item::AsksKeys => {
+                let at = usize::from(self.pc);
+                !self.forgotten.has_byte(at) && !self.forgotten.has_byte(at + 1)
+            }
+            Item::Place | Item::Depth | Item::High => true,
         }
     }
 

@@ -1,12 +1,15 @@
 //! Some steps in a row that tell neither keys nor values of the delay timer apart, and read nothing
 //! that is forgotten, nor do the properties that are asked of the states on the way.
 
-ghost use Rattle.std.specs.Prelude.{◌≡◌, ◌<◌, ◌≤◌, ◌-◌, ◌^◌, IfOk, IfSome, IsNone};
+ghost use Rattle.std.specs.Prelude.{◌≡◌, ◌<◌, ◌≤◌, ◌-◌, ◌^◌, length, IfOk, IfSome, IsNone};
+ghost use Rattle.chip_machine.specs.Relevant.{Alike};
 ghost use Rattle.chip_explore.specs.inner.Cover.{Grows, IsEnd, Moves, Safe, View};
 
 use crate::executed::Executed;
+use crate::kept::Base;
 use crate::limits::MOST_QUIET_STEPS;
 use crate::setting::Setting;
+use chip_machine::limits::MEMORY_BYTES;
 use chip_machine::{Forgotten, Machine, Touch};
 use std::alloc::{AllocError, Global};
 
@@ -104,6 +107,15 @@ impl Runner {
         }
     }
 
+    /// Puts bytes of a base in the place of those that are to be forgotten, so that states that differ in
+    /// these alone are the same.
+    pub(crate) fn erase(&mut self, parts: Forgotten, base: &Base)
+        ensures alike { Alike parts self.new.machine self.old.machine }
+        ensures same { self.new.forgotten ≡ self.old.forgotten }
+    {
+        erase(&mut self.machine, parts, base.machine.memory());
+    }
+
     /// Why the steps in a row end at a step, if they do. Where the machine makes a step, its address
     /// is noted.
     fn end(
@@ -148,6 +160,24 @@ impl Runner {
             None
         } else {
             Some(End::Joined)
+        }
+    }
+}
+
+/// Puts bytes of another memory in the place of those that are to be forgotten.
+fn erase(machine: &mut Machine, parts: Forgotten, memory: &[u8])
+    requires { length memory.now ≡ MEMORY_BYTES }
+    ensures { Alike parts machine.new machine.old }
+{
+    let size = machine.memory().len();
+    if !parts.has_bytes() {
+        return;
+    }
+    let (_, bytes) = parts.numbers();
+    for place in 0..u64::BITS.saturating_sub(bytes.leading_zeros()) {
+        let at = usize::from(parts.window()) + place as usize;
+        if at < size && parts.has_byte(at) {
+            machine.poke(at as u16, memory[at]);
         }
     }
 }

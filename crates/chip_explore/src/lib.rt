@@ -25,6 +25,7 @@ mod sum;
 mod target;
 mod watcher;
 mod ways;
+mod window;
 
 pub use causes::Causes;
 pub use executed::Executed;

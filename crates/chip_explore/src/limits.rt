@@ -14,6 +14,16 @@ pub(crate) const FREE_SHARE: usize = 12;
 /// In so many ways it goes on from a state then at most, on average.
 pub(crate) const MOST_WAYS: u64 = 4;
 
+/// So many steps of one run are made before a search, to see which bytes they store.
+pub(crate) const STEPS_TRIED: u32 = 4_000;
+
+/// Searches that begin anew since bytes of the memory are forgotten keep so many states at most, in all: no
+/// byte is forgotten after that.
+pub(crate) const MOST_STATES_FOR_BYTES: usize = 2_000;
+
+/// To begin a search anew takes about as long as it takes to keep so many states.
+pub(crate) const STATES_FOR_A_SEARCH: usize = 200;
+
 /// How often a search begins anew at most, since a step refuted what it took for granted.
 pub(crate) const MOST_ATTEMPTS: u32 = 10_000;
 

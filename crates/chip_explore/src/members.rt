@@ -5,7 +5,7 @@ ghost use Rattle.chip_machine.specs.State.{IsProper};
 ghost use Rattle.chip_explore.specs.Executed.{is_at_one};
 ghost use Rattle.chip_explore.specs.inner.Kept.{state_at};
 ghost use Rattle.chip_explore.specs.inner.Delays.{delay_register, read_as};
-ghost use Rattle.chip_explore.specs.inner.Cover.{phase, view_of, AreWithin, Holds, Goes, IsAt, IsTaken, Joins};
+ghost use Rattle.chip_explore.specs.inner.Cover.{phase, view_of, Holds, Goes, IsAt, IsTaken, Joins};
 
 use crate::executed::Executed;
 use crate::kept::{Base, Kept};
@@ -154,24 +154,21 @@ impl Members {
     }
 
     /// Keeps the state of a machine, which was reached at a step, without the parts that are to be
-    /// forgotten of it: the answer is whether what is to be kept is that state. What was forgotten of
-    /// it before is among these parts. The probe is room for it. All room is taken before the first
-    /// change.
+    /// forgotten of it: the answer is whether what is to be kept is that state. The probe is room for
+    /// it. All room is taken before the first change.
     pub(crate) fn add(
         &mut self,
         setting: &Setting<'_>,
         kept: Kept,
         parts: Forgotten,
-        forgotten: Forgotten,
         machine: &Machine,
         step: u64,
         probe: &mut Base,
     ) -> Result<bool, AllocError>
-        requires holds { Holds setting.now self.old }
-        requires within { AreWithin forgotten parts }
+        requires { Holds setting.now self.old }
         ensures goes { Goes setting.now self.old self.new }
         ensures joins { IfOk result (λ answer. IsTrue answer
-            → Joins setting.now (view_of self.new) forgotten machine.now step) }
+            → Joins setting.now (view_of self.new) parts machine.now step) }
         ensures few { length self.new.steps.items ≤ length self.old.steps.items + 1 }
     {
         let is_same = kept.is_of(&self.base, machine, probe)?;

@@ -106,14 +106,17 @@ impl Item {
         }
     }
 
-    /// The parts of a state that it names.
-    fn parts(self) -> Forgotten {
-        match self {
+    /// What it names of that which is forgotten, where pc is there.
+    fn named(self, forgotten: Forgotten, pc: u16) -> Forgotten {
+        let named = match self {
             Item::Register(x) => Forgotten::register(x),
             Item::Index => Forgotten::index(),
             Item::Pixel { .. } => Forgotten::screen(),
-            _ => Forgotten::nothing(),
-        }
+            Item::Byte(at) => Forgotten::bytes(at, 1),
+            Item::AsksKeys => Forgotten::bytes(pc, 2),
+            Item::Place | Item::Delay | Item::Depth | Item::High => Forgotten::nothing(),
+        };
+        forgotten.shared_with(named)
     }
 }
 
@@ -169,12 +172,12 @@ impl Sum {
         self.terms.iter().any(|term| term.item == Item::Delay)
     }
 
-    fn parts(&self) -> Forgotten {
-        let mut parts = Forgotten::nothing();
+    fn named(&self, forgotten: Forgotten, pc: u16) -> Forgotten {
+        let mut named = Forgotten::nothing();
         for term in &self.terms {
-            parts = parts.with(term.item.parts());
+            named = named.with(term.item.named(forgotten, pc));
         }
-        parts
+        named
     }
 }
 
@@ -257,14 +260,14 @@ impl Property {
         })
     }
 
-    /// The parts of a state that it names.
-    pub(crate) fn parts(&self) -> Forgotten {
-        let mut parts = Forgotten::nothing();
+    /// What it names of that which is forgotten, where pc is there.
+    pub(crate) fn named(&self, forgotten: Forgotten, pc: u16) -> Forgotten {
+        let mut named = Forgotten::nothing();
         for comparison in &self.condition.comparisons {
-            parts = parts
-                .with(comparison.left.parts())
-                .with(comparison.right.parts());
+            named = named
+                .with(comparison.left.named(forgotten, pc))
+                .with(comparison.right.named(forgotten, pc));
         }
-        parts
+        named
     }
 }

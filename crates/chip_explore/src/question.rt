@@ -487,7 +487,7 @@ fn search<W: Watcher>(
     ensures any_speed { IfOk result (λ explored. explored.is_at_any_speed ≡ true
         → NeverAtAnySpeed setting.now.allowed setting.now.target start.now) }
 {
-    let guesses = Guesses::new(alloc)?;
+    let guesses = Guesses::new(alloc, start, setting.allowed)?;
     let mut last = search_once(alloc, start, setting, bounds, watcher, order, seen, guesses)?;
     for _attempt in 0..MOST_ATTEMPTS {
         if !last.is_refuted || last.explored.is_stopped {

@@ -1,10 +1,10 @@
 //! The search.
 
-ghost use Rattle.std.specs.Prelude.{◌≡◌, ◌<◌, ◌≤◌, ◌+◌, ◌-◌, ◌^◌, ℕ, length, IfOk, IfSome, OnOk, IsTrue, true};
+ghost use Rattle.std.specs.Prelude.{◌≡◌, ◌<◌, ◌≤◌, ◌+◌, ◌-◌, ◌^◌, ◌⊎◌, ℕ, length, IfOk, IfSome, OnOk, IsTrue, true};
 ghost use Rattle.chip_machine.specs.Step.{step_of};
 ghost use Rattle.chip_machine.specs.Step as spec;
 ghost use Rattle.chip_explore.specs.Answers.{most_ways};
-ghost use Rattle.chip_explore.specs.inner.Cover.{forgotten_at, view_of, Holds, HasChoices, Goes, HasValues, HasWays, IsFine, Leads, LeadsAs, Safe};
+ghost use Rattle.chip_explore.specs.inner.Cover.{forgotten_at, view_of, Holds, HasChoices, Goes, HasValues, HasWays, IsFine, Joins, Leads, LeadsAs, Safe};
 
 use crate::backdrop::Backdrops;
 use crate::finder::{Finder, Origin, Turn};
@@ -40,6 +40,10 @@ impl Search {
     fn refute(&mut self, origin: Origin, read: Forgotten)
         ensures { self.new.members ≡ self.old.members }
     {
+        if read.has_bytes() {
+            let states = self.members.states.len();
+            return self.finder.guesses.note_read(read, states);
+        }
         let is_first = !self.finder.guesses.is_refuted;
         self.finder.guesses.is_refuted = true;
         let mut way = origin;
@@ -81,12 +85,35 @@ impl Search {
             self.refute(origin, forgotten.without(parts));
             return Ok(());
         }
+        self.runner.erase(parts, &self.members.base);
+        let joined = self.join_erased(setting, parts, step, origin);
+        self.finder
+            .note_changed(&mut self.backdrops, &self.members.states);
+        joined
+    }
+
+    /// Keeps that state, in which these parts and bytes are forgotten, unless one like it is kept.
+    fn join_erased(
+        &mut self,
+        setting: &Setting<'_>,
+        parts: Forgotten,
+        step: u64,
+        origin: Origin,
+    ) -> Result<(), AllocError>
+        requires rate { 0 < setting.now.rate }
+        requires holds { Holds setting.now self.old.members }
+        ensures goes { Goes setting.now self.old.members self.new.members }
+        ensures joins { OnOk result ((self.new.members.limit ≤ step)
+            ⊎ Joins setting.now (view_of self.new.members) parts self.old.runner.machine step) }
+        ensures few { length self.new.members.steps.items
+            ≤ length self.old.members.steps.items + 1 }
+    {
         let machine = &self.runner.machine;
         let sums = Sums::of(machine, parts, setting.phase(step));
         if let Some(place) = self.finder.place(sums.state)
             && self
                 .members
-                .is_at(setting, place, forgotten, machine, step, &mut self.probe)?
+                .is_at(setting, place, parts, machine, step, &mut self.probe)?
         {
             let before = self.members.step(place);
             if step < before {
@@ -104,15 +131,10 @@ impl Search {
             &mut self.backdrops,
             sums.backdrop,
         )?;
-        if !self.members.add(
-            setting,
-            kept,
-            parts,
-            forgotten,
-            machine,
-            step,
-            &mut self.probe,
-        )? {
+        if !self
+            .members
+            .add(setting, kept, parts, machine, step, &mut self.probe)?
+        {
             self.members.lower_limit(setting, step);
             return Ok(());
         }

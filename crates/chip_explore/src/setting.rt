@@ -82,6 +82,7 @@ impl<'a> Setting<'a> {
         let known = Known {
             forgotten,
             has_delay: !self.free || machine.delay() == 0,
+            pc: machine.pc(),
         };
         known.has_properties(machine.pc(), self.target.properties)
     }
@@ -92,10 +93,10 @@ impl<'a> Setting<'a> {
         let mut asked = Forgotten::nothing();
         for property in self.target.properties {
             if property.is_at(machine.pc()) {
-                asked = asked.with(property.parts());
+                asked = asked.with(property.named(forgotten, machine.pc()));
             }
         }
-        forgotten.without(forgotten.without(asked))
+        asked
     }
 
     /// The register that the next step of a machine sets to the delay timer, where that may have one

@@ -79,17 +79,6 @@ fn stored_sum(machine: &Machine) -> u64 {
     sum
 }
 
-/// The number of some parts: I at bit 0, the screen at bit 1, and register x at bit x + 2.
-fn number_of(parts: Forgotten) -> u64 {
-    let mut number = u64::from(parts.has_index()) + 2 * u64::from(parts.has_screen());
-    for register in 0..16u8 {
-        if parts.has_register(register) {
-            number |= 4 << register;
-        }
-    }
-    number
-}
-
 /// The sums of a state.
 #[derive(Clone, Copy)]
 pub(crate) struct Sums {
@@ -101,11 +90,13 @@ pub(crate) struct Sums {
 }
 
 impl Sums {
-    /// Those of a machine of which some parts are forgotten.
+    /// Those of a machine of which some parts are forgotten, and some bytes, in whose place those of a
+    /// base stand.
     pub(crate) fn of(machine: &Machine, forgotten: Forgotten, phase: u64) -> Sums {
         let stored = stored_sum(machine);
         let screen = screen_sum(machine);
-        let mut state = add(add(stored, phase), number_of(forgotten));
+        let (parts, bytes) = forgotten.numbers();
+        let mut state = add(add(add(stored, phase), parts), bytes);
         if !forgotten.has_screen() {
             state = add(state, screen);
         }

@@ -1,3 +1,4 @@
+pub mod Accesses
 pub mod Agree
 pub mod BitLemmas
 pub mod Blocks

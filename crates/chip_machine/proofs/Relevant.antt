@@ -4,9 +4,10 @@ use Rattle.std.proofs.Common.{◌≡◌, ℕ, ◌+◌, ◌-◌, ◌*◌, ◌/◌
 use Rattle.std.specs.FinSet as set
 use Rattle.std.specs.List.{list_all, range_with_len}
 use Rattle.std.proofs.Math.Nat.{mod-add-div', add-mul-mod_self_right}
-use Rattle.std.proofs.lemmas.Bool.{eqb-true, ltb-false, leb-false, or_cases, or_parts, or_right}
+use Rattle.std.proofs.lemmas.Bool.{and_from, and_parts, and_right, cases_Bool, cases_lt, eqb-true, le-leb, leb-false, leb-true, lt-ltb, ltb-false, ltb-true, or_cases, or_parts, or_right}
 use Rattle.std.proofs.lemmas.Grind.{same_number_lists}
-use Rattle.std.proofs.lemmas.List.{get_or-take, length-drop, length-take}
+use Rattle.std.proofs.lemmas.List.{get_or-drop, get_or-take, length-append, length-drop, length-take}
+use Rattle.std.proofs.lemmas.Nat.Bits.{bit_at-zero}
 use Rattle.std.proofs.lemmas.List.FromFn.{get_or-range_with_len, length-range_with_len}
 use Rattle.chip_lang.specs.Decoding.{decode_of}
 use Rattle.chip_lang.specs.declared.instr.Instr.{Instr}
@@ -15,7 +16,7 @@ use Rattle.chip_lang.specs.declared.limits.TheConstants.{MEMORY_BYTES}
 use Rattle.chip_machine.specs.declared.limits.TheConstants.{LAST_WORD}
 use Rattle.chip_machine.specs.declared.stop.Stop.{Stop}
 use Rattle.chip_machine.specs.declared.stop.Stop.TheVariants as cause
-use Rattle.chip_machine.specs.Forgotten.{first_registers, flag_part, has_part, index_part, is_forgotten_by, is_one_of, next_instr, parts_by, reads, register_part, screen_part, sets, spoils}
+use Rattle.chip_machine.specs.Forgotten.{IsUnread, first_registers, flag_part, has_byte, has_part, index_part, is_forgotten_by, is_in_row, is_one_of, loaded, next_instr, parts_by, reads, register_part, screen_part, sets, spoils, stored}
 use Rattle.chip_machine.specs.Points.{Points, meets, symmetric_difference}
 use Rattle.chip_machine.specs.Relevant.{Alike, AlikeSteps, DrawsGrow, QuietTick, others}
 use Rattle.chip_machine.specs.Scroll.{scrolled_down, scrolled_right, scrolled_left}
@@ -23,6 +24,7 @@ use Rattle.chip_machine.specs.Sprite.{covered, row_bytes, sprite_bytes}
 use Rattle.chip_machine.specs.State.{Core, State, IsProper, overwrite}
 use Rattle.chip_machine.specs.Step.{Effect, Stops, Changes, Keyed, Loads, Stores, bit_of, call, decimal_digits, draws_nothing, effect, effect_at, effect_of_word, go_to, has_wide_sixteen, index_past, is_key_down, is_past, load_flags, next, perform, reg, resized, return, scrolled_by, settle, skip_if, step_of, store_flags, super_only, take_key, ticked, with_flag, with_index, with_lit, with_reg, with_size, with_sprite, word_at}
 use Rattle.chip_machine.specs.inner.FrameTheorem.{step_keeps_proper}
+use Rattle.chip_machine.specs.inner.Overwritten.{get_or-overwrite_before, get_or-overwrite_past, get_or-overwrite_within}
 use Rattle.chip_machine.proofs.Agree.{Agree, both, first_known, first_off, in_row, known_at, less, load, none_known, off_by, put, reindex, relight, unset}
 
 -- ---- cores and effects
@@ -287,97 +289,195 @@ module _ (before : ℕ) (after : ℕ → Bool) (keys to : ℕ) (c : Core) (r : L
   word_like None u h g = refl
   word_like (Some instr) u h g = row_like instr u h g
 
-  at_like : (past : Bool) (word : Option Instr) → (let instr : Option Instr = if past then None else word in
+  at_like : (past : Bool) (word other : Option Instr) → (past ≡ false → word ≡ other) → (let instr : Option Instr = if past then None else word in
       known (parts_by (reads c.quirks) instr) ≡ true
       → LeftBy (parts_by (sets c.quirks (not (to == c.pc)) before) instr) (parts_by (spoils before) instr)
       → Leads keys to (if past then Stops cause.PcOutOfRange else effect_of_word word c)
-      → LikeBy (if past then Stops cause.PcOutOfRange else effect_of_word word c) (if past then Stops cause.PcOutOfRange else effect_of_word word d))
-  at_like true word u h g = refl
-  at_like false word u h g = word_like word u h g
+      → LikeBy (if past then Stops cause.PcOutOfRange else effect_of_word word c) (if past then Stops cause.PcOutOfRange else effect_of_word other d))
+  at_like true word other same u h g = refl
+  at_like false word other same u h g =
+      subst (λ (w : Option Instr). LikeBy (effect_of_word word c) (effect_of_word w d)) (same refl) (word_like word u h g)
+
+-- ---- memories that have the same bytes but for some
+
+abbrev SameBytes : (lost : ℕ → Bool) → List ℕ → List ℕ → Type 0
+SameBytes lost m n = (at : ℕ) → lost at ≡ false → slice_index m at ≡ slice_index n at
+
+-- the bytes that are read are the same
+same_part : (m n : List ℕ) (i count : ℕ) → length m ≡ length n → ((k : ℕ) → i ≤ k → k < i + count → slice_index m k ≡ slice_index n k)
+    → take count (drop i m) ≡ take count (drop i n)
+same_part m n i count size same =
+    same_number_lists _ _
+    (omega (arith, length-take count (drop i m), length-take count (drop i n), length-drop i m, length-drop i n))
+    (λ k h.
+    let inside : k < count = omega (arith, length-take count (drop i m)) in
+    get_or-take count (drop i m) k 0 inside ∙ get_or-drop i m k 0 ∙ same (i + k) (omega arith) (omega arith)
+    ∙ sym (get_or-take count (drop i n) k 0 inside ∙ get_or-drop i n k 0))
+
+written_length : (m : List ℕ) (i : ℕ) (bytes : List ℕ) → length (overwrite m i bytes) ≡ min i (length m) + length bytes + (length m - (i + length bytes))
+unfolding overwrite
+written_length m i bytes =
+    let k = i + length bytes in
+    length-append (take i m ++ bytes) (drop k m)
+    ∙ both (λ a b. a + b) (length-append (take i m) bytes ∙ ap (λ (n : ℕ). n + length bytes) (length-take i m)) (length-drop k m)
+
+same_length : (m n : List ℕ) (i : ℕ) (bytes : List ℕ) → length m ≡ length n → length (overwrite m i bytes) ≡ length (overwrite n i bytes)
+same_length m n i bytes size =
+    written_length m i bytes ∙ ap (λ (k : ℕ). min i k + length bytes + (k - (i + length bytes))) size ∙ sym (written_length n i bytes)
+
+in_row_true : (i count at : ℕ) → is_in_row i count at ≡ true → (i ≤ at) × (at < i + count)
+in_row_true i count at h =
+    let parts = and_parts (nat_le i at) (nat_lt at (i + count)) h in (leb-true i at parts.0, ltb-true at (i + count) parts.1)
+
+none_in_row : (i at : ℕ) → is_in_row i 0 at ≡ false
+none_in_row i at =
+    elim (cases_Bool (is_in_row i 0 at)) [
+      | inl on ↦ let within = in_row_true i 0 at on in absurd (omega arith)
+      | inr off ↦ off
+    ]
+
+-- what is written is the same, and what isn't stays
+same_written : (m n : List ℕ) (i : ℕ) (bytes : List ℕ) (at : ℕ) → length m ≡ length n → i + length bytes ≤ length m
+    → (is_in_row i (length bytes) at ≡ false → slice_index m at ≡ slice_index n at) → slice_index (overwrite m i bytes) at ≡ slice_index (overwrite n i bytes) at
+same_written m n i bytes at size fits same =
+    elim (cases_Bool (is_in_row i (length bytes) at)) [
+      | inl on ↦
+          let within = in_row_true i (length bytes) at on in
+          get_or-overwrite_within m i bytes at fits within.0 within.1 ∙ sym (get_or-overwrite_within n i bytes at (omega arith) within.0 within.1)
+      | inr off ↦
+          elim (cases_lt at i) [
+            | inl low ↦ get_or-overwrite_before m i bytes at fits low ∙ same off ∙ sym (get_or-overwrite_before n i bytes at (omega arith) low)
+            | inr high ↦
+                elim (cases_lt at (i + length bytes)) [
+                  | inl below ↦ absurd (let on = and_from (nat_le i at) (nat_lt at (i + length bytes)) (le-leb i at high) (lt-ltb at (i + length bytes) below) in cc)
+                  | inr past ↦ get_or-overwrite_past m i bytes at fits past ∙ same off ∙ sym (get_or-overwrite_past n i bytes at (omega arith) past)
+                ]
+          ]
+    ]
 
 -- ---- outcomes and states
 
-abbrev Outcomes : (after : ℕ → Bool) (most : ℕ) → Result State Stop → Result State Stop → Type 0
-Outcomes after most (Ok a) (Ok b) = Near after most a.core b.core × (a.memory ≡ b.memory)
-Outcomes after most (Err a) (Err b) = a ≡ b
-Outcomes after most _ _ = ⊥
+abbrev Outcomes : (after lost : ℕ → Bool) (most : ℕ) → Result State Stop → Result State Stop → Type 0
+Outcomes after lost most (Ok a) (Ok b) =
+    Near after most a.core b.core × ((length a.memory ≡ length b.memory) × SameBytes lost a.memory b.memory)
+Outcomes after lost most (Err a) (Err b) = a ≡ b
+Outcomes after lost most _ _ = ⊥
 
-record Ends (after : ℕ → Bool) (most : ℕ) (a b : State) : Type 0 where
+record Ends (after lost : ℕ → Bool) (most : ℕ) (a b : State) : Type 0 where
   pub outside : others a.core ≡ others b.core
-  pub memory : a.memory ≡ b.memory
+  pub size : length a.memory ≡ length b.memory
   pub draws : a.core.draws % length a.core.tape ≡ b.core.draws % length b.core.tape
   pub few : a.core.draws ≤ most
   pub count : length a.core.registers ≡ length b.core.registers
   pub agree : is_some a.core.stopped ≡ false → Agree (λ part. after part ≡ false) a.core.registers b.core.registers a.core.index b.core.index a.core.lit b.core.lit
+  pub memory : is_some a.core.stopped ≡ false → SameBytes lost a.memory b.memory
 
 leads_by : (keys : ℕ) (tick : Bool) (s : State) (e : Effect) → Leads keys (settle tick s (perform keys s e)).core.pc e
 leads_by keys true s (Keyed f) = refl
 leads_by keys false s (Keyed f) = refl
 leads_by keys tick s _ = tt
 
-module _ (after : ℕ → Bool) (most keys : ℕ) (s : State) (r : List ℕ) (i : ℕ) (l : Points) (z e : ℕ) (fits : HasSize after MEMORY_BYTES s.memory) where
+-- `gone`: the bytes that are forgotten before the step; `lost`: those after it
+module _ (after gone lost : ℕ → Bool) (most keys : ℕ) (s : State) (r : List ℕ) (i : ℕ) (l : Points) (z e : ℕ) (n : List ℕ) (fits : HasSize after MEMORY_BYTES s.memory)
+    (whole : (at : ℕ) → lost at ≡ false → length s.memory ≡ MEMORY_BYTES) (size : length s.memory ≡ length n) (same : SameBytes gone s.memory n) where
   abbrev t : State
-  t = record s { core = twin s.core r i l z e }
+  t = record { core = twin s.core r i l z e; memory = n }
 
-  past_like : (past : Bool) (a b : State) → (past ≡ false → Outcomes after most (Ok a) (Ok b)) → Outcomes after most (if past then Err cause.AddressOutOfRange else Ok a) (if past then Err cause.AddressOutOfRange else Ok b)
+  past_like : (past : Bool) (a b : State) → (past ≡ false → Outcomes after lost most (Ok a) (Ok b)) → Outcomes after lost most (if past then Err cause.AddressOutOfRange else Ok a) (if past then Err cause.AddressOutOfRange else Ok b)
   past_like true a b h = refl
   past_like false a b h = h refl
 
-  perform_like : (one two : Effect) → Like after most keys s.core.index i one two → Outcomes after most (perform keys s one) (perform keys t two)
-  perform_like (Stops a) (Stops b) h = h
-  perform_like (Changes a) (Changes b) h = (h, refl)
-  perform_like (Keyed f) (Keyed g) h = (h, refl)
-  perform_like (Loads m f) (Loads n g) h =
-      let outcome : ℕ → ℕ → Result State Stop = λ at size. if is_past at size then Err cause.AddressOutOfRange else Ok (record s { core = g (take size (drop at s.memory)) }) in
-      subst (λ (at : ℕ). Outcomes after most (perform keys s (Loads m f)) (outcome at n)) h.1
-      (subst (λ (size : ℕ). Outcomes after most (perform keys s (Loads m f)) (outcome s.core.index size)) h.0
+  abbrev LeftBytes : (count : ℕ) → Type 0
+  LeftBytes count = (at : ℕ) → gone at ≡ true → is_in_row s.core.index count at ≡ false → lost at ≡ true
+
+  -- a byte that is known after the step was known before, unless it was written
+  still_same : (count at : ℕ) → LeftBytes count → lost at ≡ false → is_in_row s.core.index count at ≡ false → slice_index s.memory at ≡ slice_index n at
+  still_same count at left kept unwritten = same at (off_by (gone at) (lost at) (λ was. left at was unwritten) kept)
+
+  kept_memory : LeftBytes 0 → (length s.memory ≡ length n) × SameBytes lost s.memory n
+  kept_memory left = (size, λ at kept. still_same 0 at left kept (none_in_row s.core.index at))
+
+  perform_like : (one two : Effect) → Like after most keys s.core.index i one two → ((k : ℕ) → s.core.index ≤ k → k < s.core.index + loaded one → gone k ≡ false) → LeftBytes (stored one)
+      → Outcomes after lost most (perform keys s one) (perform keys t two)
+  perform_like (Stops a) (Stops b) h unread left = h
+  perform_like (Changes a) (Changes b) h unread left = (h, kept_memory left)
+  perform_like (Keyed f) (Keyed g) h unread left = (h, kept_memory left)
+  perform_like (Loads m f) (Loads k g) h unread left =
+      let outcome : ℕ → ℕ → Result State Stop = λ at count. if is_past at count then Err cause.AddressOutOfRange else Ok (record t { core = g (take count (drop at n)) }) in
+      subst (λ (at : ℕ). Outcomes after lost most (perform keys s (Loads m f)) (outcome at k)) h.1
+      (subst (λ (count : ℕ). Outcomes after lost most (perform keys s (Loads m f)) (outcome s.core.index count)) h.0
       (past_like (is_past s.core.index m) _ _ (λ inside.
-      let low : s.core.index + m ≤ MEMORY_BYTES = ltb-false MEMORY_BYTES (s.core.index + m) inside in (
-        h.2 (take m (drop s.core.index s.memory)) (λ part off.
+      let low : s.core.index + m ≤ MEMORY_BYTES = ltb-false MEMORY_BYTES (s.core.index + m) inside in
+      let bytes : List ℕ = take m (drop s.core.index s.memory) in (
+        subst (λ (read : List ℕ). Near after most (f bytes) (g read))
+            (same_part s.memory n s.core.index m size (λ k above below. same k (unread k above below)))
+            (h.2 bytes (λ part off.
             let size = fits part off in
-            omega (arith, length-take m (drop s.core.index s.memory), length-drop s.core.index s.memory)),
-        refl,
+            omega (arith, length-take m (drop s.core.index s.memory), length-drop s.core.index s.memory))),
+        kept_memory left,
       ))))
-  perform_like (Stores x a) (Stores y b) h =
-      let outcome : ℕ → List ℕ → Result State Stop = λ at bytes. if is_past at (length bytes) then Err cause.AddressOutOfRange else Ok (record { core = b; memory = overwrite s.memory at bytes }) in
-      subst (λ (at : ℕ). Outcomes after most (perform keys s (Stores x a)) (outcome at y)) h.1
-      (subst (λ (bytes : List ℕ). Outcomes after most (perform keys s (Stores x a)) (outcome s.core.index bytes)) h.0
-      (past_like (is_past s.core.index (length x)) _ _ (λ _. (h.2, refl))))
-  perform_like _ _ h = absurd h
+  perform_like (Stores x a) (Stores y b) h unread left =
+      let outcome : ℕ → List ℕ → Result State Stop = λ at bytes. if is_past at (length bytes) then Err cause.AddressOutOfRange else Ok (record { core = b; memory = overwrite n at bytes }) in
+      subst (λ (at : ℕ). Outcomes after lost most (perform keys s (Stores x a)) (outcome at y)) h.1
+      (subst (λ (bytes : List ℕ). Outcomes after lost most (perform keys s (Stores x a)) (outcome s.core.index bytes)) h.0
+      (past_like (is_past s.core.index (length x)) _ _ (λ inside.
+      let low : s.core.index + length x ≤ MEMORY_BYTES = ltb-false MEMORY_BYTES (s.core.index + length x) inside in (
+        h.2,
+        (
+          same_length s.memory n s.core.index x size,
+          λ at kept.
+              let all = whole at kept in
+              same_written s.memory n s.core.index x at size (omega arith) (still_same (length x) at left kept),
+        ),
+      ))))
+  perform_like _ _ h unread left = absurd h
 
   settle_like : (tick : Bool) (one two : Result State Stop) → s.core.draws % length s.core.tape ≡ e % length s.core.tape → s.core.draws ≤ most → length s.core.registers ≡ length r
-      → Outcomes after most one two → Ends after most (settle tick s one) (settle tick t two)
-  settle_like true (Ok a) (Ok b) same few count h =
-      record { outside = ap (λ (o : Core). others (ticked o)) h.0.0; memory = h.1; draws = h.0.2.0; few = h.0.2.1; count = h.0.1.count; agree = λ _. h.0.1 }
-  settle_like false (Ok a) (Ok b) same few count h =
-      record { outside = h.0.0; memory = h.1; draws = h.0.2.0; few = h.0.2.1; count = h.0.1.count; agree = λ _. h.0.1 }
-  settle_like tick (Err a) (Err b) same few count h =
-      record { outside = ap (λ (why : Stop). others (record s.core { stopped = Some why })) h; memory = refl; draws = same; few = few; count = count; agree = λ going. absurd (cc) }
-  settle_like tick _ _ same few count h = absurd h
+      → Outcomes after lost most one two → Ends after lost most (settle tick s one) (settle tick t two)
+  settle_like true (Ok a) (Ok b) drawn few count h =
+      record { outside = ap (λ (o : Core). others (ticked o)) h.0.0; size = h.1.0; draws = h.0.2.0; few = h.0.2.1; count = h.0.1.count; agree = λ _. h.0.1; memory = λ _. h.1.1 }
+  settle_like false (Ok a) (Ok b) drawn few count h =
+      record { outside = h.0.0; size = h.1.0; draws = h.0.2.0; few = h.0.2.1; count = h.0.1.count; agree = λ _. h.0.1; memory = λ _. h.1.1 }
+  settle_like tick (Err a) (Err b) drawn few count h =
+      record { outside = ap (λ (why : Stop). others (record s.core { stopped = Some why })) h; size = size; draws = drawn; few = few; count = count; agree = λ going. absurd (cc); memory = λ going. absurd (cc) }
+  settle_like tick _ _ drawn few count h = absurd h
 
-module _ (before : ℕ) (after : ℕ → Bool) (s : State) (r : List ℕ) (i : ℕ) (l : Points) (z e : ℕ) (fits : HasSize after MEMORY_BYTES s.memory)
+module _ (before : ℕ) (after lost : ℕ → Bool) (s : State) (r : List ℕ) (i : ℕ) (l : Points) (z e : ℕ) (n : List ℕ) (fits : HasSize after MEMORY_BYTES s.memory)
+    (whole : (at : ℕ) → lost at ≡ false → length s.memory ≡ MEMORY_BYTES) (size : length s.memory ≡ length n)
     (base : is_some s.core.stopped ≡ false → Agree (λ part. has_part before part ≡ false) s.core.registers r s.core.index i s.core.lit l)
+    (bytes : is_some s.core.stopped ≡ false → SameBytes (has_byte before) s.memory n)
     (count : length s.core.registers ≡ length r) (same : s.core.draws % length s.core.tape ≡ e % length s.core.tape)
     (more : min (s.core.draws + 1) top % length s.core.tape ≡ min (e + 1) top % length s.core.tape) (keys : ℕ) (tick : Bool)
-    (unread : list_all (λ part. not (has_part before part)) (parts_by (reads s.core.quirks) (next_instr s)) ≡ true) where
+    (unread : IsUnread before s) where
   abbrev stepped : Bool → State → State
   stepped stopped a = if stopped then a else settle tick a (perform keys a (effect_at a))
 
   abbrev LeftAt : ℕ → Type 0
   LeftAt to = Left before after (parts_by (sets s.core.quirks (not (to == s.core.pc)) before) (next_instr s)) (parts_by (spoils before) (next_instr s))
 
-  step_by : (stopped : Bool) → is_some s.core.stopped ≡ stopped → LeftAt (stepped stopped s).core.pc
-      → Ends after (s.core.draws + 1) (stepped stopped s) (stepped stopped (record s { core = twin s.core r i l z e }))
-  step_by true stays left =
-      record { outside = refl; memory = refl; draws = same; few = omega arith; count = count; agree = λ going. absurd (cc) }
-  step_by false going left =
-      settle_like after (s.core.draws + 1) keys s r i l z e fits tick _ _ same (omega arith) count
-      (perform_like after (s.core.draws + 1) keys s r i l z e fits _ _
-      (at_like before after keys _ s.core r i l z e (base going) same more (nat_lt LAST_WORD s.core.pc) (decode_of (word_at s.memory s.core.pc)) unread left (leads_by keys tick s (effect_at s))))
+  abbrev LeftBytesAt : Type 0
+  LeftBytesAt = (at : ℕ) → has_byte before at ≡ true → is_in_row s.core.index (stored (effect_at s)) at ≡ false → lost at ≡ true
 
-  step_like : LeftAt (step_of s keys tick).core.pc → Ends after (s.core.draws + 1) (step_of s keys tick) (step_of (record s { core = twin s.core r i l z e }) keys tick)
+  same_word : is_some s.core.stopped ≡ false → nat_lt LAST_WORD s.core.pc ≡ false → decode_of (word_at s.memory s.core.pc) ≡ decode_of (word_at n s.core.pc)
+  same_word going inside =
+      let kept = unread.fetched (ltb-false LAST_WORD s.core.pc inside) in
+      both (λ a b. decode_of (a * 256 + b)) (bytes going s.core.pc (kept s.core.pc (omega arith) (omega arith)))
+      (bytes going (s.core.pc + 1) (kept (s.core.pc + 1) (omega arith) (omega arith)))
+
+  step_by : (stopped : Bool) → is_some s.core.stopped ≡ stopped → LeftAt (stepped stopped s).core.pc → LeftBytesAt
+      → Ends after lost (s.core.draws + 1) (stepped stopped s) (stepped stopped (record { core = twin s.core r i l z e; memory = n }))
+  step_by true stays left left_bytes =
+      record { outside = refl; size = size; draws = same; few = omega arith; count = count; agree = λ going. absurd (cc); memory = λ going. absurd (cc) }
+  step_by false going left left_bytes =
+      settle_like after (has_byte before) lost (s.core.draws + 1) keys s r i l z e n fits whole size (bytes going) tick _ _ same (omega arith) count
+      (perform_like after (has_byte before) lost (s.core.draws + 1) keys s r i l z e n fits whole size (bytes going) _ _
+      (at_like before after keys _ s.core r i l z e (base going) same more (nat_lt LAST_WORD s.core.pc) (decode_of (word_at s.memory s.core.pc)) (decode_of (word_at n s.core.pc)) (same_word going) unread.parts left (leads_by keys tick s (effect_at s)))
+      unread.loaded left_bytes)
+
+  step_like : LeftAt (step_of s keys tick).core.pc → LeftBytesAt
+      → Ends after lost (s.core.draws + 1) (step_of s keys tick) (step_of (record { core = twin s.core r i l z e; memory = n }) keys tick)
   unfolding step_of
-  step_like left = step_by (is_some s.core.stopped) refl left
+  step_like left left_bytes = step_by (is_some s.core.stopped) refl left left_bytes
 
 one_more : (n r : ℕ) → (n + 1) % r ≡ (n % r + 1) % r
 one_more n r =
@@ -387,17 +487,18 @@ one_more n r =
 below_top : (n : ℕ) → n < top → min (n + 1) top ≡ n + 1
 below_top n h = omega arith
 
-alike_by : (after most : ℕ) (a b : State) → IsProper a → Ends (has_part after) most a b → Alike after a b
+alike_by : (after most : ℕ) (a b : State) → IsProper a → Ends (has_part after) (has_byte after) most a b → Alike after a b
 alike_by after most a b proper h =
     record {
       proper = proper;
       others = h.outside;
-      memory = h.memory;
+      size = h.size;
       draws = h.draws;
       count = h.count;
       registers = λ going. (h.agree going).registers;
       index = λ going. (h.agree going).index;
       screen = λ going. (h.agree going).screen;
+      memory = h.memory;
     }
 
 pub alike_steps : AlikeSteps
@@ -406,30 +507,43 @@ alike_steps before after a b keys tick h unread left low_a low_b =
     let same : a.core.draws % n ≡ b.core.draws % n = h.draws ∙ ap (λ (o : Core). b.core.draws % length o.tape) (sym h.others) in
     let more : min (a.core.draws + 1) top % n ≡ min (b.core.draws + 1) top % n =
     ap (λ m. m % n) (below_top a.core.draws low_a) ∙ one_more a.core.draws n ∙ ap (λ m. (m + 1) % n) same ∙ sym (one_more b.core.draws n) ∙ ap (λ m. m % n) (sym (below_top b.core.draws low_b)) in
-    let is : (record { core = twin a.core b.core.registers b.core.index b.core.lit b.core.sound b.core.draws; memory = a.memory }) ≡ b =
-    ap (λ (o : Core). let s : State = record { core = twin o b.core.registers b.core.index b.core.lit b.core.sound b.core.draws; memory = a.memory } in s) h.others ∙ ap (λ (m : List ℕ). record b { memory = m }) h.memory in
+    let is : (record { core = twin a.core b.core.registers b.core.index b.core.lit b.core.sound b.core.draws; memory = b.memory }) ≡ b =
+    ap (λ (o : Core). let s : State = record { core = twin o b.core.registers b.core.index b.core.lit b.core.sound b.core.draws; memory = b.memory } in s) h.others in
     subst (λ (t : State). Alike after (step_of a keys tick) (step_of t keys tick)) is
     (alike_by after _ _ _ (step_keeps_proper a keys tick h.proper)
-    (step_like before (has_part after) a b.core.registers b.core.index b.core.lit b.core.sound b.core.draws (λ _ _. h.proper.memory_size)
+    (step_like before (has_part after) (has_byte after) a b.core.registers b.core.index b.core.lit b.core.sound b.core.draws b.memory (λ _ _. h.proper.memory_size)
+    (λ _ _. h.proper.memory_size) h.size
     (λ going. record { count = h.count; registers = h.registers going; index = h.index going; screen = h.screen going })
-    h.count same more keys tick unread left))
+    h.memory h.count same more keys tick unread left.parts left.bytes))
+
+none_gone : (at : ℕ) → has_byte 0 at ≡ false
+none_gone at = and_right (nat_le 0 at) _ (ap (λ b. b == 1) (bit_at-zero (at - 0)))
+
+none_unread : (s : State) → IsUnread 0 s
+none_unread s =
+    record {
+      parts = none_known (parts_by (reads s.core.quirks) (next_instr s));
+      fetched = λ inside k above below. none_gone k;
+      loaded = λ k above below. none_gone k;
+    }
 
 pub draws_grow : DrawsGrow
 draws_grow s keys tick =
-    (step_like 0 (λ _. true) s s.core.registers s.core.index s.core.lit s.core.sound s.core.draws (λ part off. absurd (cc))
-    (λ _. record { count = refl; registers = λ _ _. refl; index = λ _. refl; screen = λ _. refl }) refl refl refl keys tick (none_known (parts_by (reads s.core.quirks) (next_instr s))) (λ _ _. refl)).few
+    (step_like 0 (λ _. true) (λ _. true) s s.core.registers s.core.index s.core.lit s.core.sound s.core.draws s.memory (λ part off. absurd (cc)) (λ at off. absurd (cc)) refl
+    (λ _. record { count = refl; registers = λ _ _. refl; index = λ _. refl; screen = λ _. refl }) (λ _ _ _. refl) refl refl refl keys tick (none_unread s) (λ _ _. refl) (λ _ _ _. refl)).few
 
 quieted : (a : State) (d z : ℕ) → d ≡ a.core.delay → length a.memory ≡ MEMORY_BYTES → Alike 0 (record a { core = record a.core { delay = d; sound = z } }) a
 quieted a d z stays size =
     record {
       proper = record { memory_size = size };
       others = ap (λ (n : ℕ). others (record a.core { delay = n })) stays;
-      memory = refl;
+      size = refl;
       draws = refl;
       count = refl;
       registers = λ _ _ _. refl;
       index = λ _ _. refl;
       screen = λ _ _. refl;
+      memory = λ _ _ _. refl;
     }
 
 quiet_by : (stopped : Bool) (s : State) (r : Result State Stop) → length (if stopped then s else settle true s r).memory ≡ MEMORY_BYTES → (if stopped then s else settle false s r).core.delay ≡ 0

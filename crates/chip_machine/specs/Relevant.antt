@@ -1,17 +1,18 @@
 -- What of a state later steps depend on, where some of its parts are forgotten.
 -- Source: own.
 --     Alike            two states that agree in all but the sound timer, how often the tape was gone
---                      through, and some parts that are forgotten; of a state that has stopped, which
---                      stays as it is, none of these parts counts
+--                      through, and some parts and bytes that are forgotten; of a state that has
+--                      stopped, which stays as it is, no part that may be forgotten counts, nor does
+--                      a byte
 --     AlikeSteps       the law: two states that are alike, with draws below the greatest count, still
 --                      are after the same step, where it reads nothing that is forgotten, in what is
 --                      forgotten after it
 --     DrawsGrow        the law: a step draws one random byte at most
 --     QuietTick        the law: a step that leaves the delay timer at 0 does so whether the timers
 --                      tick or not
-use Rattle.std.specs.Prelude.{◌≡◌, ℕ, ◌+◌, ◌-◌, ◌%◌, ◌^◌, ◌<◌, ◌≤◌, Bool, true, false, [], length, is_some}
+use Rattle.std.specs.Prelude.{◌≡◌, ℕ, ◌+◌, ◌-◌, ◌%◌, ◌^◌, ◌<◌, ◌≤◌, Bool, true, false, [], length, is_some, slice_index}
 use Rattle.std.specs.FinSet as set
-use Rattle.chip_machine.specs.Forgotten.{has_part, index_part, screen_part, register_part, IsUnread, IsForgottenAfter}
+use Rattle.chip_machine.specs.Forgotten.{has_byte, has_part, index_part, screen_part, register_part, IsUnread, IsForgottenAfter}
 use Rattle.chip_machine.specs.State.{Core, State, IsProper}
 use Rattle.chip_machine.specs.Step.{reg, step_of}
 
@@ -22,7 +23,7 @@ others c = record c { registers = []; index = 0; lit = set.empty; sound = 0; dra
 pub record Alike (forgotten : ℕ) (a b : State) : Type 0 where
   pub proper : IsProper a
   pub others : others a.core ≡ others b.core
-  pub memory : a.memory ≡ b.memory
+  pub size : length a.memory ≡ length b.memory
   pub draws : a.core.draws % length a.core.tape ≡ b.core.draws % length b.core.tape
   pub count : length a.core.registers ≡ length b.core.registers
   pub registers : is_some a.core.stopped ≡ false → (x : ℕ)
@@ -31,6 +32,8 @@ pub record Alike (forgotten : ℕ) (a b : State) : Type 0 where
       → a.core.index ≡ b.core.index
   pub screen : is_some a.core.stopped ≡ false → has_part forgotten screen_part ≡ false
       → a.core.lit ≡ b.core.lit
+  pub memory : is_some a.core.stopped ≡ false → (at : ℕ)
+      → has_byte forgotten at ≡ false → slice_index a.memory at ≡ slice_index b.memory at
 
 abbrev pub AlikeSteps : Type 0
 AlikeSteps =

@@ -9,7 +9,6 @@
 --     Grows           addresses stay noted
 --     IsFine          a state that doesn't meet the target, and has stopped or is at an address that
 --                     is noted and has what is asked of it there: nothing of that is forgotten
---     AreWithin       some parts are all among others
 --     Safe            from a state at a step on, of which some parts are forgotten, steps that tell
 --                     neither keys nor values of the delay timer apart and read nothing that is
 --                     forgotten lead to the limit, to a stop, or to a state that is kept, past no
@@ -21,7 +20,7 @@
 use Rattle.std.specs.Prelude.{◌≡◌, ℕ, zero, suc, ◌+◌, ◌-◌, ◌%◌, ◌^◌, ◌<◌, ◌≤◌, ◌⊎◌, Bool, true, false, Option, Some, None, List, length, is_some, slice_index, slice_index_or, if◌then◌else◌}
 use Rattle.chip_machine.specs.Block.{ticks}
 use Rattle.chip_machine.specs.Choices.{IsWithin, Represents}
-use Rattle.chip_machine.specs.Forgotten.{has_part, IsUnread, IsForgottenAfter}
+use Rattle.chip_machine.specs.Forgotten.{AreWithin, IsUnread, IsForgottenAfter}
 use Rattle.chip_machine.specs.Relevant.{Alike}
 use Rattle.chip_machine.specs.State.{State}
 use Rattle.chip_machine.specs.Step.{step_of}
@@ -68,10 +67,6 @@ pub record Moves (p : Setting) (executed : List Bool) (forgotten : ℕ) (s : Sta
   pub same : Represents p.allowed 0 s
   pub untimed : timed_register p s ≡ None
   pub drawn : s.core.draws < 2 ^ 64 - 1
-
-abbrev pub AreWithin : (parts others : ℕ) → Type 0
-AreWithin parts others =
-    (part : ℕ) → has_part parts part ≡ true → has_part others part ≡ true
 
 abbrev pub forgotten_at : View → ℕ → ℕ
 forgotten_at v place = slice_index v.forgotten place

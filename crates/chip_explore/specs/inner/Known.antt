@@ -6,15 +6,15 @@
 --     is_property_known  whether it has each value of a property that is asked of it
 --     known_of           what a state of a search has
 --     are_known          whether it has each value of the properties that are asked of it
-use Rattle.std.specs.Prelude.{ℕ, ◌==◌, ◌&&◌, ◌||◌, not, Bool, true}
+use Rattle.std.specs.Prelude.{ℕ, ◌+◌, ◌==◌, ◌&&◌, ◌||◌, not, Bool, true}
 use Rattle.std.specs.List.{list_all}
-use Rattle.chip_machine.specs.Forgotten.{has_part, index_part, register_part, screen_part}
+use Rattle.chip_machine.specs.Forgotten.{has_byte, has_part, index_part, register_part, screen_part}
 use Rattle.chip_machine.specs.State.{State}
 use Rattle.chip_explore.specs.Property.{is_at}
 use Rattle.chip_explore.specs.declared.known.Known.{Known}
 use Rattle.chip_explore.specs.declared.property.Comparison.{Comparison}
 use Rattle.chip_explore.specs.declared.property.Item.{Item}
-use Rattle.chip_explore.specs.declared.property.Item.TheVariants.{Register, Index, Delay, Pixel}
+use Rattle.chip_explore.specs.declared.property.Item.TheVariants.{Register, Index, Delay, AsksKeys, Byte, Pixel}
 use Rattle.chip_explore.specs.declared.property.Property.{Property}
 use Rattle.chip_explore.specs.declared.property.Sum.{Sum}
 use Rattle.chip_explore.specs.declared.setting.Setting.{Setting}
@@ -24,6 +24,9 @@ is_item_known known (Register x) = not (has_part known.forgotten (register_part 
 is_item_known known Index = not (has_part known.forgotten index_part)
 is_item_known known (Pixel x y) = not (has_part known.forgotten screen_part)
 is_item_known known Delay = known.has_delay
+is_item_known known (Byte at) = not (has_byte known.forgotten at)
+is_item_known known AsksKeys =
+    not (has_byte known.forgotten known.pc) && not (has_byte known.forgotten (known.pc + 1))
 is_item_known known item = true
 
 abbrev pub is_sum_known : Known → Sum → Bool
@@ -39,7 +42,11 @@ is_property_known known pc p =
 
 abbrev pub known_of : Setting → (forgotten : ℕ) → State → Known
 known_of p forgotten s =
-    record { forgotten = forgotten; has_delay = not p.free || s.core.delay == 0 }
+    record {
+      forgotten = forgotten;
+      has_delay = not p.free || s.core.delay == 0;
+      pc = s.core.pc;
+    }
 
 abbrev pub are_known : Setting → (forgotten : ℕ) → State → Bool
 are_known p forgotten s =

@@ -1,11 +1,12 @@
 use Rattle.std.proofs.Common.{rules, ◌≡◌, ◌<◌, ℕ, List, Bool, cond, [], ◌∷◌, ◌++◌, false, true, refl, sym, ap, subst, inr, arith, ◌∙◌, length, get_or}
 use Rattle.std.proofs.lemmas.List.{get_or_append_left, length-append}
 use Rattle.std.proofs.Math.Seq.{get_or-append_seam}
+use Rattle.chip_machine.specs.Forgotten.{AreWithin}
 use Rattle.chip_machine.specs.Relevant.{Alike}
 use Rattle.chip_machine.specs.State.{State}
 use Rattle.chip_explore.specs.declared.kept.Kept.{Kept}
 use Rattle.chip_explore.specs.inner.Kept.{state_at}
-use Rattle.chip_explore.specs.inner.Cover.{AreWithin, phase}
+use Rattle.chip_explore.specs.inner.Cover.{phase}
 use Rattle.chip_explore.proofs.Alike.{all_within, alike_within}
 use Rattle.chip_explore.proofs.Places.{state_before, state_last}
 use Rattle.chip_explore.proofs.Growth.{closed_inside, closed_pushed, goes}
@@ -36,12 +37,12 @@ returns-clause-goes c =
     let more_forgotten = ap (length {A = ℕ}) forgotten ∙ length-append m.forgotten.items (c.args.parts ∷ []) in
     let more_closed = ap (length {A = Bool}) closed ∙ length-append m.closed.items (false ∷ []) in
     let more_steps = ap (length {A = ℕ}) steps ∙ length-append m.steps.items (c.args.step ∷ []) in
-    let count = c.requires.holds.states in
-    let parts_count = c.requires.holds.forgotten in
-    let counted = c.requires.holds.closed in
+    let count = c.requires.states in
+    let parts_count = c.requires.forgotten in
+    let counted = c.requires.closed in
     let same : (j : ℕ) → j < length m.steps.items → get_or c.push-4.new.self.items j 0 ≡ get_or m.steps.items j 0 =
     λ j l. ap (λ (xs : List ℕ). get_or xs j 0) steps ∙ get_or_append_left m.steps.items (c.args.step ∷ []) 0 j l in
-    goes p m _ c.requires.holds refl
+    goes p m _ c.requires refl
     (record {
       limit = omega arith;
       count = omega arith;
@@ -69,8 +70,8 @@ returns-clause-joins c =
     pushed _ _ _ _ _ c.push-2.ensures.items (c.push-2.ensures.succeeds (omega (arith, c.in_ok-reserve-2.ensures.ok))) c.reserve-2.ensures.items in
     let steps : c.push-4.new.self.items ≡ m.steps.items ++ c.args.step ∷ [] =
     pushed _ _ _ _ _ c.push-4.ensures.items (c.push-4.ensures.succeeds (omega (arith, c.in_ok-reserve-4.ensures.ok))) c.reserve-4.ensures.items in
-    let count = c.requires.holds.states in
-    let parts_count = c.requires.holds.forgotten in
+    let count = c.requires.states in
+    let parts_count = c.requires.forgotten in
     let parts : get_or c.push-2.new.self.items (length m.steps.items) 0 ≡ c.args.parts =
     ap (λ (xs : List ℕ). get_or xs (length m.steps.items) 0) forgotten
     ∙ ap (λ (i : ℕ). get_or (m.forgotten.items ++ c.args.parts ∷ []) i 0) (sym parts_count)
@@ -88,7 +89,7 @@ returns-clause-joins c =
       kept = omega arith;
       early = omega arith;
       phased = ap (phase p) last;
-      within = subst (λ (f : ℕ). AreWithin c.args.forgotten f) (sym parts) c.requires.within;
+      within = subst (λ (f : ℕ). AreWithin c.args.parts f) (sym parts) (record { parts = λ part h. h; bytes = λ at h. h });
       alike =
           subst (λ (f : ℕ). Alike f (state_at m.base c.push.new.self.items (length m.steps.items)) c.args.machine.now) (sym parts)
           (subst (λ (s : State). Alike c.args.parts s c.args.machine.now) (sym member)

@@ -1,0 +1,35 @@
+use Rattle.std.proofs.Common.{rules, ◌≡◌, Result, Ok, Err, OnOk, ap, arith, inr, subst}
+use Rattle.chip_explore.specs.declared.members.Members.{Members}
+use Rattle.chip_explore.specs.inner.Cover.{Goes}
+use Rattle.chip_explore.proofs.Growth.{goes_more, joins_at, joins_lowered}
+use Rattle.chip_explore.proofs.search.Search.join_erased.Goals as goal
+use Rattle.chip_explore.proofs.search.Search.join_erased.Goals.{in_default-via-in-None-1, in_default-via-in-Some+in_ok-is_at+else-branch}
+
+whatever : {T E P : Type 0} (result : Result T E) → P → OnOk result P
+whatever (Ok value) holds = holds
+whatever (Err error) holds = tt
+
+pub returns-then-step-before-clause-joins : goal.returns-then-step-before-clause-joins
+returns-then-step-before-clause-joins c =
+    whatever c.note_earlier.result
+    (inr (joins_lowered c.args.setting.now c.args.self.now.members c.lower.new.self c.lower.ensures.goes c.in-Some.place c.args.parts c.args.self.now.runner.machine c.args.step
+    (c.in_ok-is_at.ensures (search rules)) c.lower.ensures.step))
+
+pub returns-clause-joins : goal.returns-clause-joins
+returns-clause-joins c =
+    inr (joins_at c.args.setting.now c.args.self.now.members c.in-Some.place c.args.parts c.args.self.now.runner.machine c.args.step (c.in_ok-is_at.ensures (search rules)) (omega arith))
+
+pub returns-2-clause-joins : goal.returns-2-clause-joins
+returns-2-clause-joins c = whatever c.note.result (inr (c.in_ok-add.ensures.joins (search rules)))
+
+pub returns-then-not-branch-clause-goes : goal.returns-then-not-branch-clause-goes
+returns-then-not-branch-clause-goes c =
+    let p = c.args.setting.now in
+    let m = c.args.self.now.members in
+    let same : c.in_default.self.1.0 ≡ m =
+    elim c.in_default.branch [
+      | in_default-via-in-None-1 w ↦ ap (λ there. there.1.0) w.self-is
+      | in_default-via-in-Some+in_ok-is_at+else-branch w ↦ ap (λ there. there.1.0) w.self-is
+    ] in
+    let goes : Goes p m c.add.new.self = subst (λ (m : Members). Goes p m c.add.new.self) same c.in_ok-add.ensures.goes in
+    goes_more p m c.add.new.self _ goes c.lower_limit.ensures.goes

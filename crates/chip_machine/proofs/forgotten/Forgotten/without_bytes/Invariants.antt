@@ -1,0 +1,10 @@
+use Rattle.std.specs.Prelude.{◌≡◌, ℕ, true, false}
+use Rattle.chip_machine.specs.Forgotten.{has_byte, has_part, is_in_row}
+use Rattle.chip_machine.proofs.forgotten.Forgotten.without_bytes.Given as goal
+
+abbrev pub invariant-loop-place : goal.invariant-loop-place
+invariant-loop-place l =
+    record {
+      parts : (part : ℕ) → has_part l.rest part ≡ has_part l.fn.self part;
+      bytes : (k : ℕ) → has_byte l.fn.self k ≡ true → is_in_row l.at l.place k ≡ false → has_byte l.rest k ≡ true;
+    }
