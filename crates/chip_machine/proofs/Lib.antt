@@ -13,6 +13,7 @@ pub mod PointLemmas
 pub mod QuirkLemmas
 pub mod Relevant
 pub mod RowLemmas
+pub mod SameMachine
 pub mod ScreenExamples
 pub mod Spans
 pub mod SpriteLemmas

@@ -2,12 +2,15 @@
 -- Source: COSMAC VIP manual; Gustafsson's CHIP-48; Bryntse's SUPER-CHIP 1.0 and 1.1; the emulators of
 -- today for schip-modern; Octo's manual. Step says at each quirk which has it; own: what schip does
 -- with OR, AND and XOR.
-use Rattle.std.specs.Prelude.{ℕ, List, [], ◌∷◌, find, map, true, false, Option, Some, None}
+use Rattle.std.specs.Prelude.{ℕ, List, [], ◌∷◌, ◌&&◌, Bool, find, map, true, false, Option, Some, None}
+use Rattle.std.specs.Bool.{beq}
 use Rattle.std.specs.Str.{bytes_eq}
 use Rattle.chip_machine.specs.declared.profile.Profile.{Profile}
 use Rattle.chip_machine.specs.declared.profile.Profile.TheVariants as profile
 use Rattle.chip_machine.specs.declared.profile.TheConstants.{SCHIP, VIP, CHIP48, SCHIP10, SCHIP_MODERN, OCTO, PROFILES}
+use Rattle.chip_machine.specs.declared.quirks.IndexMove.{IndexMove}
 use Rattle.chip_machine.specs.declared.quirks.IndexMove.TheVariants as index
+use Rattle.chip_machine.specs.declared.quirks.LowSixteen.{LowSixteen}
 use Rattle.chip_machine.specs.declared.quirks.LowSixteen.TheVariants as sixteen
 use Rattle.chip_machine.specs.declared.quirks.Quirks.{Quirks}
 
@@ -118,3 +121,29 @@ profile_named name = find (λ p. bytes_eq name (profile_name p)) profiles
 abbrev pub profile_asked : Option (List ℕ) → Option Profile
 profile_asked None = Some profile.Schip
 profile_asked (Some name) = profile_named name
+
+-- whether two machines are the same
+abbrev pub is_move : IndexMove → IndexMove → Bool
+is_move index.Stays index.Stays = true
+is_move index.AtLast index.AtLast = true
+is_move index.PastLast index.PastLast = true
+is_move _ _ = false
+
+abbrev pub is_sixteen : LowSixteen → LowSixteen → Bool
+is_sixteen sixteen.Nothing sixteen.Nothing = true
+is_sixteen sixteen.Narrow sixteen.Narrow = true
+is_sixteen sixteen.Wide sixteen.Wide = true
+is_sixteen _ _ = false
+
+abbrev pub is_machine : Quirks → Quirks → Bool
+is_machine q other =
+    beq q.shifts_second other.shifts_second && is_move q.index_move other.index_move
+    && beq q.jumps_by_first other.jumps_by_first && beq q.clears_flag other.clears_flag
+    && beq q.wraps other.wraps && is_sixteen q.low_sixteen other.low_sixteen
+    && beq q.scrolls_whole other.scrolls_whole && beq q.clears_at_size other.clears_at_size
+    && beq q.flags_overflow other.flags_overflow
+    && beq q.has_super_instructions other.has_super_instructions
+
+-- the profile of a machine, if it has one
+unfoldable pub profile_with : Quirks → Option Profile
+profile_with q = find (λ p. is_machine q (quirks p)) profiles

@@ -1,12 +1,14 @@
 -- The quirks by the names that users give them (own).
 --     choice_named     the choice of a name
+--     has_choice       whether a machine has a choice
 --     with_choice      quirks with one choice more, whose quirk was not chosen before
 --     parts_of         the parts of a text between its commas
 --     with_choices     quirks but for the choices of a list
 --     quirks_asked     the quirks of a profile but for those choices, where one or both are given
-use Rattle.std.specs.Prelude.{ℕ, ◌/◌, ◌%◌, ◌^◌, ◌==◌, List, [], ◌∷◌, fold, map, bit_or, Option, Some, None, option_and_then, option_map, if◌then◌else◌}
+use Rattle.std.specs.Prelude.{ℕ, ◌/◌, ◌%◌, ◌^◌, ◌==◌, Bool, List, [], ◌∷◌, fold, map, bit_or, Option, Some, None, option_and_then, option_map, if◌then◌else◌}
+use Rattle.std.specs.Bool.{beq}
 use Rattle.std.specs.Str.{bytes_eq}
-use Rattle.chip_machine.specs.Profile.{profile_asked, quirks}
+use Rattle.chip_machine.specs.Profile.{is_move, is_sixteen, profile_asked, quirks}
 use Rattle.chip_machine.specs.declared.quirks.Choice.{Choice}
 use Rattle.chip_machine.specs.declared.quirks.Choice.TheVariants as choice
 use Rattle.chip_machine.specs.declared.quirks.Chosen.{Chosen}
@@ -46,6 +48,19 @@ with_quirk (choice.ScrollsWhole value) q = record q { scrolls_whole = value }
 with_quirk (choice.ClearsAtSize value) q = record q { clears_at_size = value }
 with_quirk (choice.FlagsOverflow value) q = record q { flags_overflow = value }
 with_quirk (choice.HasSuperInstructions value) q = record q { has_super_instructions = value }
+
+-- whether a machine has a choice
+abbrev pub has_choice : Quirks → Choice → Bool
+has_choice q (choice.ShiftsSecond value) = beq q.shifts_second value
+has_choice q (choice.IndexMove value) = is_move q.index_move value
+has_choice q (choice.JumpsByFirst value) = beq q.jumps_by_first value
+has_choice q (choice.ClearsFlag value) = beq q.clears_flag value
+has_choice q (choice.Wraps value) = beq q.wraps value
+has_choice q (choice.LowSixteen value) = is_sixteen q.low_sixteen value
+has_choice q (choice.ScrollsWhole value) = beq q.scrolls_whole value
+has_choice q (choice.ClearsAtSize value) = beq q.clears_at_size value
+has_choice q (choice.FlagsOverflow value) = beq q.flags_overflow value
+has_choice q (choice.HasSuperInstructions value) = beq q.has_super_instructions value
 
 -- no quirk is chosen twice
 abbrev pub with_choice : Option Chosen → Option Choice → Option Chosen

@@ -1,7 +1,7 @@
 //! The machines that have a name.
 
 ghost use Rattle.std.specs.Prelude.{◌≡◌, ◌≢◌, ◌↔◌, None, Some, IfSome, IsSome, Contains, option_copied};
-ghost use Rattle.chip_machine.specs.Profile.{profile_asked, profile_name, profile_named, profile_names, quirks};
+ghost use Rattle.chip_machine.specs.Profile.{profile_asked, profile_name, profile_named, profile_names, profile_with, quirks};
 
 use crate::quirks::{IndexMove, LowSixteen, Quirks};
 
@@ -129,7 +129,9 @@ impl Profile {
     }
 
     /// The profile that has these quirks, and `None` where no profile has them.
+    #[tactic(auto, using(crate::proofs::SameMachine::profile_none))]
     pub fn with_quirks(asked: Quirks) -> Option<Self>
+        ensures value { result ≡ profile_with asked }
         ensures same { IfSome result (λ p. quirks p ≡ asked) }
         ensures none { result ≡ None → (p : Profile) → quirks p ≢ asked }
     {

@@ -1,7 +1,7 @@
 //! The points in which one machine differs from another.
 
 ghost use Rattle.std.specs.Prelude.{◌≡◌, ◌<◌, IsTrue, map, option_copied};
-ghost use Rattle.chip_machine.specs.QuirkList.{choice_named, choices_asked, first_named, number_of, with_choice, with_choices, with_quirk};
+ghost use Rattle.chip_machine.specs.QuirkList.{choice_named, choices_asked, first_named, has_choice, number_of, with_choice, with_choices, with_quirk};
 ghost use Rattle.chip_machine.specs.inner.FirstPart.{IsFirstPart};
 
 use memchr::memchr;
@@ -241,6 +241,24 @@ impl Quirks {
             return false;
         }
         true
+    }
+
+    /// Whether this machine has a choice.
+    pub fn has(self, choice: Choice) -> bool
+        ensures { result ≡ has_choice self choice }
+    {
+        match choice {
+            Choice::ShiftsSecond(value) => self.shifts_second == value,
+            Choice::IndexMove(value) => self.index_move == value,
+            Choice::JumpsByFirst(value) => self.jumps_by_first == value,
+            Choice::ClearsFlag(value) => self.clears_flag == value,
+            Choice::Wraps(value) => self.wraps == value,
+            Choice::LowSixteen(value) => self.low_sixteen == value,
+            Choice::ScrollsWhole(value) => self.scrolls_whole == value,
+            Choice::ClearsAtSize(value) => self.clears_at_size == value,
+            Choice::FlagsOverflow(value) => self.flags_overflow == value,
+            Choice::HasSuperInstructions(value) => self.has_super_instructions == value,
+        }
     }
 
     /// These quirks but for the choices of a list, if one is given. `None` where the list isn't one.

@@ -3,7 +3,7 @@
 ghost use Rattle.std.specs.Prelude.{◌≡◌, ◌++◌, OnOk, map};
 ghost use Rattle.std.specs.List.{join_with_byte};
 ghost use Rattle.chip_trace.specs.Lines.{newline_ended};
-ghost use Rattle.chip_trace.specs.Machine.{has_choice, has_line, machine_lines, names_in, names_machine, profile_lines};
+ghost use Rattle.chip_trace.specs.Machine.{has_line, machine_lines, names_in, names_machine, profile_lines};
 
 use chip_machine::quirks::CHOICES;
 use chip_machine::{Choice, Profile, Quirks};
@@ -78,7 +78,7 @@ fn push_choices(
     let mut is_first = true;
     for place in 0..choices.len() {
         let choice = &choices[place];
-        if has_choice(quirks, choice.1) {
+        if quirks.has(choice.1) {
             if !is_first {
                 text.push(b',')?;
             }
@@ -87,22 +87,4 @@ fn push_choices(
         }
     }
     Ok(())
-}
-
-/// Whether a machine has a choice.
-fn has_choice(quirks: Quirks, choice: Choice) -> bool
-    ensures { result ≡ has_choice quirks choice }
-{
-    match choice {
-        Choice::ShiftsSecond(value) => quirks.shifts_second == value,
-        Choice::IndexMove(value) => quirks.index_move == value,
-        Choice::JumpsByFirst(value) => quirks.jumps_by_first == value,
-        Choice::ClearsFlag(value) => quirks.clears_flag == value,
-        Choice::Wraps(value) => quirks.wraps == value,
-        Choice::LowSixteen(value) => quirks.low_sixteen == value,
-        Choice::ScrollsWhole(value) => quirks.scrolls_whole == value,
-        Choice::ClearsAtSize(value) => quirks.clears_at_size == value,
-        Choice::FlagsOverflow(value) => quirks.flags_overflow == value,
-        Choice::HasSuperInstructions(value) => quirks.has_super_instructions == value,
-    }
 }

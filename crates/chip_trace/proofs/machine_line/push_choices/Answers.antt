@@ -4,15 +4,15 @@ use Rattle.std.proofs.lemmas.List.{drop_all}
 use Rattle.chip_trace.specs.Machine.{names_in}
 use Rattle.chip_trace.proofs.MachineLemmas.{joined_after, joined_first, joined_next, joined_none, names_with, names_without, values}
 use Rattle.chip_trace.proofs.machine_line.push_choices.Goals as goal
-use Rattle.chip_trace.proofs.machine_line.push_choices.Goals.{then-has_choice+in_ok-extend_from_slice, then-not-is_first+in_ok-push, else-not-is_first, else-has_choice}
+use Rattle.chip_trace.proofs.machine_line.push_choices.Goals.{then-has+in_ok-extend_from_slice, then-not-is_first+in_ok-push, else-not-is_first, else-has}
 
 pub loop-place-preserved : goal.loop-place-preserved
 loop-place-preserved c =
     let place : ℕ = c.loop-place.place in
     let more : List (List ℕ) = names_in (values (drop (place + 1) c.args.choices.now)) c.args.quirks in
-    elim c.if-has_choice.branch [
-      | then-has_choice+in_ok-extend_from_slice w ↦
-          let names = names_with c.args.quirks c.args.choices.now place _ c.loop-place-test.true (sym c.has_choice.ensures ∙ w.if-has_choice.true) in
+    elim c.if-has.branch [
+      | then-has+in_ok-extend_from_slice w ↦
+          let names = names_with c.args.quirks c.args.choices.now place _ c.loop-place-test.true (sym c.has.ensures ∙ w.if-has.true) in
           let before = rw (names) at c.loop-place.invariant in
           elim w.if-not-is_first.branch [
             | then-not-is_first+in_ok-push v ↦
@@ -22,8 +22,8 @@ loop-place-preserved c =
                 rw (w.text-is, w.is_first-is, w.in_ok-extend_from_slice.ensures.items, w.as_bytes.ensures.value, v.text-is)
                 (joined_first c.loop-place.text.items _ more ∙ rw (v.if-not-is_first.false) at before)
           ]
-      | else-has_choice w ↦
-          let names = names_without c.args.quirks c.args.choices.now place _ c.loop-place-test.true (sym c.has_choice.ensures ∙ w.if-has_choice.false) in
+      | else-has w ↦
+          let names = names_without c.args.quirks c.args.choices.now place _ c.loop-place-test.true (sym c.has.ensures ∙ w.if-has.false) in
           rw (w.text-is, w.is_first-is, sym names) c.loop-place.invariant
     ]
 

@@ -1,18 +1,16 @@
 use Rattle.std.proofs.Common.{rules, ◌≡◌, ◌++◌, ◌∷◌, ◌∙◌, [], ℕ, List, None, codes, append_assoc, ap, sym, refl}
 use Rattle.std.specs.List.{join_with_byte}
 use Rattle.chip_trace.specs.Lines.{newline_ended}
-use Rattle.chip_trace.specs.Machine.{choice_lines, choice_names, named_lines, profile_with}
-use Rattle.chip_trace.proofs.MachineLemmas.{one_line, profile_none, profile_some}
+use Rattle.chip_machine.specs.Profile.{profile_with}
+use Rattle.chip_trace.specs.Machine.{choice_lines, choice_names, named_lines}
+use Rattle.chip_trace.proofs.MachineLemmas.{one_line}
 use Rattle.chip_trace.proofs.machine_line.push_machine.Goals as goal
 
 pub returns-in-Some : goal.returns-in-Some
-returns-in-Some c =
-    let is = profile_some c.args.quirks c.in-Some.profile (c.in-Some.ensures.same) in
-    rw (is) c.push_profile.ensures
+returns-in-Some c = rw (sym c.in-Some.ensures.value) c.push_profile.ensures
 
 pub returns-in_ok-push-in-None : goal.returns-in_ok-push-in-None
 unfolding choice_lines
 returns-in_ok-push-in-None c =
-    let is : profile_with c.args.quirks ≡ None = profile_none c.args.quirks (c.in-None.ensures.none refl) in
-    rw (is, c.in_ok-push-in-None.ensures.items, c.in_ok-push_choices-in-None.ensures, c.in_ok-extend_from_slice-in-None.ensures.items)
+    rw (sym c.in-None.ensures.value, c.in_ok-push-in-None.ensures.items, c.in_ok-push_choices-in-None.ensures, c.in_ok-extend_from_slice-in-None.ensures.items)
     (one_line c.args.text.now.items (codes "# quirks ") (join_with_byte 44 (choice_names c.args.quirks)))
