@@ -153,7 +153,7 @@ static LINE_PAGES: [Page; 31] = [
     },
     Page {
         code: "F13",
-        title: "ORG below the address",
+        title: "ORG below the line's address",
         meaning: "ORG goes back to an address that is passed already. The first address is 512.",
         example: Example::Source("ORG 100"),
         fix: "Use an address at or after the line's own, which the listing shows.",
