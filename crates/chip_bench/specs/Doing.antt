@@ -77,7 +77,7 @@ use Rattle.chip_bench.specs.declared.ending.Failure.{Failure}
 use Rattle.chip_bench.specs.declared.ending.Failure.TheVariants as failure
 use Rattle.chip_bench.specs.declared.ending.Report.{Report}
 use Rattle.chip_bench.specs.declared.output.Table.TheVariants.{Listing, Symbols}
-use Rattle.chip_session.specs.declared.question.PictureForm.TheVariants as form
+use Rattle.chip_session.specs.declared.picture.PictureForm.TheVariants as form
 
 abbrev pub Outcome : Type 0
 Outcome = Result Ending Failure

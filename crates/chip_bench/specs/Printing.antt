@@ -29,8 +29,9 @@ use Rattle.chip_bench.specs.declared.output.Table.TheVariants.{Listing, Symbols}
 use Rattle.chip_bench.specs.declared.ending.Failure.TheVariants as failure
 use Rattle.chip_session.specs.declared.key_file.KeyFileError.{KeyFileError}
 use Rattle.chip_session.specs.declared.key_file.KeyFileError.TheVariants.{Line, OutOfMemory}
-use Rattle.chip_session.specs.declared.question.PictureForm.{PictureForm}
-use Rattle.chip_session.specs.declared.question.Question.TheVariants.{Registers, Screen, Picture}
+use Rattle.chip_session.specs.Pictures.{picture_asked}
+use Rattle.chip_session.specs.declared.picture.PictureForm.{PictureForm}
+use Rattle.chip_session.specs.declared.question.Question.TheVariants.{Registers, Screen}
 use Rattle.chip_session.specs.declared.refusal.Refusal.{Refusal}
 use Rattle.chip_session.specs.declared.refusal.Refusal.TheVariants.{NoImage}
 
@@ -123,10 +124,10 @@ printed_run session step =
     answer_or_why (both_answers (answer_to session (Registers step))
     (answer_to session (Screen step))) (printed_faults session.lines)
 
--- `picture`: the answer to the question, or why there is none
+-- `picture`: the picture, or why there is none
 abbrev pub printed_picture : Session → ℕ → PictureForm → Printed
 printed_picture session step form =
-    answer_or_why (answer_to session (Picture step form)) (printed_faults session.lines)
+    answer_or_why (picture_asked session form step) (printed_faults session.lines)
 
 -- the failure of a key file of that name
 abbrev pub keys_failure : Bor (List ℕ) → KeyFileError → Failure

@@ -172,10 +172,8 @@ pub(crate) fn picture_at(
         printed_by answer ≡ printed_picture bench.old.session step form) }
     ensures session { bench.new.session ≡ bench.old.session }
 {
-    let mut text = Vec::new(alloc);
-    let question = Question::Picture { step, form };
-    match bench.ask(alloc, &question, &mut text) {
-        Ok(()) => Ok(Answer {
+    match bench.picture(alloc, form, step) {
+        Ok(text) => Ok(Answer {
             text,
             ending: Ending::Done,
         }),

@@ -1,14 +1,17 @@
 -- An answer from the kept run is the answer of the definition.
 use Rattle.std.proofs.Common.{◌≡◌, ℕ, List, [], Option, Some, None, Ok, false, refl, sym, ap, ◌∙◌}
-use Rattle.std.specs.Prelude.{is_none, unwrap_or}
+use Rattle.std.specs.Prelude.{is_none, nat_lt, unwrap_or}
 use Rattle.chip_asm.specs.Program.{image_of}
 use Rattle.chip_machine.specs.Start.{start_of}
 use Rattle.chip_machine.specs.State.{State}
 use Rattle.chip_machine.specs.Step.{step_of}
 use Rattle.chip_replay.specs.Keys.{held}
+use Rattle.chip_replay.specs.Limits.{last_step}
 use Rattle.chip_replay.specs.Run.{run}
+use Rattle.chip_session.specs.declared.picture.PictureForm.{PictureForm}
 use Rattle.chip_session.specs.declared.question.StateQuestion.{StateQuestion}
 use Rattle.chip_session.specs.Kept.{KeptRun, session_on, IsLastImage, machine_after}
+use Rattle.chip_session.specs.Pictures.{picture_by, picture_of_run}
 use Rattle.chip_session.specs.Answers.{state_answer, step_refusal, unless_refused, answer_at, machine_at, machine_of}
 
 -- the states of the kept run are those of the session's machine
@@ -41,3 +44,11 @@ is_answer lines kept None asked step bytes is some fits answer = cc
 is_answer lines kept (Some image) asked step bytes is some fits answer =
     ap (λ refusal. unless_refused refusal (state_answer asked (machine_at (session_on lines kept) image step))) fits
     ∙ ap (λ b. Ok b) (ap (state_answer asked) (sym (same_state lines kept image step (is image refl))) ∙ sym answer)
+
+pub is_picture : (lines : List (List ℕ)) (kept : KeptRun) (image : Option (List ℕ)) (form : PictureForm) (step : ℕ) (bytes : List ℕ) →
+    IsLastImage image kept.last_image → is_none image ≡ false → nat_lt last_step step ≡ false →
+    bytes ≡ picture_by form (machine_after kept step) →
+    picture_of_run (session_on lines kept) form step image ≡ Ok bytes
+is_picture lines kept None form step bytes is some fits picture = cc
+is_picture lines kept (Some image) form step bytes is some fits picture =
+    rw fits (ap (λ b. Ok b) (ap (picture_by form) (sym (same_state lines kept image step (is image refl))) ∙ sym picture))

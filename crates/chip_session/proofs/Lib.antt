@@ -12,5 +12,4 @@ pub mod TextLemmas
 pub mod RunLemmas
 pub mod KeyLemmas
 pub mod RowLemmas
-pub mod RowBytes
 mod SameParts

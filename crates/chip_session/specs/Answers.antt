@@ -15,18 +15,13 @@ use Rattle.chip_machine.specs.Step.{step_of}
 use Rattle.chip_replay.specs.Limits.{last_step}
 use Rattle.chip_replay.specs.Keys.{held}
 use Rattle.chip_replay.specs.Run.{run}
-use Rattle.chip_views.specs.Bitmap.{pbm_of}
-use Rattle.chip_views.specs.Picture.{picture_of}
-use Rattle.chip_views.specs.Png.{png_of}
 use Rattle.chip_session.specs.Session.{Session}
 use Rattle.chip_session.specs.MachineAnswers.{registers_of, memory_line, screen_of, disassembly_of}
 use Rattle.chip_session.specs.Text.{full_stop, hex_line}
 use Rattle.chip_session.specs.declared.refusal.Refusal.{Refusal}
 use Rattle.chip_session.specs.declared.refusal.Refusal.TheVariants.{NoImage, StepPastLast, AddressPastEnd}
 use Rattle.chip_session.specs.declared.question.Question.{Question}
-use Rattle.chip_session.specs.declared.question.Question.TheVariants.{Image, Symbols, Listing, Faults, Registers, Memory, Screen, Disassembly, Picture}
-use Rattle.chip_session.specs.declared.question.PictureForm.{PictureForm}
-use Rattle.chip_session.specs.declared.question.PictureForm.TheVariants as form
+use Rattle.chip_session.specs.declared.question.Question.TheVariants.{Image, Symbols, Listing, Faults, Registers, Memory, Screen, Disassembly}
 use Rattle.chip_session.specs.declared.question.StateQuestion.{StateQuestion}
 use Rattle.chip_session.specs.declared.question.StateQuestion.TheVariants as state
 
@@ -60,7 +55,6 @@ step_asked (Registers step) = Some step
 step_asked (Memory step at count) = Some step
 step_asked (Screen step) = Some step
 step_asked (Disassembly step at count) = Some step
-step_asked (Picture step form) = Some step
 step_asked _ = None
 
 -- the bytes asked for pass the end of the memory
@@ -69,19 +63,12 @@ asks_past_end (state.Memory at count) = nat_lt MEMORY_BYTES (at + count)
 asks_past_end (state.Disassembly at count) = nat_lt MEMORY_BYTES (at + 2 * count)
 asks_past_end _ = false
 
--- the picture of a state's screen
-unfoldable pub picture_by : PictureForm → State → List ℕ
-picture_by (form.Text letters) s = picture_of letters s
-picture_by form.Bitmap s = pbm_of s
-picture_by form.Png s = png_of s
-
 -- what is asked of a state
 abbrev pub state_answer : StateQuestion → State → List ℕ
 state_answer state.Registers s = registers_of s
 state_answer (state.Memory at count) s = memory_line s at count
 state_answer state.Screen s = screen_of s
 state_answer (state.Disassembly at count) s = disassembly_of s at count
-state_answer (state.Picture form) s = picture_by form s
 
 -- the machine with this image after so many steps from step 0, under the keys and the settings of
 -- the session
@@ -123,5 +110,3 @@ answer_to session (Memory step at count) =
 answer_to session (Screen step) = answer_at session state.Screen step (image_of session.lines)
 answer_to session (Disassembly step at count) =
     answer_at session (state.Disassembly at count) step (image_of session.lines)
-answer_to session (Picture step form) =
-    answer_at session (state.Picture form) step (image_of session.lines)

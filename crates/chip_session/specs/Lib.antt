@@ -8,6 +8,7 @@
 --     Refusals     the codes of refusals
 --     Changes      the changes of the code, seen by the bytes that they hold
 --     Text, MachineAnswers, Answers      the answer to each question
+--     Pictures     the picture of the screen at a step
 --     IsAnswer     when a result is the answer, or why there is none
 --     Costs        what an edit reads and encodes of the source
 --     Kept         what a bench keeps beside its lines, and what an image, a key event or a
@@ -37,6 +38,7 @@ pub mod Serving
 pub mod IsAnswer
 pub mod Kept
 pub mod MachineAnswers
+pub mod Pictures
 pub mod Text
 pub mod Workbench
 pub mod Tape

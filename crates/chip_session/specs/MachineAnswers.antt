@@ -1,6 +1,6 @@
 -- The answers to questions about the machine's state (own; the state is that of the COSMAC VIP
 -- manual and the SUPER-CHIP 1.1 documentation).
-use Rattle.std.specs.Prelude.{ℕ, ◌+◌, ◌*◌, Bool, List, [], ◌∷◌, ◌++◌, map, Option, Some, None, if◌then◌else◌, slice_range, codes, nat_lt}
+use Rattle.std.specs.Prelude.{ℕ, ◌+◌, ◌*◌, Bool, List, [], ◌∷◌, ◌++◌, Option, Some, None, if◌then◌else◌, slice_range, codes, nat_lt}
 use Rattle.std.specs.List.{flat_map, list_any, range_with_len}
 use Rattle.std.specs.Fmt.{decimal}
 use Rattle.chip_lang.specs.Show.{show_of}
@@ -9,9 +9,9 @@ use Rattle.chip_machine.specs.Numbers.{stop_number}
 use Rattle.chip_machine.specs.Points.{Points, is_lit}
 use Rattle.chip_machine.specs.State.{Core, State}
 use Rattle.chip_machine.specs.Step.{word_at}
-use Rattle.chip_views.specs.Bitmap.{eight_bits}
 use Rattle.chip_session.specs.Text.{full_stop, hex_line}
 use Rattle.chip_trace.specs.Digits.{hex_byte, hex_word, spaced}
+use Rattle.chip_trace.specs.Sums.{row_bytes}
 
 -- ---- regs
 
@@ -76,14 +76,6 @@ disassembly_of s at count =
 
 -- ---- screen
 
--- eight points of a row as a byte, the leftmost the highest bit
-unfoldable pub stored_byte : Points → ℕ → ℕ → ℕ
-stored_byte lit row place = eight_bits (λ index. is_lit lit (8 * place + index) row)
-
--- the 128 points of a row as 16 bytes
-unfoldable pub stored_row : Points → ℕ → List ℕ
-stored_row lit row = map (stored_byte lit row) (range_with_len 0 16)
-
 unfoldable pub has_lit : Points → ℕ → Bool
 has_lit lit row = list_any (λ column. is_lit lit column row) (range_with_len 0 128)
 
@@ -95,7 +87,7 @@ two_digits n = if nat_lt n 10 then 48 ∷ decimal n else decimal n
 unfoldable pub row_line : Points → ℕ → List ℕ
 row_line lit row =
     if has_lit lit row
-    then two_digits row ++ codes " " ++ hex_line (stored_row lit row)
+    then two_digits row ++ codes " " ++ hex_line (row_bytes lit row)
     else []
 
 -- the rows with a lit pixel, from the top

@@ -24,7 +24,7 @@ fn is_past_end(asked: StateQuestion) -> bool
             > MEMORY_BYTES as u64,
         StateQuestion::Disassembly { at, count } => u64::from(at) + 2 * u64::from(count)
             > MEMORY_BYTES as u64,
-        StateQuestion::Registers | StateQuestion::Screen | StateQuestion::Picture { .. } => false,
+        StateQuestion::Registers | StateQuestion::Screen => false,
     }
 }
 
@@ -44,7 +44,6 @@ fn step_refusal(asked: StateQuestion, step: u32) -> Option<Refusal>
 /// The answer to a question about the machine at a step of the run of the image, where `out` was
 /// empty.
 fn answer_at(
-    alloc: Global,
     source: &Source,
     run: &mut ImageRun,
     asked: StateQuestion,
@@ -63,7 +62,7 @@ fn answer_at(
     if let Some(why) = step_refusal(asked, step) {
         return Err(why);
     }
-    match run.answer(alloc, asked, step, out) {
+    match run.answer(asked, step, out) {
         Ok(()) => Ok(()),
         Err(_) => Err(Refusal::AnswerMemory),
     }
@@ -95,9 +94,8 @@ pub(crate) fn answer(
             StateQuestion::Disassembly { at, count },
             step,
         ),
-        Question::Picture { step, form } => (StateQuestion::Picture { form }, step),
     };
-    answer_at(alloc, source, run, asked, step, out)
+    answer_at(source, run, asked, step, out)
 }
 
 /// The image in hexadecimal, where `out` was empty.

@@ -5,7 +5,8 @@ ghost use Rattle.chip_replay.specs.declared.limits.TheConstants.{LAST_STEP};
 ghost use Rattle.chip_session.specs.Answers.{answer_to, machine_of, step_asked};
 ghost use Rattle.chip_trace.specs.Difference.{IsComparison};
 ghost use Rattle.chip_trace.specs.Lines.{TakesLines, remaining};
-ghost use Rattle.chip_session.specs.IsAnswer.{IsTold};
+ghost use Rattle.chip_session.specs.IsAnswer.{IsTold, IsUnanswered};
+ghost use Rattle.chip_session.specs.Pictures.{picture_asked};
 ghost use Rattle.chip_asm.specs.Lines.{open_fault};
 ghost use Rattle.chip_asm.specs.Program.{image_of};
 ghost use Rattle.chip_asm.specs.Work.{accepted_of};
@@ -13,11 +14,12 @@ ghost use Rattle.chip_session.specs.Session.{session_of, edited, IsRefused};
 ghost use Rattle.chip_session.specs.Changes.{change_of};
 ghost use Rattle.chip_session.specs.Costs.{Costs};
 ghost use Rattle.chip_session.specs.Workbench.{run_of, Follows};
-ghost use Rattle.chip_session.specs.Kept.{Reuses, StaysIfRefused};
+ghost use Rattle.chip_session.specs.Kept.{ReachesStep, Reuses, StaysIfRefused};
 
 use crate::ask::answer;
 use crate::change::Change;
 use crate::image_run::ImageRun;
+use crate::picture::{PictureForm, picture_at};
 use crate::question::Question;
 use crate::refusal::Refusal;
 use crate::settings::Settings;
@@ -162,6 +164,29 @@ impl Bench {
             Ok(()) => Ok(()),
             Err(_) => Err(Refusal::AnswerMemory),
         }
+    }
+
+    /// The picture of the screen at a step.
+    ///
+    /// # Errors
+    ///
+    /// The first refusal that applies, or that memory ran out.
+    pub fn picture(
+        &mut self,
+        alloc: Global,
+        form: PictureForm,
+        step: u32,
+    ) -> Result<Vec<u8>, Refusal>
+        ensures picture { IfOk result (λ picture.
+            picture_asked self.old.session form step ≡ Ok picture.items) }
+        ensures err { IfErr result (IsUnanswered (picture_asked self.old.session form step)) }
+        ensures session { self.new.session ≡ self.old.session }
+        ensures work { self.new.work ≡ self.old.work }
+        ensures last_image { self.new.last_image ≡ self.old.last_image }
+        ensures reuses { ReachesStep step result (run_of self.old) (run_of self.new) }
+        ensures refused { StaysIfRefused result (run_of self.old) (run_of self.new) }
+    {
+        picture_at(alloc, &self.source, &mut self.run, form, step)
     }
 
     /// Adds some lines of a trace of the image's run to a text, as `Trace::push_lines`.

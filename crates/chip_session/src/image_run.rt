@@ -7,12 +7,14 @@ ghost use Rattle.chip_replay.specs.Keys.{insert_fault, edit_fault};
 ghost use Rattle.chip_session.specs.Session.{moment};
 ghost use Rattle.chip_session.specs.Answers.{asks_past_end, state_answer};
 ghost use Rattle.chip_session.specs.Kept.{empty_run, machine_after, FollowsImage, ReachesStep};
+ghost use Rattle.chip_session.specs.Pictures.{picture_by};
 ghost use Rattle.chip_session.specs.inner.InStep.{TakesEvents, RunsOnly};
 ghost use Rattle.chip_trace.specs.Difference.{IsComparison};
 ghost use Rattle.chip_trace.specs.Lines.{TakesLines, remaining};
 ghost use Rattle.std.specs.Str.Lines.{lines};
 
 use crate::machine_answer::push_state;
+use crate::picture::{PictureForm, picture};
 use crate::question::StateQuestion;
 use crate::settings::Settings;
 use chip_machine::laws::image_at_the_start;
@@ -91,7 +93,7 @@ fn changed_places(written: Option<Range<usize>>, old: &[u8], new: &[u8]) -> Opti
     }
 }
 
-/// The same for images of one length that agree outside some places.
+/// The places outside of which two images of one length agree, which agree outside some places.
 fn changed_part(places: Range<usize>, old: &[u8], new: &[u8]) -> Option<Range<usize>>
     requires lengths { length old.now ≡ length new.now }
     requires alike { AgreeOutside places.start places.end old.now new.now }
@@ -108,7 +110,7 @@ fn changed_part(places: Range<usize>, old: &[u8], new: &[u8]) -> Option<Range<us
     }
 }
 
-/// The same for images of which nothing is known.
+/// The places outside of which two images agree of which nothing is known.
 fn changed_blocks(old: &[u8], new: &[u8]) -> Option<Range<usize>>
     ensures places { MatchOption result (old.now ≡ new.now)
         (λ places. AgreeOutside places.start places.end old.now new.now) }
@@ -224,7 +226,6 @@ impl ImageRun {
     /// Out of memory.
     pub(crate) fn answer(
         &mut self,
-        alloc: Global,
         asked: StateQuestion,
         step: u32,
         out: &mut Vec<u8>,
@@ -238,7 +239,30 @@ impl ImageRun {
         ensures reaches { ReachesStep step result self.old self.new }
     {
         match self.replay.at(step) {
-            Ok(machine) => push_state(alloc, out, machine, asked),
+            Ok(machine) => push_state(out, machine, asked),
+            Err(_) => Err(AllocError),
+        }
+    }
+
+    /// The picture of the screen at a step.
+    ///
+    /// # Errors
+    ///
+    /// Out of memory.
+    pub(crate) fn picture(
+        &mut self,
+        alloc: Global,
+        form: PictureForm,
+        step: u32,
+    ) -> Result<Vec<u8>, AllocError>
+        requires { step ≤ LAST_STEP }
+        ensures picture { IfOk result (λ picture.
+            picture.items ≡ picture_by form (machine_after self.old step)) }
+        ensures runs { RunsOnly self.old self.new }
+        ensures reaches { ReachesStep step result self.old self.new }
+    {
+        match self.replay.at(step) {
+            Ok(machine) => picture(alloc, machine, form),
             Err(_) => Err(AllocError),
         }
     }

@@ -1,19 +1,18 @@
 //! Answers about the machine's state.
 
-ghost use Rattle.std.specs.Prelude.{◌≡◌, ◌+◌, ◌*◌, ◌<◌, ◌≤◌, ◌^◌, ◌++◌, ◌∷◌, [], ℕ, List, false, codes, length, replicate, IfOk, OnOk, slice_index};
+ghost use Rattle.std.specs.Prelude.{◌≡◌, ◌+◌, ◌*◌, ◌<◌, ◌≤◌, ◌^◌, ◌++◌, ◌∷◌, [], ℕ, List, false, codes, length, replicate, OnOk, slice_index};
 ghost use Rattle.chip_machine.specs.Step.{word_at};
-ghost use Rattle.chip_session.specs.Answers.{asks_past_end, picture_by, state_answer};
+ghost use Rattle.chip_session.specs.Answers.{asks_past_end, state_answer};
 ghost use Rattle.chip_session.specs.Text.{hex_line};
-ghost use Rattle.chip_session.specs.MachineAnswers.{size_name, state_name, register_line, place_part, timer_part, condition_part, state_line, flag_line, registers_of, bytes_at, memory_line, word_line, disassembly_of, stored_row, has_lit, row_line, row_lines, two_digits, screen_of};
+ghost use Rattle.chip_session.specs.MachineAnswers.{size_name, state_name, register_line, place_part, timer_part, condition_part, state_line, flag_line, registers_of, bytes_at, memory_line, word_line, disassembly_of, has_lit, row_line, row_lines, two_digits, screen_of};
 
-use crate::question::{PictureForm, StateQuestion};
+use crate::question::StateQuestion;
 use crate::text::{push_hex, push_spaced_words, write_hex};
 use chip_lang::push_shown;
 use chip_machine::limits::{LAST_WORD, MEMORY_BYTES};
 use chip_machine::{Machine, Stop};
-use chip_trace::{byte_digits, push_decimal, push_spaced_bytes, word_digits};
-use chip_views::{screen_pbm, screen_png, screen_text};
-use std::alloc::{AllocError, Global};
+use chip_trace::{byte_digits, push_decimal, push_spaced_bytes, row_bytes, word_digits};
+use std::alloc::AllocError;
 
 // Room for the answer about a machine's registers, where few calls are open.
 const REGISTERS_ROOM: usize = 256;
@@ -24,16 +23,14 @@ const ROW_LEN: usize = 36;
 // Room for 64 rows of the screen.
 const SCREEN_ROOM: usize = 64 * ROW_LEN + 16;
 
-/// Adds what is asked of a machine's state to an answer that is empty.
+/// Adds what is asked of a machine's state to an answer.
 pub(crate) fn push_state(
-    alloc: Global,
     answer: &mut Vec<u8>,
     machine: &Machine,
     asked: StateQuestion,
 ) -> Result<(), AllocError>
-    requires inside { asks_past_end asked ≡ false }
-    requires empty { answer.old.items ≡ [] }
-    ensures { OnOk result (answer.new.items ≡ state_answer asked machine.now) }
+    requires { asks_past_end asked ≡ false }
+    ensures { OnOk result (answer.new.items ≡ answer.old.items ++ state_answer asked machine.now) }
 {
     match asked {
         StateQuestion::Registers => push_registers(answer, machine),
@@ -44,22 +41,6 @@ pub(crate) fn push_state(
         StateQuestion::Disassembly { at, count } => {
             push_disassembly(answer, machine, at as u16, count as u16)
         }
-        StateQuestion::Picture { form } => {
-            *answer = picture(alloc, machine, form)?;
-            Ok(())
-        }
-    }
-}
-
-/// The picture of a machine's screen.
-#[tactic(auto, unfolding(crate::specs::Answers::picture_by))]
-fn picture(alloc: Global, machine: &Machine, form: PictureForm) -> Result<Vec<u8>, AllocError>
-    ensures { IfOk result (λ picture. picture.items ≡ picture_by form machine.now) }
-{
-    match form {
-        PictureForm::Text(letters) => screen_text(alloc, machine, letters),
-        PictureForm::Bitmap => screen_pbm(alloc, machine),
-        PictureForm::Png => screen_png(alloc, machine),
     }
 }
 
@@ -272,11 +253,4 @@ fn has_lit(machine: &Machine, row: usize) -> bool
     ensures { result ≡ has_lit machine.now.core.lit row }
 {
     machine.row(row) != 0
-}
-
-/// The points of a row, eight to a byte.
-fn row_bytes(machine: &Machine, row: usize) -> [u8; 16]
-    ensures { result ≡ stored_row machine.now.core.lit row }
-{
-    machine.row(row).to_be_bytes()
 }

@@ -1,7 +1,5 @@
 //! The questions of a session.
 
-use chip_views::Letters;
-
 /// A question about the source, or about the machine at a step.
 #[derive(Clone, Copy)]
 pub enum Question {
@@ -21,19 +19,6 @@ pub enum Question {
     Screen { step: u32 },
     /// So many words of the memory at a step, from an address, with their source texts.
     Disassembly { step: u32, at: u32, count: u32 },
-    /// The screen at a step, as a picture. No command of a script asks for it.
-    Picture { step: u32, form: PictureForm },
-}
-
-/// How a picture of the screen is written.
-#[derive(Clone, Copy, PartialEq, Eq)]
-pub enum PictureForm {
-    /// As text, two pixels to a character.
-    Text(Letters),
-    /// As a portable bitmap.
-    Bitmap,
-    /// As a PNG file.
-    Png,
 }
 
 /// What is asked of a machine's state.
@@ -47,6 +32,4 @@ pub enum StateQuestion {
     Screen,
     /// So many words of the memory, from an address, with their source texts.
     Disassembly { at: u32, count: u32 },
-    /// The screen, as a picture.
-    Picture { form: PictureForm },
 }

@@ -23,4 +23,5 @@ pub use form::Form;
 pub use header::HeaderError;
 pub use machine_line::names_machine;
 pub use report::difference_text;
+pub use sums::row_bytes;
 pub use trace::Trace;

@@ -1,7 +1,7 @@
 //! FNV-1a sums of 64 bits, which are kept while the bytes stay the same.
 
 ghost use Rattle.std.specs.Prelude.{◌≡◌, fold, length, IsTrue, IfOk};
-ghost use Rattle.chip_trace.specs.Sums.{fnv_step, fnv_of, screen_bytes};
+ghost use Rattle.chip_trace.specs.Sums.{fnv_step, fnv_of, row_bytes, screen_bytes};
 ghost use Rattle.chip_trace.specs.inner.Rows.{bytes_of_rows};
 
 use chip_machine::Machine;
@@ -137,6 +137,14 @@ fn take_rows(rows: &mut [u128], machine: &Machine) -> bool
         }
     }
     is_same
+}
+
+/// The points of a row of a machine's screen from the left, eight to a byte, the leftmost the highest
+/// bit.
+pub fn row_bytes(machine: &Machine, row: usize) -> [u8; 16]
+    ensures { result ≡ row_bytes machine.now.core.lit row }
+{
+    machine.row(row).to_be_bytes()
 }
 
 /// The sum of the bytes of rows, from the top, the highest byte of a row first.

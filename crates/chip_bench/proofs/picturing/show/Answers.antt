@@ -1,5 +1,5 @@
 use Rattle.std.proofs.Common.{sym}
-use Rattle.chip_session.specs.declared.question.PictureForm.TheVariants.{Text}
+use Rattle.chip_session.specs.declared.picture.PictureForm.TheVariants.{Text}
 use Rattle.chip_bench.specs.Printing.{printed_picture}
 use Rattle.chip_bench.proofs.picturing.show.Goals as goal
 
