@@ -545,7 +545,7 @@ pub fn number(text: Option<&str>) -> Option<u32>
     }
 }
 
-/// The same, of a seed.
+/// The seed that a text of decimal digits stands for, where it fits.
 pub fn seed(text: Option<&str>) -> Option<u64>
     ensures { ReadsNumber 64 (option_copied text.entry) result }
 {

@@ -18,7 +18,7 @@ is_control b = (nat_lt b 32 && not (b == 9)) || (b == 127)
 abbrev pub shown_byte : (is_text : Bool) → ℕ → ShownByte
 shown_byte is_text b = if is_text && not (is_control b) then Plain b else Escaped b
 
--- The same of each byte, where so many of the first are text. The longest front of what follows them
+-- How each byte is shown, where so many of the first are text. The longest front of what follows them
 -- that is UTF-8 is text, and where no front is, the next byte is not.
 abbrev pub shown_after : (text : ℕ) → List ℕ → List ShownByte
 shown_after text [] = []

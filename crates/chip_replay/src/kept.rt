@@ -544,7 +544,7 @@ fn cut(first_touch: &mut [u32], reach: u32)
     cut_each(&mut first_touch[parts * PART..], reach);
 }
 
-/// The same for a part of the table.
+/// Forgets the touches of a part of the table from a step on.
 fn cut_part(part: &mut [u32], reach: u32)
     ensures { part.new ≡ map (λ first. if nat_lt first reach then first else NEVER) part.old }
 {
@@ -564,7 +564,7 @@ fn least_of(steps: &[u32]) -> u32
     least
 }
 
-/// The same, at each address.
+/// Forgets the touches from a step on, address by address.
 fn cut_each(first_touch: &mut [u32], reach: u32)
     ensures { first_touch.new
         ≡ map (λ first. if nat_lt first reach then first else NEVER) first_touch.old }

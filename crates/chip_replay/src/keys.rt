@@ -49,7 +49,7 @@ pub enum KeyFault {
 pub(crate) struct Holding {
     /// Key k at bit k.
     pub(crate) keys: u16,
-    /// The same, a key at a place.
+    /// Whether each key is down.
     pub(crate) down: [bool; KEY_COUNT],
     /// The first step whose events are not covered.
     pub(crate) until: u32,
@@ -98,7 +98,7 @@ impl HeldKeys for Cursor<'_> {
 pub struct Keys {
     /// In the order of the keys, for the last event of a key up to a step.
     events: BTreeMap<Moment, bool>,
-    /// The same in the order of the steps, for the next events of any key.
+    /// All events in the order of the steps, for the next events of any key.
     steps: Steps,
 }
 

@@ -60,7 +60,7 @@ pub record Exchanged (all : List ℕ) (left : Option (List ℕ)) (before : List 
   pub wrote : holds ≡ Some (before ++ written)
   pub outcome : P given rest written
 
--- The same, where the reader and the writer tell their bytes.
+-- What was read and written, where the reader and the writer tell their bytes.
 abbrev pub Exchanges : Option (List ℕ) → Option (List ℕ) → Option (List ℕ) → Option (List ℕ)
     → (List ℕ → List ℕ → List ℕ → Type 0) → Type 0
 Exchanges had left held holds P =

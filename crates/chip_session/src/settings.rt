@@ -91,14 +91,14 @@ impl Settings {
         })
     }
 
-    /// The same for a machine with these quirks.
+    /// These settings for a machine with some quirks.
     pub fn with_quirks(self, quirks: Quirks) -> Settings
         ensures { result ≡ record self { quirks = quirks } }
     {
         Settings { quirks, ..self }
     }
 
-    /// The same with that many steps between one checkpoint and the next, `LEAST_SPACING` to
+    /// These settings with so many steps between one checkpoint and the next, `LEAST_SPACING` to
     /// `MOST_SPACING`: fewer make an edit cheaper to follow, more take less memory.
     ///
     /// # Errors
@@ -115,7 +115,7 @@ impl Settings {
         Ok(Settings { spacing, ..self })
     }
 
-    /// The same with names hashed from a seed on. Where it is drawn at the start of the program,
+    /// These settings with names hashed from a seed on. Where it is drawn at the start of the program,
     /// no choice of names in a source makes an edit slow.
     pub fn with_name_seed(self, seed: u64) -> Settings
         ensures { result ≡ self }

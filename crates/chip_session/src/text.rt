@@ -45,7 +45,8 @@ pub(crate) fn write_hex(bytes: &[u8], digits: &mut [u8])
     }
 }
 
-/// The same for one block: all digits first, and then their places, so that many are made at once.
+/// Writes the bytes of one block in lower case hexadecimal: all digits first, and then their places,
+/// so that many are made at once.
 #[inline(always)]
 fn write_block(bytes: &[u8], digits: &mut [u8])
     requires bytes { length bytes.now ≡ BLOCK_BYTES }

@@ -102,7 +102,7 @@ fn are_alike(ours: &[u8], theirs: &[u8]) -> bool
     ours.eq_ignore_ascii_case(theirs)
 }
 
-/// The same bytes.
+/// A copy of a line.
 fn copied(alloc: Global, line: &[u8]) -> Result<Vec<u8>, AtError>
     ensures copy { IfOk result (λ copy. copy.items ≡ line.now) }
     ensures err { IfErr result (λ e. e ≡ AtError.OutOfMemory) }
