@@ -18,11 +18,10 @@ use Rattle.chip_asm.specs.Layout.{Placed, full_size, own_size, is_redefinition, 
 use Rattle.chip_asm.specs.computed.Walk.{place, placed, first_fault, symbols, is_aligning, address}
 use Rattle.chip_asm.proofs.BlockSteps.{active_here}
 use Rattle.chip_asm.proofs.NextLine.{placement-at, follows-push}
-use Rattle.chip_asm.proofs.QuietLines.{Calm, Plain, calm-idle, plain}
+use Rattle.chip_asm.proofs.QuietLines.{Plain, plain}
 
 -- what is asked of such a statement
 record Bare (body : Body) : Type 0 where
-  calm : Calm body
   plain : Plain body
   unpadded : (aligning : Bool) (here : ℕ) → full_size aligning here body (pos 0) ≡ own_size body (pos 0)
   side : is_side_or_end body ≡ false
@@ -33,8 +32,8 @@ unpadded-empty true here = refl
 unpadded-empty false here = refl
 
 bare : (body : Body) → is_bare body ≡ true → Bare body
-bare empty h = record { calm = calm-idle empty refl; plain = plain empty refl; unpadded = unpadded-empty; side = refl; stays = λ opened nearest. refl }
-bare (code form operands) h = record { calm = calm-idle (code form operands) refl; plain = plain (code form operands) refl; unpadded = unpadded-code; side = refl; stays = λ opened nearest. refl }
+bare empty h = record { plain = plain empty refl; unpadded = unpadded-empty; side = refl; stays = λ opened nearest. refl }
+bare (code form operands) h = record { plain = plain (code form operands) refl; unpadded = unpadded-code; side = refl; stays = λ opened nearest. refl }
   where
     unpadded-code : (aligning : Bool) (here : ℕ) → full_size aligning here (code form operands) (pos 0) ≡ own_size (code form operands) (pos 0)
     unpadded-code true here = refl
@@ -111,7 +110,7 @@ passed-bare pass names lines (read name body) at size defines active same f is b
 
     found_now : q ≡ placement_of (place before line)
     found_now =
-        placement-at before line active pass.here None (pos 0) size (sym same ∙ active_here pass before body e.side f) f.at_address (rw e.calm.value refl) (faultless active b.named b.sized) (sizes active b.sized)
+        placement-at before line active pass.here None (pos 0) size (sym same ∙ active_here pass before body e.side f) f.at_address (rw e.plain.value refl) (faultless active b.named b.sized) (sizes active b.sized)
 
 -- what is kept beside the line at a place
 pub info-here : (keys : List Name) (lines : List KeptLine) (place : ℕ) (kept : KeptLine) → AreInfos keys lines → place < length lines → kept ≡ get_or lines place kept → IsInfo keys kept.info kept.several (reading_in kept)

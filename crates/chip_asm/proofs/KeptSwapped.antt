@@ -1,4 +1,4 @@
--- What is kept stays right where a line is put in the place of one with the same effect.
+-- What is kept stays right where a line is put in the place of one that is alike.
 use Rattle.std.proofs.Common.{◌≡◌, ℕ, ◌+◌, ◌-◌, ◌<◌, ◌≤◌, inl, inr, Bool, true, false, ◌&&◌, cond, length, map, reverse, set, get_or, slice_get, ap, sym, ◌∙◌, arith, refl, length-set, vec_len, eq-eqb, List, [], Some, None}
 use Rattle.std.specs.Prelude.{min}
 use Rattle.std.proofs.lemmas.Bool.{cases_eq}
@@ -16,7 +16,7 @@ use Rattle.chip_asm.specs.declared.edit.Edit.TheVariants.{Replace}
 use Rattle.chip_asm.specs.declared.kept.Kept.{Kept}
 use Rattle.chip_asm.specs.declared.placement.Placement.{Placement}
 use Rattle.chip_asm.specs.inner.Codes.{IsImageOf, IsWritten, code_kept, covers_byte, is_coded, kept_bytes, right_byte}
-use Rattle.chip_asm.specs.inner.Effect.{HasSameEffectAt}
+use Rattle.chip_asm.specs.inner.Effect.{AreAlike}
 use Rattle.chip_asm.specs.inner.Infos.{IsInfo}
 use Rattle.chip_asm.specs.inner.Kept.{IsKept}
 use Rattle.chip_asm.specs.inner.KeptLine.{KeptLine}
@@ -43,12 +43,12 @@ pub record Exchange (lines : List Reading) (at : ℕ) (new : Reading) (q : Place
   pub inside : at < length lines
 
 pub exchange-kept : (kept : Kept) (at : ℕ) (added : KeptLine) (q : Placement) → IsKept kept → at < vec_len kept.lines → q ≡ get_or kept.layout.placements.items at q
-    → HasSameEffectAt (readings_in kept.lines.items) at (reading_in added) → Exchange (readings_in kept.lines.items) at (reading_in added) q
-exchange-kept kept at added q k within is effect =
+    → AreAlike (get_or (readings_in kept.lines.items) at (reading_in added)) (reading_in added) → Exchange (readings_in kept.lines.items) at (reading_in added) q
+exchange-kept kept at added q k within is alike =
     let lines : List Reading = readings_in kept.lines.items in
     let new : Reading = reading_in added in
     let inside : at < length lines = omega (arith, within, kept.lines.ok.0, length-map kept.lines.items reading_in) in
-    let s : Swapped lines at new = swapped lines at (get_or lines at new) new inside (get_or_default lines at (get_or lines at new) new inside) effect in
+    let s : Swapped lines at new = swapped lines at (get_or lines at new) new inside (get_or_default lines at (get_or lines at new) new inside) alike in
     let there = found-there lines kept.layout k.laid_out at q (slice_get-get_or kept.layout.placements.items at q (omega (arith, inside, length-laid kept.layout lines k.laid_out)) ∙ ap Some (sym is)) in
     record {
       swap = s;

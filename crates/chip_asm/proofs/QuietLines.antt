@@ -9,7 +9,7 @@ use Rattle.chip_lang.specs.declared.fault.Fault.TheVariants.{DefinedTwice, PastM
 use Rattle.chip_lang.specs.Line.{Body, empty, equ, org, ds, db, dw, da, code, ifdef, ifund, else_line, endif, align, options, used, xref, Reading, bad, read}
 use Rattle.chip_asm.specs.Names.{Name}
 use Rattle.chip_asm.specs.declared.table.Symbol.{Symbol}
-use Rattle.chip_asm.specs.inner.Effect.{is_plain, is_plain_line, is_idle, TakesSameSpace, AreAlike, HasSameEffect}
+use Rattle.chip_asm.specs.inner.Effect.{is_plain, is_plain_line, AreAlike}
 use Rattle.chip_asm.specs.inner.Follows.{next_aligning}
 use Rattle.chip_asm.specs.Layout.{Placed, body_of, is_if_body, is_else_body, is_endif_body, is_end_body, is_org_body, is_if, is_else, is_endif, takes_effect, is_origin, symbol_of, value_given, condition_of, value_at, value_or_zero, full_size, is_redefinition, has_ended, has_else, holds, first_of}
 use Rattle.chip_asm.specs.computed.Walk.{place, first_fault, fault_of_value, is_misplaced, is_active, enclosing, symbols, address, is_aligning}
@@ -18,39 +18,14 @@ use Rattle.chip_asm.proofs.PlaceSteps.{address-cons, aligning-cons, has_ended-co
 
 -- statements
 
--- an idle statement is none of the blocks', and has no value of its own
-pub record Calm (b : Body) : Type 0 where
+-- a plain statement is none of the blocks', has no value of its own, neither moves the address nor
+-- switches the padding nor ends the source, and its name is that of an address
+pub record Plain (b : Body) : Type 0 where
   pub no_if : is_if_body b ≡ false
   pub no_else : is_else_body b ≡ false
   pub no_endif : is_endif_body b ≡ false
   pub condition : (names : List (Name × Symbol)) → condition_of names b ≡ false
   pub value : (names : List (Name × Symbol)) → value_at names b ≡ Ok (pos 0)
-
-pub calm-idle : (b : Body) → is_idle b ≡ true → Calm b
-unfolding value_at
-calm-idle (ifdef n) h = absurd (false≢true h)
-calm-idle (ifund n) h = absurd (false≢true h)
-calm-idle else_line h = absurd (false≢true h)
-calm-idle endif h = absurd (false≢true h)
-calm-idle (equ e) h = absurd (false≢true h)
-calm-idle (org e) h = absurd (false≢true h)
-calm-idle (ds e) h = absurd (false≢true h)
-calm-idle _ h = record { no_if = refl; no_else = refl; no_endif = refl; condition = λ names. refl; value = λ names. refl }
-
-pub plain-idle : (b : Body) → is_plain b ≡ true → is_idle b ≡ true
-plain-idle empty h = refl
-plain-idle options h = refl
-plain-idle used h = refl
-plain-idle xref h = refl
-plain-idle (db es) h = refl
-plain-idle (dw es) h = refl
-plain-idle (da bytes) h = refl
-plain-idle (code f os) h = refl
-plain-idle _ h = absurd (false≢true h)
-
--- a plain statement neither moves the address nor switches the padding nor ends the source, and its
--- name is that of an address
-pub record Plain (b : Body) : Type 0 where
   pub no_org : is_org_body b ≡ false
   pub no_end : is_end_body b ≡ false
   pub no_align : (accepted aligning : Bool) → next_aligning accepted aligning b ≡ aligning
@@ -60,14 +35,14 @@ pub record Plain (b : Body) : Type 0 where
 
 pub plain : (b : Body) → is_plain b ≡ true → Plain b
 unfolding first_fault fault_of_value value_at
-plain empty h = record { no_org = refl; no_end = refl; no_align = λ a g. refl; given = λ n v. refl; first = λ before label. refl }
-plain options h = record { no_org = refl; no_end = refl; no_align = λ a g. refl; given = λ n v. refl; first = λ before label. refl }
-plain used h = record { no_org = refl; no_end = refl; no_align = λ a g. refl; given = λ n v. refl; first = λ before label. refl }
-plain xref h = record { no_org = refl; no_end = refl; no_align = λ a g. refl; given = λ n v. refl; first = λ before label. refl }
-plain (db es) h = record { no_org = refl; no_end = refl; no_align = λ a g. refl; given = λ n v. refl; first = λ before label. refl }
-plain (dw es) h = record { no_org = refl; no_end = refl; no_align = λ a g. refl; given = λ n v. refl; first = λ before label. refl }
-plain (da bytes) h = record { no_org = refl; no_end = refl; no_align = λ a g. refl; given = λ n v. refl; first = λ before label. refl }
-plain (code f os) h = record { no_org = refl; no_end = refl; no_align = λ a g. refl; given = λ n v. refl; first = λ before label. refl }
+plain empty h = record { no_if = refl; no_else = refl; no_endif = refl; condition = λ names. refl; value = λ names. refl; no_org = refl; no_end = refl; no_align = λ a g. refl; given = λ n v. refl; first = λ before label. refl }
+plain options h = record { no_if = refl; no_else = refl; no_endif = refl; condition = λ names. refl; value = λ names. refl; no_org = refl; no_end = refl; no_align = λ a g. refl; given = λ n v. refl; first = λ before label. refl }
+plain used h = record { no_if = refl; no_else = refl; no_endif = refl; condition = λ names. refl; value = λ names. refl; no_org = refl; no_end = refl; no_align = λ a g. refl; given = λ n v. refl; first = λ before label. refl }
+plain xref h = record { no_if = refl; no_else = refl; no_endif = refl; condition = λ names. refl; value = λ names. refl; no_org = refl; no_end = refl; no_align = λ a g. refl; given = λ n v. refl; first = λ before label. refl }
+plain (db es) h = record { no_if = refl; no_else = refl; no_endif = refl; condition = λ names. refl; value = λ names. refl; no_org = refl; no_end = refl; no_align = λ a g. refl; given = λ n v. refl; first = λ before label. refl }
+plain (dw es) h = record { no_if = refl; no_else = refl; no_endif = refl; condition = λ names. refl; value = λ names. refl; no_org = refl; no_end = refl; no_align = λ a g. refl; given = λ n v. refl; first = λ before label. refl }
+plain (da bytes) h = record { no_if = refl; no_else = refl; no_endif = refl; condition = λ names. refl; value = λ names. refl; no_org = refl; no_end = refl; no_align = λ a g. refl; given = λ n v. refl; first = λ before label. refl }
+plain (code f os) h = record { no_if = refl; no_else = refl; no_endif = refl; condition = λ names. refl; value = λ names. refl; no_org = refl; no_end = refl; no_align = λ a g. refl; given = λ n v. refl; first = λ before label. refl }
 plain _ h = absurd (false≢true h)
 
 -- lines
@@ -102,21 +77,16 @@ parts before line = record { number = refl; block = refl; condition = refl; acti
 abbrev pub with_line : Placed → Reading → Placed
 with_line p line = record p { line = line }
 
-active-calm : (before : List Placed) (a b : Body) → Calm a → Calm b → is_active before a ≡ is_active before b
+active-plain : (before : List Placed) (a b : Body) → Plain a → Plain b → is_active before a ≡ is_active before b
 unfolding is_active
-active-calm before a b x y = rw (x.no_else, x.no_endif, y.no_else, y.no_endif) refl
+active-plain before a b x y = rw (x.no_else, x.no_endif, y.no_else, y.no_endif) refl
 
-full-same : (a : Bool) (here : ℕ) (b c : Body) → TakesSameSpace b c → full_size a here b (pos 0) ≡ full_size a here c (pos 0)
-full-same a here b c s = rw (s.size, s.padded) refl
+full-same : (a : Bool) (here : ℕ) (old new : Reading) → AreAlike old new → full_size a here (body_of old) (pos 0) ≡ full_size a here (body_of new) (pos 0)
+full-same a here old new s = rw (s.size, s.padded) refl
 
--- of two lines with the same effect both are idle
-idle-both : (active : Bool) (old new : Reading) → HasSameEffect active old new → (is_idle (body_of old) ≡ true) × (is_idle (body_of new) ≡ true)
-idle-both false old new e = (e.was_idle refl, e.now_idle refl)
-idle-both true old new e = (plain-line old (e.alike refl).was_plain, plain-line new (e.alike refl).now_plain)
-  where
-    plain-line : (line : Reading) → is_plain_line line ≡ true → is_idle (body_of line) ≡ true
-    plain-line (bad f) h = absurd (false≢true h)
-    plain-line (read label b) h = plain-idle b h
+plain-line : (line : Reading) → is_plain_line line ≡ true → Plain (body_of line)
+plain-line (bad f) h = absurd (false≢true h)
+plain-line (read label b) h = plain b h
 
 first-same : (before : List Placed) (old new : Reading) → AreAlike old new → first_fault before old ≡ first_fault before new
 first-same before (bad f) new a = absurd (false≢true a.was_plain)
@@ -124,36 +94,22 @@ first-same before (read l b) (bad f) a = absurd (false≢true a.now_plain)
 first-same before (read l b) (read m c) a =
     let name : l ≡ m = a.name in
     (plain b a.was_plain).first before l
-    ∙ (rw (name, full-same (is_aligning before) (address before) b c a.space) (sym ((plain c a.now_plain).first before m)))
-
-fault-same : (active : Bool) (before : List Placed) (old new : Reading) → HasSameEffect active old new → cond active (first_fault before old) None ≡ cond active (first_fault before new) None
-fault-same false before old new e = refl
-fault-same true before old new e = first-same before old new (e.alike refl)
-
-size-same : (active : Bool) (fault : Option Fault) (a : Bool) (here : ℕ) (old new : Reading) → HasSameEffect active old new
-    → cond (active && is_none fault) (full_size a here (body_of old) (pos 0)) 0 ≡ cond (active && is_none fault) (full_size a here (body_of new) (pos 0)) 0
-size-same false fault a here old new e = refl
-size-same true fault a here old new e = rw (full-same a here (body_of old) (body_of new) (e.alike refl).space) refl
-
-place-line : (before : List Placed) (old new : Reading) → HasSameEffect (place before old).active (place before old).line new → HasSameEffect (place before old).active old new
-place-line before old new e = subst (λ (l : Reading). HasSameEffect (place before old).active l new) (parts before old).line_is e
+    ∙ (rw (name, full-same (is_aligning before) (address before) (read l b) (read m c) a) (sym ((plain c a.now_plain).first before m)))
 
 -- it stands where the other one stood
-pub place-swapped : (before : List Placed) (old new : Reading) → HasSameEffect (place before old).active (place before old).line new → place before new ≡ with_line (place before old) new
-place-swapped before old new at =
-    let e = place-line before old new at in
+pub place-swapped : (before : List Placed) (old new : Reading) → AreAlike old new → place before new ≡ with_line (place before old) new
+place-swapped before old new e =
     let p = parts before old in
-    let idle = idle-both (place before old).active old new e in
-    let a = calm-idle (body_of old) idle.0 in
-    let b = calm-idle (body_of new) idle.1 in
+    let a = plain-line old e.was_plain in
+    let b = plain-line new e.now_plain in
     let no_value : (place before old).value ≡ pos 0 = p.value ∙ ap value_or_zero (a.value (symbols before)) in
     sym
     (place-at before new (place before old).number (place before old).block (place before old).condition (place before old).active (place before old).here (place before old).value (place before old).fault
-    (place before old).size p.number p.block (p.condition ∙ a.condition (symbols before) ∙ sym (b.condition (symbols before))) (p.active ∙ active-calm before (body_of old) (body_of new) a b) p.here
+    (place before old).size p.number p.block (p.condition ∙ a.condition (symbols before) ∙ sym (b.condition (symbols before))) (p.active ∙ active-plain before (body_of old) (body_of new) a b) p.here
     (no_value ∙ sym (ap value_or_zero (b.value (symbols before))))
-    (p.fault ∙ fault-same (place before old).active before old new e)
+    (p.fault ∙ ap (λ f. cond (place before old).active f None) (first-same before old new e))
     (p.size
-    ∙ (rw no_value (size-same (place before old).active (place before old).fault (is_aligning before) (place before old).here old new e))))
+    ∙ (rw no_value (ap (λ n. cond (takes_effect (place before old)) n 0) (full-same (is_aligning before) (place before old).here old new e)))))
 
 -- what lists of lines before have to share, so that the same lines may follow
 pub record Same (xs ys : List Placed) : Type 0 where
@@ -237,57 +193,29 @@ and_never : (a : Bool) → (a && false) ≡ false
 and_never true = refl
 and_never false = refl
 
-pub quiet-plain : (p : Placed) → is_plain (body_of p.line) ≡ true → Quiet p
-quiet-plain p h =
-    let c = calm-idle (body_of p.line) (plain-idle (body_of p.line) h) in
-    let q = plain (body_of p.line) h in
+quiet : (p : Placed) → is_plain_line p.line ≡ true → Quiet p
+quiet p h =
+    let q = plain-line p.line h in
     record {
-      no_if = c.no_if;
-      no_else = c.no_else;
-      no_endif = c.no_endif;
+      no_if = q.no_if;
+      no_else = q.no_else;
+      no_endif = q.no_endif;
       no_origin = ap (λ b. takes_effect p && b) q.no_org ∙ and_never (takes_effect p);
       no_end = ap (λ b. p.active && b) q.no_end ∙ and_never p.active;
       no_align = λ a. q.no_align (takes_effect p) a;
     }
 
-not_accepted-aligning : (a : Bool) (b : Body) → next_aligning false a b ≡ a
-not_accepted-aligning a (align on) = refl
-not_accepted-aligning a _ = refl
+pub quiet-old : (p : Placed) (new : Reading) → AreAlike p.line new → Quiet p
+quiet-old p new e = quiet p e.was_plain
 
-quiet-idle : (p : Placed) → p.active ≡ false → is_idle (body_of p.line) ≡ true → Quiet p
-quiet-idle p l h =
-    let c = calm-idle (body_of p.line) h in
-    let n : takes_effect p ≡ false = rw l refl in
-    record {
-      no_if = c.no_if;
-      no_else = c.no_else;
-      no_endif = c.no_endif;
-      no_origin = rw n refl;
-      no_end = rw l refl;
-      no_align = λ a. rw n (not_accepted-aligning a (body_of p.line));
-    }
+pub quiet-new : (p : Placed) (new : Reading) → AreAlike p.line new → Quiet (with_line p new)
+quiet-new p new e = quiet (with_line p new) e.now_plain
 
-quiet-by : (p : Placed) (active : Bool) → p.active ≡ active → (active ≡ true → is_plain (body_of p.line) ≡ true) → (active ≡ false → is_idle (body_of p.line) ≡ true) → Quiet p
-quiet-by p true l a b = quiet-plain p (a refl)
-quiet-by p false l a b = quiet-idle p l (b refl)
-
-pub plain-body : (line : Reading) → is_plain_line line ≡ true → is_plain (body_of line) ≡ true
-plain-body (bad f) h = absurd (false≢true h)
-plain-body (read label b) h = h
-
-pub quiet-old : (p : Placed) (new : Reading) → HasSameEffect p.active p.line new → Quiet p
-quiet-old p new e = quiet-by p p.active refl (λ l. plain-body p.line (e.alike l).was_plain) e.was_idle
-
-pub quiet-new : (p : Placed) (new : Reading) → HasSameEffect p.active p.line new → Quiet (with_line p new)
-quiet-new p new e = quiet-by (with_line p new) p.active refl (λ l. plain-body new (e.alike l).now_plain) e.now_idle
-
-symbol-same : (p : Placed) (new : Reading) (active : Bool) → p.active ≡ active → (active ≡ true → AreAlike p.line new) → symbol_of p ≡ symbol_of (with_line p new)
-symbol-same p new false l a = rw l refl
-symbol-same p new true l a =
-    let k = a refl in
-    let old_value = (plain (body_of p.line) (plain-body p.line k.was_plain)).given p.here p.value in
-    let new_value = (plain (body_of new) (plain-body new k.now_plain)).given p.here p.value in
-    ap (λ s. cond (takes_effect p) s None) (rw (old_value, new_value, k.name) refl)
+symbol-same : (p : Placed) (new : Reading) → AreAlike p.line new → symbol_of p ≡ symbol_of (with_line p new)
+symbol-same p new e =
+    let old_value = (plain-line p.line e.was_plain).given p.here p.value in
+    let new_value = (plain-line new e.now_plain).given p.here p.value in
+    ap (λ s. cond (takes_effect p) s None) (rw (old_value, new_value, e.name) refl)
 
 side-quiet : (p q : Placed) (before : List Placed) (o : Placed) → is_else p ≡ false → is_else q ≡ false → has_else (p ∷ before) o ≡ has_else (q ∷ before) o
 unfolding has_else
@@ -304,7 +232,7 @@ quiet-same p q before a b names size = record {
   sides = λ o. side-quiet p q before o a.no_else b.no_else;
 }
 
--- the same lines may follow two lines with the same effect
-pub same-swapped : (p : Placed) (new : Reading) (before : List Placed) → HasSameEffect p.active p.line new → Same (p ∷ before) (with_line p new ∷ before)
+-- the same lines may follow two lines that are alike
+pub same-swapped : (p : Placed) (new : Reading) (before : List Placed) → AreAlike p.line new → Same (p ∷ before) (with_line p new ∷ before)
 same-swapped p new before e =
-    quiet-same p (with_line p new) before (quiet-old p new e) (quiet-new p new e) (symbol-same p new p.active refl e.alike) refl
+    quiet-same p (with_line p new) before (quiet-old p new e) (quiet-new p new e) (symbol-same p new e) refl

@@ -1,4 +1,4 @@
--- What a line in the place of one with the same effect changes: its bytes.
+-- What a line in the place of one that is alike changes: its bytes.
 use Rattle.std.proofs.Common.{◌≡◌, ℕ, ◌+◌, ◌-◌, ◌<◌, ◌≤◌, Bool, true, false, cond, ◌&&◌, ltb, leb, List, [], ◌∷◌, ◌++◌, length, map, reverse, set, get_or, find, refl, ap, sym, ◌∙◌, arith, Option, Some, None}
 use Rattle.std.specs.Option.{option_map_or}
 use Rattle.std.proofs.lemmas.Bool.Decides.{nat_tests}
@@ -50,7 +50,7 @@ placements-swapped lines at new s =
     ap (map (final_placement (placed (set lines at new)))) (line-swapped lines at new s)
     ∙ sym (maps (final_placement (placed lines)) (final_placement (placed (set lines at new))) (λ p. final-same (placed lines) (placed (set lines at new)) p (alike lines at new s)) (set (reverse (placed lines)) at (with_line s.x new)))
     ∙ map-set_same (final_placement (placed lines)) (reverse (placed lines)) at (with_line s.x new) s.x
-    (sym (final-swapped (placed lines) (placed lines) s.x new (quiet-old s.x new s.effect) (quiet-new s.x new s.effect)) ∙ ap (final_placement (placed lines)) (sym (line-was lines at new s s.x)))
+    (sym (final-swapped (placed lines) (placed lines) s.x new (quiet-old s.x new s.alike) (quiet-new s.x new s.alike)) ∙ ap (final_placement (placed lines)) (sym (line-was lines at new s s.x)))
 
 -- bytes
 

@@ -1,16 +1,16 @@
--- The lines of a source, where one of them is put in the place of one with the same effect.
-use Rattle.std.proofs.Common.{◌≡◌, ℕ, zero, suc, ◌+◌, ◌<◌, ◌≤◌, List, [], ◌∷◌, ◌++◌, reverse, length, take, drop, set, get_or, slice_get, fold, refl, ap, sym, ◌∙◌, arith, Some, append_assoc}
+-- The lines of a source, where one of them is put in the place of one that is alike.
+use Rattle.std.proofs.Common.{◌≡◌, ℕ, zero, suc, ◌+◌, ◌<◌, ◌≤◌, List, [], ◌∷◌, ◌++◌, reverse, length, take, drop, set, get_or, slice_get, fold, refl, ap, sym, subst, ◌∙◌, arith, Some, append_assoc}
 use Rattle.std.proofs.lemmas.List.{length-reverse, length-take, reverse-append}
 use Rattle.std.proofs.lemmas.Option.{slice_get-get_or}
 use Rattle.std.proofs.Math.Seq.{get_or-append_seam}
 use Rattle.chip_lang.specs.Line.{Reading}
-use Rattle.chip_asm.specs.inner.Effect.{HasSameEffect, HasSameEffectAt}
+use Rattle.chip_asm.specs.inner.Effect.{AreAlike}
 use Rattle.chip_asm.specs.Layout.{Placed}
 use Rattle.chip_asm.specs.computed.Walk.{place, placed, address}
 use Rattle.chip_asm.proofs.BlockSteps.{reverse-cons}
 use Rattle.chip_asm.proofs.Bounds.{passes, stands-here}
 use Rattle.chip_asm.proofs.Placing.{onto, fold-append, length-numbered, length-placed}
-use Rattle.chip_asm.proofs.QuietLines.{Same, with_line, place-swapped, place-same, same-cons, same-refl, same-swapped}
+use Rattle.chip_asm.proofs.QuietLines.{Same, parts, with_line, place-swapped, place-same, same-cons, same-refl, same-swapped}
 
 -- each of these stands at an address or past it
 abbrev pub AreAbove : ℕ → List Placed → Type 0
@@ -68,7 +68,7 @@ pub record Swapped (lines : List Reading) (at : ℕ) (new : Reading) : Type 0 wh
   pub now : placed (set lines at new) ≡ later ++ with_line x new ∷ before
   pub same : Same (later ++ x ∷ before) (later ++ with_line x new ∷ before)
   pub above : AreAbove (x.here + x.size) later
-  pub effect : HasSameEffect x.active x.line new
+  pub alike : AreAlike x.line new
 
 pub reverse-middle : (later before : List Placed) (x : Placed) → reverse (later ++ x ∷ before) ≡ reverse before ++ x ∷ reverse later
 reverse-middle later before x =
@@ -79,8 +79,8 @@ at-middle later before x d at e =
     let count : length (reverse before) ≡ at = length-reverse before ∙ e in
     ap (λ l. get_or l at d) (reverse-middle later before x) ∙ ap (λ n. get_or (reverse before ++ x ∷ reverse later) n d) (sym count) ∙ get_or-append_seam (reverse before) x (reverse later) d
 
-pub swapped : (lines : List Reading) (at : ℕ) (old new : Reading) → at < length lines → get_or lines at old ≡ old → HasSameEffectAt lines at new → Swapped lines at new
-swapped lines at old new inside is_old effect =
+pub swapped : (lines : List Reading) (at : ℕ) (old new : Reading) → at < length lines → get_or lines at old ≡ old → AreAlike old new → Swapped lines at new
+swapped lines at old new inside is_old alike =
     let before : List Placed = placed (take at lines) in
     let x : Placed = place (placed (take at lines)) old in
     let back : List Reading = drop (suc at) lines in
@@ -88,10 +88,7 @@ swapped lines at old new inside is_old effect =
     let now : placed (set lines at new) ≡ fold onto (place before new ∷ before) back = ap placed (split-set lines at new inside) ∙ placed-split (take at lines) back new in
     let count : length before ≡ at = omega (arith, length-placed (take at lines), length-take at lines) in
     let past : x.here + x.size ≤ address (x ∷ before) = passes before old in
-    let alone : Later (x ∷ before) (x ∷ before) back (x.here + x.size) = later (x ∷ before) (x ∷ before) back (x.here + x.size) (same-refl (x ∷ before)) past in
-    let is_there : get_or (reverse (placed lines)) at x ≡ x = ap (λ ps. get_or (reverse ps) at x) (was ∙ alone.of_first) ∙ at-middle alone.later before x x at count in
-    let there : slice_get (reverse (placed lines)) at ≡ Some x = slice_get-get_or (reverse (placed lines)) at x (omega (arith, inside, length-numbered lines)) ∙ ap Some is_there in
-    let e : HasSameEffect x.active x.line new = effect.each x there in
+    let e : AreAlike x.line new = subst (λ (l : Reading). AreAlike l new) (sym (parts before old).line_is) alike in
     let r : Later (x ∷ before) (with_line x new ∷ before) back (x.here + x.size) = later (x ∷ before) (with_line x new ∷ before) back (x.here + x.size) (same-swapped x new before e) past in
     record {
       later = r.later;
@@ -99,8 +96,8 @@ swapped lines at old new inside is_old effect =
       x = x;
       count = count;
       was = was ∙ r.of_first;
-      now = now ∙ ap (λ p. fold onto (p ∷ before) back) (place-swapped before old new e) ∙ r.of_second;
+      now = now ∙ ap (λ p. fold onto (p ∷ before) back) (place-swapped before old new alike) ∙ r.of_second;
       same = r.same;
       above = r.above;
-      effect = e;
+      alike = e;
     }

@@ -1,13 +1,12 @@
 //! What is kept of a source, and the one way in which an edit changes it.
-ghost use Rattle.std.specs.Prelude.{◌≡◌, List, ◌+◌, ◌<◌, ◌≤◌, [], true, slice_set, OnOk, OnErr, IfOk, IfSome, length, map, vec_len};
+ghost use Rattle.std.specs.Prelude.{◌≡◌, List, ◌+◌, ◌<◌, ◌≤◌, [], slice_index_or, slice_set, OnOk, OnErr, IfOk, IfSome, length, map, vec_len};
 ghost use Rattle.chip_lang.specs.Line.{reading_of};
-ghost use Rattle.chip_lang.specs.SeenLine.{seen_line};
 ghost use Rattle.chip_asm.specs.Edits.{before_replace};
 ghost use Rattle.chip_asm.specs.Program.{AgreesOutside, image_of};
 ghost use Rattle.chip_asm.specs.Work.{accepted_lines, needs_count};
 ghost use Rattle.chip_asm.specs.declared.limits.TheConstants.{MOST_LINES};
 ghost use Rattle.chip_lang.specs.declared.limits.TheConstants.{IMAGE_BYTES};
-ghost use Rattle.chip_asm.specs.inner.Effect.{HasSameEffectAt};
+ghost use Rattle.chip_asm.specs.inner.Effect.{AreAlike};
 ghost use Rattle.chip_asm.specs.Names.{Name};
 ghost use Rattle.chip_asm.specs.inner.Infos.{AreInfos, AreInfosOf, IsInfo};
 ghost use Rattle.chip_asm.specs.inner.Layouts.{IsCounted};
@@ -21,7 +20,7 @@ use crate::assemble::{encode_lines, steady_lines, walk};
 use crate::block::Block;
 use crate::codes::{copy_front, places_of, write_line};
 use crate::edit::{Edit, count_after, edit_items, first_changed, make_edit, replace_line};
-use crate::effect::has_same_effect;
+use crate::effect::are_alike;
 use crate::kept_line::BoxedLine;
 use crate::layout::{Layout, Tally, mark_unclosed};
 use crate::line_info::{LineInfo, Numbered};
@@ -29,7 +28,7 @@ use crate::pass::Pass;
 use crate::placement::{Placement, Status};
 use crate::table::Table;
 use chip_lang::limits::{IMAGE_BYTES, IMAGE_START};
-use chip_lang::{Line, Meter};
+use chip_lang::Meter;
 use std::alloc::{AllocError, Global};
 use std::mem;
 use std::ops::Range;
@@ -132,7 +131,7 @@ impl Kept {
     {
         let written = match edit {
             Edit::Replace(at, added) => {
-                if self.has_same_effect(at, added.line()) {
+                if are_alike(self.lines[at].line(), added.line()) {
                     self.rewrite(meter, at, added)
                 } else {
                     self.remake(alloc, meter, Edit::Replace(at, added))?;
@@ -176,25 +175,15 @@ impl Kept {
         Ok((names, infos))
     }
 
-    /// Whether a line in the place of the one there changes nothing else.
-    fn has_same_effect(&self, at: usize, line: &Line) -> bool
-        requires kept { IsKept self.now }
-        requires inside { at < vec_len self.now.lines }
-        ensures { result ≡ true
-            → HasSameEffectAt (lines_kept self.now) at (seen_line line.now) }
-    {
-        let placement = self.layout.placements[at];
-        has_same_effect(placement.is_active(), self.lines[at].line(), line)
-    }
-
-    /// Puts a line in the place of one with the same effect: its bytes, and whether it has a fault,
-    /// are all that changes. The places of its bytes in the image, if there was one.
+    /// Puts a line in the place of one that is alike: its bytes, and whether it has a fault, are all
+    /// that changes. The places of its bytes in the image, if there was one.
     fn rewrite(&mut self, meter: &mut Meter, at: usize, added: BoxedLine) -> Option<Range<usize>>
         requires kept { IsKept self.old }
         requires inside { at < vec_len self.old.lines }
         requires is_read { reading_in added ≡ reading_of added.text }
         requires info { IsInfo self.old.names.keys added.info added.several (reading_in added) }
-        requires same { HasSameEffectAt (lines_kept self.old) at (reading_in added) }
+        requires alike { AreAlike (slice_index_or (lines_kept self.old) at (reading_in added))
+            (reading_in added) }
         ensures texts { texts_kept self.new ≡ slice_set (texts_kept self.old) at added.text }
         ensures kept { IsKept self.new }
         ensures encoded { meter.new.encoded ≤ meter.old.encoded

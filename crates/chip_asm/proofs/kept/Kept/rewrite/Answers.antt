@@ -28,7 +28,7 @@ pub write_line-fault-requires : goal.write_line-fault-requires
 write_line-fault-requires c =
     let lines : List Reading = readings_in c.args.self.now.lines.items in
     let q = c.index.result.now in
-    let e : Exchange lines c.args.at (reading_in c.args.added) q = exchange-kept c.args.self.now c.args.at c.args.added q c.requires.kept c.requires.inside c.index.ensures c.requires.same in
+    let e : Exchange lines c.args.at (reading_in c.args.added) q = exchange-kept c.args.self.now c.args.at c.args.added q c.requires.kept c.requires.inside c.index.ensures c.requires.alike in
     record {
       info = c.requires.info;
       low = low lines c.args.at (found q) e.was;
@@ -55,7 +55,7 @@ put-requires c =
 
 -- the line at the place, before and after
 swap : (c : After-replace_line) → Exchange (readings_in c.args.self.now.lines.items) c.args.at (reading_in c.args.added) c.index.result.now
-swap c = exchange-kept c.args.self.now c.args.at c.args.added c.index.result.now c.requires.kept c.requires.inside c.index.ensures c.requires.same
+swap c = exchange-kept c.args.self.now c.args.at c.args.added c.index.result.now c.requires.kept c.requires.inside c.index.ensures c.requires.alike
 
 -- what is noted of it
 noted : (c : After-replace_line) → IsNoted c.args.self.now c.if-is_accepted.self c.args.at c.args.added c.index.result.now c.if-is_accepted.placement
