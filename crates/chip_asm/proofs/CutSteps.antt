@@ -31,14 +31,6 @@ filled : (bytes : List ℕ) → Filled (slice_split is_newline bytes)
 filled [] = record { first = []; others = []; is = refl }
 filled (x ∷ xs) = filled_cond (is_newline x) _ _ (record { first = []; others = slice_split is_newline xs; is = refl }) (filled_first x (slice_split is_newline xs))
 
-prefix-le : (p : ℕ → Bool) (xs : List ℕ) → prefix_len p xs ≤ length xs
-prefix-le p [] = omega arith
-prefix-le p (x ∷ xs) = by (p x) (prefix-le p xs)
-  where
-    by : (b : Bool) → prefix_len p xs ≤ length xs → cond b (1 + prefix_len p xs) 0 ≤ length (x ∷ xs)
-    by true h = omega arith
-    by false h = omega arith
-
 cut-found : (bytes : List ℕ) → position_or_len is_newline bytes < length bytes → lines_of bytes ≡ strip_carriage_return (before_first is_newline bytes) ∷ lines_of (after_first is_newline bytes)
 cut-found bytes h =
     let f = filled (after_first is_newline bytes) in

@@ -13,7 +13,7 @@ use Rattle.chip_asm.specs.declared.line_info.LineInfo.{LineInfo}
 use Rattle.chip_asm.specs.declared.line_info.Numbered.{Numbered}
 use Rattle.chip_asm.specs.declared.table.NameId.{NameId}
 use Rattle.chip_asm.specs.Names.{Name}
-use Rattle.chip_asm.specs.inner.Infos.{AreInfos, AreInfosOf, IsInfo, IsNumberOf, numbers_used}
+use Rattle.chip_asm.specs.inner.Infos.{AreInfos, AreInfosOf, IsInfo, IsNumberOf, numbers_of}
 use Rattle.chip_asm.specs.inner.KeptLine.{KeptLine}
 use Rattle.chip_asm.specs.inner.Records.{reading_in, readings_in, texts_in}
 use Rattle.chip_asm.specs.inner.Tables.{AreNumbers, Extends, IsNumber, key_at, names_at}
@@ -65,7 +65,7 @@ info-extends old new info several line e i = record {
   coded = i.coded;
   steady = i.steady;
   defines = number-of-extends old new info.defines _ e i.defines;
-  uses = numbers-extend old new (numbers_used info.uses several) _ e i.uses;
+  uses = numbers-extend old new (numbers_of info.uses several) _ e i.uses;
 }
 
 pub infos-extend : (old new : List Name) (lines : List KeptLine) → Extends old new → AreInfos old lines → AreInfos new lines

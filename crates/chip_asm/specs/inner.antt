@@ -1,6 +1,6 @@
 -- What the functions inside say: of the first pass in Turns, Follows, Placements, Marks, Layouts and
 -- Resume; of symbols in ValueLists and Tables; of kept lines in HeldText, HeldLine, KeptLine, Facts,
--- PackedUses, Infos, Records and Effect; of their codes in Recode and Codes; of both passes in
+-- Infos, Records and Effect; of their codes in Recode and Codes; of both passes in
 -- Passes; of all of it in Kept.
 pub mod Codes
 pub mod Effect
@@ -13,7 +13,6 @@ pub mod Kept
 pub mod KeptLine
 pub mod Layouts
 pub mod Marks
-pub mod PackedUses
 pub mod Passes
 pub mod Placements
 pub mod Recode

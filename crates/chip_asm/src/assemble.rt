@@ -51,7 +51,7 @@ fn keeps_values(names: &Table, kept: &BoxedLine) -> bool
         ≡ agree_on names.now.before (values_of names.now.symbols)
         (reading_in kept.now) }
 {
-    match kept.info().uses.get() {
+    match kept.info().uses {
         Uses::Nothing => true,
         Uses::One(id) => names.keeps_value(id),
         Uses::Several => names.keep_values(kept.numbers()),
@@ -69,7 +69,7 @@ fn known_value(names: &Table, kept: &BoxedLine, was: &Placement) -> Option<i32>
         → value_at names.now.symbols (body_of (reading_in kept.now)) ≡ Ok was.now.value }
     ensures { IsKnownUnder names.now.symbols result (reading_in kept.now) }
 {
-    if was.is_accepted() && keeps_values(names, kept) {
+    if was.status.is_accepted() && keeps_values(names, kept) {
         Some(was.value)
     } else {
         None
@@ -101,8 +101,8 @@ fn pass_line(
     let known = known_value(&pass.names, kept, &was);
     let (line, defines, numbers) = (kept.line(), kept.info().defines, kept.numbers());
     let mut now = pass.step(place, known, line, defines, numbers);
-    if now.is_accepted() {
-        if was.is_accepted() {
+    if now.status.is_accepted() {
+        if was.status.is_accepted() {
             copy_code(&was, &now, from, image);
             now.status = was.status;
         } else {
@@ -149,7 +149,12 @@ fn is_settled(changed: &[bool], kept: &BoxedLine, status: Status) -> bool
         → AreDifferences names changed.now → result ≡ true
         → agree_on names.before (values_of names.symbols) (reading_in kept.now) ≡ true }
 {
-    !status.is_pending() && !changed[kept.info().uses.place()]
+    let may_differ = match kept.info().uses {
+        Uses::Nothing => false,
+        Uses::One(id) => changed[id.number as usize],
+        Uses::Several => true,
+    };
+    !status.is_pending() && !may_differ
 }
 
 /// Whether a line is to be encoded.
@@ -164,7 +169,7 @@ fn is_again(names: &Table, kept: &BoxedLine, placement: &Placement) -> bool
     if placement.status.is_pending() {
         return true;
     }
-    kept.info().is_coded && placement.is_accepted() && !keeps_values(names, kept)
+    kept.info().is_coded && placement.status.is_accepted() && !keeps_values(names, kept)
 }
 
 /// The first place from one on of a line that isn't settled, or the end.

@@ -69,7 +69,7 @@ pub(crate) fn write_line(
     ensures parsed { meter.new.parsed ≡ meter.old.parsed }
 {
     let bytes = &mut image[places_of(placement)];
-    if placement.is_accepted() && kept.info().is_coded {
+    if placement.status.is_accepted() && kept.info().is_coded {
         let scope = Scope::new(names, kept.numbers());
         encode_into(meter, kept.line(), &scope, bytes)
     } else {

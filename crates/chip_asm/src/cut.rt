@@ -44,30 +44,19 @@ fn without_return(text: &[u8]) -> &[u8]
     }
 }
 
-/// The first line's text, where the first line has this many bytes.
-fn first_text(bytes: &[u8], end: usize) -> &[u8]
-    requires end { end ≡ position_or_len is_newline bytes.now }
-    ensures value { result.now ≡ first_text bytes.now }
-    ensures front { StartsWith bytes.now result.now }
-    ensures within { length result.now ≤ length bytes.now }
+/// The text of the first line of bytes, and what follows that line.
+fn first_line(bytes: &[u8]) -> (&[u8], &[u8])
+    ensures text { result.0.now ≡ first_text bytes.now }
+    ensures front { StartsWith bytes.now result.0.now }
+    ensures within { length result.0.now ≤ length bytes.now }
+    ensures rest { result.1.now ≡ after_first is_newline bytes.now }
+    ensures back { IsBack result.1.now bytes.now }
 {
+    let end = line_length(bytes);
     if end < bytes.len() {
-        without_return(&bytes[..end])
+        (without_return(&bytes[..end]), &bytes[end + 1..])
     } else {
-        bytes
-    }
-}
-
-/// What follows the first line, where that has this many bytes.
-fn after_line(bytes: &[u8], end: usize) -> &[u8]
-    requires end { end ≡ position_or_len is_newline bytes.now }
-    ensures value { result.now ≡ after_first is_newline bytes.now }
-    ensures back { IsBack result.now bytes.now }
-{
-    if end < bytes.len() {
-        &bytes[end + 1..]
-    } else {
-        &[]
+        (bytes, &[])
     }
 }
 
@@ -125,8 +114,7 @@ pub(crate) fn read_lines(
     let mut lines: Vec<BoxedLine> = Vec::with_capacity(alloc, most + 1)?;
     let mut rest = source;
     while !rest.is_empty() {
-        let end = line_length(rest);
-        let text = first_text(rest, end);
+        let (text, after) = first_line(rest);
         if lines.len() == MOST_LINES {
             return Err(OpenError::TooManyLines);
         }
@@ -135,7 +123,7 @@ pub(crate) fn read_lines(
         }
         let start = source.len() - rest.len();
         push_line(alloc, meter, table, &mut lines, &shared, start, text)?;
-        rest = after_line(rest, end);
+        rest = after;
     }
     Ok(lines)
 }

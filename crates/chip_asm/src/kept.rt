@@ -87,28 +87,6 @@ impl Kept {
         }
     }
 
-    /// Lines that were read, with the table of their names.
-    pub(crate) fn open(
-        alloc: Global,
-        meter: &mut Meter,
-        names: Table,
-        lines: Vec<BoxedLine>,
-    ) -> Result<Self, AllocError>
-        requires few { length lines.items ≤ MOST_LINES }
-        requires are_read { readings_in lines.items ≡ map reading_of (texts_in lines.items) }
-        requires infos { AreInfos names.keys lines.items }
-        requires no_symbols { names.symbols ≡ [] }
-        ensures kept { IfOk result (λ kept. IsKept kept) }
-        ensures texts { IfOk result (λ kept. texts_kept kept ≡ texts_in lines.items) }
-        ensures encoded { IfOk result (λ kept. meter.new.encoded
-            ≤ meter.old.encoded + accepted_lines (readings_in lines.items)) }
-        ensures parsed { meter.new.parsed ≡ meter.old.parsed }
-    {
-        let mut kept = Kept::new(alloc, names);
-        kept.remake(alloc, meter, Edit::Open(lines))?;
-        Ok(kept)
-    }
-
     /// Makes an edit, and then numbers the names anew where there are many without a line. The
     /// places that it wrote in the image, if they are known.
     pub(crate) fn edit(
@@ -171,7 +149,11 @@ impl Kept {
             (readings_in self.now.lines.items)) }
     {
         let mut names = self.names.with_symbols_alone(alloc)?;
-        let infos = LineInfo::of_all(alloc, &mut names, &self.lines)?;
+        let mut infos = Vec::with_capacity(alloc, self.lines.len())?;
+        for kept in &self.lines {
+            let made = LineInfo::of(alloc, &mut names, kept.line())?;
+            infos.push(made)?;
+        }
         Ok((names, infos))
     }
 
@@ -197,7 +179,7 @@ impl Kept {
         let mut placement = self.layout.placements[at];
         let had_image = self.layout.faults == 0;
         let fault = write_line(meter, &self.names, &added, &placement, &mut self.image);
-        if placement.is_accepted() {
+        if placement.status.is_accepted() {
             placement.status = Status::coded(fault);
             let mut tally = Tally::new(self.layout.faults);
             tally.put(&mut self.layout.placements, at, placement);
@@ -228,7 +210,7 @@ impl Kept {
     }
 
     /// Makes an edit by both passes. Each allocation comes before the first change.
-    fn remake(&mut self, alloc: Global, meter: &mut Meter, edit: Edit) -> Result<(), AllocError>
+    pub(crate) fn remake(&mut self, alloc: Global, meter: &mut Meter, edit: Edit) -> Result<(), AllocError>
         requires { MayEdit self.old edit }
         ensures ok { OnOk result (texts_kept self.new
             ≡ texts_in (lines_after self.old.lines.items edit)) }

@@ -7,11 +7,10 @@ ghost use Rattle.chip_asm.specs.Names.{Name};
 ghost use Rattle.chip_asm.specs.declared.line_info.Uses.TheVariants.{Several};
 ghost use Rattle.chip_asm.specs.inner.HeldText.{SaysNothing, part_from};
 ghost use Rattle.chip_asm.specs.inner.Infos.{IsInfo, numbers_in};
-ghost use Rattle.chip_asm.specs.inner.PackedUses.{unpacked};
 ghost use Rattle.chip_asm.specs.inner.Records.{reading_in};
 ghost use Rattle.chip_asm.specs.inner.Tables.{Extends};
 
-use crate::line_info::{LineInfo, Numbered};
+use crate::line_info::{LineInfo, Numbered, Uses};
 use crate::line_text::{LineText, SharedSource};
 use crate::table::{NameId, Table};
 use chip_lang::{Body, Line, Meter, read_line, read_nothing};
@@ -64,14 +63,22 @@ impl Model for BoxedLine {
 }
 
 impl BoxedLine {
+    /// A line of a text and its reading, whose names get their numbers.
     #[inline(always)]
-    fn new(alloc: Global, text: LineText, line: Line, made: Numbered) -> Result<Self, AllocError>
+    fn new(
+        alloc: Global,
+        table: &mut Table,
+        text: LineText,
+        line: Line,
+    ) -> Result<Self, AllocError>
         ensures text { IfOk result (λ kept. kept.text ≡ text) }
         ensures line { IfOk result (λ kept. kept.line ≡ line) }
-        ensures info { IfOk result (λ kept. kept.info ≡ made.info) }
-        ensures several { IfOk result (λ kept. kept.several ≡ made.several.items) }
+        ensures info { IfOk result (λ kept. IsInfo table.new.keys kept.info kept.several
+            (reading_in kept)) }
+        ensures keys { Extends table.old.keys table.new.keys }
+        ensures symbols { table.new.symbols ≡ table.old.symbols }
     {
-        let Numbered { info, several } = made;
+        let Numbered { info, several } = LineInfo::of(alloc, table, &line)?;
         let read = ReadLine {
             text,
             line,
@@ -114,9 +121,9 @@ impl BoxedLine {
     /// The numbers of the names that it uses, or else of the one that it asks for.
     #[inline]
     pub(crate) fn numbers(&self) -> &[NameId]
-        ensures { unpacked self.now.info.uses ≡ Several → result.now ≡ numbers_in self.now }
+        ensures { self.now.info.uses ≡ Several → result.now ≡ numbers_in self.now }
     {
-        if let Some(id) = self.info.uses.one_name() {
+        if let Uses::One(id) = &self.info.uses {
             return slice::from_ref(id);
         }
         match &self.held {
@@ -156,9 +163,8 @@ pub(crate) fn read_kept(
     ensures symbols { table.new.symbols ≡ table.old.symbols }
 {
     let line = read_line(alloc, meter, text)?;
-    let made = LineInfo::of(alloc, table, &line)?;
     let text = LineText::own(alloc, text)?;
-    BoxedLine::new(alloc, text, line, made)
+    BoxedLine::new(alloc, table, text, line)
 }
 
 /// Reads a text that stands at a place of a shared source. Its names get their numbers.
@@ -192,31 +198,7 @@ pub(crate) fn read_part(
             info: LineInfo::NOTHING,
         });
     }
-    read_said(alloc, meter, table, source, start, count)
-}
-
-/// Reads so many bytes of a shared source, from a place on. Its names get their numbers.
-#[inline(never)]
-fn read_said(
-    alloc: Global,
-    meter: &mut Meter,
-    table: &mut Table,
-    source: &Rc<SharedSource>,
-    start: u32,
-    count: u16,
-) -> Result<BoxedLine, AllocError>
-    requires { start + count ≤ length source.now.value.bytes }
-    ensures text { IfOk result (λ kept. kept.text ≡ part_from source.now.value.bytes start count) }
-    ensures reading { IfOk result (λ kept. seen_line kept.line
-        ≡ reading_of (part_from source.now.value.bytes start count)) }
-    ensures info { IfOk result (λ kept. IsInfo table.new.keys kept.info kept.several
-        (reading_in kept)) }
-    ensures counted { meter.new ≡ record meter.old { parsed = one_more meter.old.parsed } }
-    ensures keys { Extends table.old.keys table.new.keys }
-    ensures symbols { table.new.symbols ≡ table.old.symbols }
-{
-    let line = read_line(alloc, meter, source.part(start, count))?;
-    let made = LineInfo::of(alloc, table, &line)?;
+    let line = read_line(alloc, meter, text)?;
     let text = LineText::part(Rc::clone(source)?, start, count);
-    BoxedLine::new(alloc, text, line, made)
+    BoxedLine::new(alloc, table, text, line)
 }

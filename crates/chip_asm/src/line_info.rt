@@ -1,22 +1,16 @@
 //! What is kept of a line beside its reading, for steps over all lines.
-ghost use Rattle.std.specs.Prelude.{◌≡◌, ◌++◌, ◌≤◌, List, IfOk, IfSome, MatchOption, None, OnOk};
+ghost use Rattle.std.specs.Prelude.{◌≡◌, ◌++◌, ◌≤◌, List, IfOk, IfSome, OnOk};
 ghost use Rattle.chip_lang.specs.Line.{Reading};
 ghost use Rattle.chip_lang.specs.SeenLine.{seen_line};
 ghost use Rattle.chip_lang.specs.Uses.{name_defined, names_used};
 ghost use Rattle.chip_asm.specs.Layout.{body_of};
 ghost use Rattle.chip_asm.specs.Names.{Name};
 ghost use Rattle.chip_asm.specs.inner.HeldText.{SaysNothing};
-ghost use Rattle.chip_asm.specs.inner.Infos.{AreInfosOf, IsBare, IsInfo, IsNumberOf, is_bare_line, is_steady, numbers_used};
-ghost use Rattle.chip_asm.specs.inner.Records.{readings_in};
+ghost use Rattle.chip_asm.specs.inner.Infos.{IsBare, IsInfo, IsNumberOf, is_bare_line, is_steady, numbers_of};
 ghost use Rattle.chip_asm.specs.inner.Recode.{has_code};
-ghost use Rattle.chip_asm.specs.inner.PackedUses.{place_noted, unpacked};
 ghost use Rattle.chip_asm.specs.inner.Tables.{AreNumbers, Extends};
-ghost use Rattle.chip_asm.specs.declared.line_info.Uses.TheVariants.{One};
-ghost use Rattle.chip_asm.specs.declared.table.NameId.{NameId};
 
-use crate::kept_line::BoxedLine;
 use crate::table::{NameId, Table};
-use crate::values::NAMES_FROM;
 use chip_lang::{Body, Line, UsedNames, defines, used_names};
 use std::alloc::{AllocError, Global};
 
@@ -31,76 +25,6 @@ pub(crate) enum Uses {
     Several,
 }
 
-/// The same in four bytes, since all lines have one each.
-#[derive(Clone, Copy)]
-pub(crate) struct PackedUses {
-    /// The name, where there is one. Else a number that no name has.
-    id: NameId,
-}
-
-/// Stands for no name.
-const NO_NAME: u32 = u32::MAX - 1;
-
-/// Stands for several names.
-const SEVERAL_NAMES: u32 = u32::MAX;
-
-impl PackedUses {
-    /// No name.
-    pub(crate) const NOTHING: PackedUses = PackedUses {
-        id: NameId { number: NO_NAME },
-    };
-
-    /// Several names.
-    const SEVERAL: PackedUses = PackedUses {
-        id: NameId {
-            number: SEVERAL_NAMES,
-        },
-    };
-
-    /// One name. None where its number stands for something else.
-    fn one(id: NameId) -> Option<PackedUses>
-        ensures { IfSome result (λ packed. unpacked packed ≡ One id) }
-    {
-        if id.number < NO_NAME {
-            Some(PackedUses { id })
-        } else {
-            None
-        }
-    }
-
-    /// What it says.
-    pub(crate) fn get(self) -> Uses
-        ensures { result ≡ unpacked self }
-    {
-        match self.id.number {
-            NO_NAME => Uses::Nothing,
-            SEVERAL_NAMES => Uses::Several,
-            _ => Uses::One(self.id),
-        }
-    }
-
-    /// The name, if there is one alone.
-    #[inline]
-    pub(crate) fn one_name(&self) -> Option<&NameId>
-        ensures { MatchOption result ((id : NameId) → unpacked self.now ≡ One id → ⊥)
-            (λ id. unpacked self.now ≡ One id.now) }
-    {
-        if self.id.number < NO_NAME {
-            Some(&self.id)
-        } else {
-            None
-        }
-    }
-
-    /// Where it is noted whether the names changed.
-    #[inline(always)]
-    pub(crate) fn place(self) -> usize
-        ensures { result ≡ place_noted (unpacked self) }
-    {
-        self.id.number.wrapping_add(NAMES_FROM as u32) as usize
-    }
-}
-
 /// What steps over all lines ask of a line.
 #[derive(Clone, Copy)]
 pub(crate) struct LineInfo {
@@ -112,7 +36,8 @@ pub(crate) struct LineInfo {
     pub(crate) is_steady: bool,
     /// The name that it gives, if it is accepted.
     pub(crate) defines: Option<NameId>,
-    pub(crate) uses: PackedUses,
+    /// What is known of the names that it uses.
+    pub(crate) uses: Uses,
 }
 
 fn is_bare(line: &Line) -> bool
@@ -211,12 +136,12 @@ fn uses_of(
     alloc: Global,
     table: &mut Table,
     line: &Line,
-) -> Result<(PackedUses, Vec<NameId>), AllocError>
+) -> Result<(Uses, Vec<NameId>), AllocError>
     ensures keys { Extends table.old.keys table.new.keys }
     ensures symbols { table.new.symbols ≡ table.old.symbols }
     ensures before { table.new.before ≡ table.old.before }
     ensures are { IfOk result (λ used. AreNumbers table.new.keys
-        (numbers_used used.0 used.1.items) (names_used (seen_line line.now))) }
+        (numbers_of used.0 used.1.items) (names_used (seen_line line.now))) }
 {
     let mut numbers = Vec::new(alloc);
     let mut names = used_names(line);
@@ -225,16 +150,14 @@ fn uses_of(
             let id = table.number(alloc, asked)?;
             numbers.push(id)?;
         }
-        return Ok((PackedUses::NOTHING, numbers));
+        return Ok((Uses::Nothing, numbers));
     };
     if names.next().is_none() {
         let id = table.number(alloc, name)?;
-        if let Some(uses) = PackedUses::one(id) {
-            return Ok((uses, numbers));
-        }
+        return Ok((Uses::One(id), numbers));
     }
     push_numbers(alloc, table, used_names(line), &mut numbers)?;
-    Ok((PackedUses::SEVERAL, numbers))
+    Ok((Uses::Several, numbers))
 }
 
 /// What is known of a line whose names have numbers.
@@ -253,7 +176,7 @@ impl LineInfo {
         is_coded: false,
         is_steady: true,
         defines: None,
-        uses: PackedUses::NOTHING,
+        uses: Uses::Nothing,
     };
 
     /// That of a line, whose names get their numbers.
@@ -274,24 +197,6 @@ impl LineInfo {
             uses,
         };
         Ok(Numbered { info, several })
-    }
-
-    /// Those of some lines, whose names get their numbers.
-    pub(crate) fn of_all(
-        alloc: Global,
-        table: &mut Table,
-        lines: &[BoxedLine],
-    ) -> Result<Vec<Numbered>, AllocError>
-        ensures symbols { table.new.symbols ≡ table.old.symbols }
-        ensures are { IfOk result (λ infos. AreInfosOf table.new.keys infos.items
-            (readings_in lines.now)) }
-    {
-        let mut infos = Vec::with_capacity(alloc, lines.len())?;
-        for line in lines {
-            let made = LineInfo::of(alloc, table, line.line())?;
-            infos.push(made)?;
-        }
-        Ok(infos)
     }
 
     /// The size that a line takes, active or not, and the name that it gives then, if the first

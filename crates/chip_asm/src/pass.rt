@@ -324,7 +324,7 @@ impl Pass {
         let empty = Body::Empty;
         let body = body_or(line, &empty);
         let placement = self.place(known, line, defines, numbers);
-        let (active, accepted) = (placement.is_active(), placement.is_accepted());
+        let (active, accepted) = (placement.is_active(), placement.status.is_accepted());
         let number = at + 1;
         let opened = Block {
             number,
@@ -418,7 +418,7 @@ impl Pass {
                 break;
             }
             let was = placements[place];
-            if active && was.is_accepted() {
+            if active && was.status.is_accepted() {
                 placements[place].here = here as u16;
                 if size == 2 {
                     let at = was.address() - IMAGE_START;

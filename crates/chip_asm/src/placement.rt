@@ -53,6 +53,7 @@ impl Status {
         }
     }
 
+    /// Whether the line is active and has no fault in the first pass.
     pub(crate) fn is_accepted(self) -> bool
         ensures { result ≡ is_accepted self }
     {
@@ -86,7 +87,7 @@ pub(crate) struct Placement {
 }
 
 impl Placement {
-    ghost use Rattle.chip_asm.specs.inner.Placements.{count_of, is_accepted, is_active_status};
+    ghost use Rattle.chip_asm.specs.inner.Placements.{count_of, is_active_status};
 
     /// Stands where nothing is found yet.
     pub(crate) const NOTHING: Placement = Placement {
@@ -108,13 +109,6 @@ impl Placement {
         ensures { result ≡ is_active_status self.now.status }
     {
         !matches!(self.status, Status::Skipped)
-    }
-
-    /// Whether the line is active and has no fault in the first pass.
-    pub(crate) fn is_accepted(&self) -> bool
-        ensures { result ≡ is_accepted self.now.status }
-    {
-        self.status.is_accepted()
     }
 
     /// 1 for a fault, 0 for none.

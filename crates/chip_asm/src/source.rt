@@ -115,7 +115,8 @@ impl Source {
         let mut meter = Meter::new();
         let mut names = Table::new(alloc, hasher);
         let lines = read_lines(alloc, &mut meter, &mut names, source)?;
-        let kept = Kept::open(alloc, &mut meter, names, lines)?;
+        let mut kept = Kept::new(alloc, names);
+        kept.remake(alloc, &mut meter, Edit::Open(lines))?;
         Ok(Source { kept, meter })
     }
 

@@ -7,20 +7,12 @@ ghost use Rattle.chip_asm.specs.inner.ValueLists.{AreNoted};
 use std::alloc::{AllocError, Global};
 use std::marker::Model;
 
-/// Where it is noted of names whether they differ, the names begin at this place: place 0 is of
-/// lines that use no name, and place 1 of lines that use several.
-pub(crate) const NAMES_FROM: usize = 2;
-
-/// What is noted where there is no name yet.
-const NOTHING_NOTED: [bool; 2] = [false, true];
-
 /// The value of each name, or none, at its number: now, and before an edit.
 #[derive(Drop)]
 pub(crate) struct Values {
     pub(crate) current: Vec<Option<i32>>,
     pub(crate) past: Vec<Option<i32>>,
-    /// Whether the two values of each name differ, behind two places for lines without a name and
-    /// for lines with several, which are looked at each time. Empty until there is a name.
+    /// Whether the two values of each name differ.
     pub(crate) differs: Vec<bool>,
     /// How many of these are true.
     pub(crate) different: usize,
@@ -62,7 +54,7 @@ impl Values {
     {
         self.current.reserve(1)?;
         self.past.reserve(1)?;
-        self.differs.reserve(NAMES_FROM + 1)
+        self.differs.reserve(1)
     }
 
     /// Adds a name that has no value.
@@ -71,11 +63,6 @@ impl Values {
         ensures now { self.new.current ≡ self.old.current ++ None ∷ [] }
         ensures past { self.new.past ≡ self.old.past ++ None ∷ [] }
     {
-        if self.differs.is_empty() {
-            self.differs.push_reserved(false);
-            self.differs.push_reserved(true);
-            self.different = 1;
-        }
         self.current.push_reserved(None);
         self.past.push_reserved(None);
         self.differs.push_reserved(false);
@@ -98,9 +85,9 @@ impl Values {
         ensures past { self.new.past ≡ self.old.past }
     {
         let differs = self.past[number] != value;
-        let others = self.different - one_of(self.differs[number + NAMES_FROM]);
+        let others = self.different - one_of(self.differs[number]);
         self.current[number] = value;
-        self.differs[number + NAMES_FROM] = differs;
+        self.differs[number] = differs;
         self.different = others + one_of(differs);
     }
 
@@ -109,10 +96,10 @@ impl Values {
         ensures now { self.new.current ≡ self.old.current }
         ensures past { self.new.past ≡ self.old.current }
     {
-        if self.different > 1 {
+        if self.different > 0 {
             self.past.copy_from_slice(&self.current);
-            self.differs[NAMES_FROM..].fill(false);
-            self.different = 1;
+            self.differs.fill(false);
+            self.different = 0;
         }
     }
 
@@ -120,7 +107,7 @@ impl Values {
     pub(crate) fn has_differences(&self) -> bool
         ensures { result ≡ false → self.now.past ≡ self.now.current }
     {
-        self.different > 1
+        self.different > 0
     }
 
     /// Whether the values of a number differ.
@@ -129,19 +116,14 @@ impl Values {
         ensures { result ≡ not (option_eq int_eq (slice_index_or self.now.past number None)
             (slice_index_or self.now.current number None)) }
     {
-        self.differs[number + NAMES_FROM]
+        self.differs[number]
     }
 
-    /// Whether the values of each number differ, behind two places for no name, which are never
-    /// noted to, and for several, which always are.
+    /// Whether the values of each number differ.
     pub(crate) fn noted(&self) -> &[bool]
         ensures { AreNoted self.now.current self.now.past result.now }
     {
-        if self.differs.is_empty() {
-            &NOTHING_NOTED
-        } else {
-            &self.differs
-        }
+        &self.differs
     }
 }
 

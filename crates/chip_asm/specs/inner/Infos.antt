@@ -7,11 +7,9 @@ use Rattle.chip_asm.specs.Names.{Name}
 use Rattle.chip_asm.specs.inner.KeptLine.{KeptLine}
 use Rattle.chip_asm.specs.declared.line_info.LineInfo.{LineInfo}
 use Rattle.chip_asm.specs.declared.line_info.Numbered.{Numbered}
-use Rattle.chip_asm.specs.declared.line_info.PackedUses.{PackedUses}
 use Rattle.chip_asm.specs.declared.line_info.Uses.{Uses}
 use Rattle.chip_asm.specs.declared.line_info.Uses.TheVariants.{Nothing, One, Several}
 use Rattle.chip_asm.specs.declared.table.NameId.{NameId}
-use Rattle.chip_asm.specs.inner.PackedUses.{unpacked}
 use Rattle.chip_asm.specs.inner.Recode.{has_code}
 use Rattle.chip_asm.specs.inner.Records.{reading_in}
 use Rattle.chip_asm.specs.inner.Tables.{AreNumbers, IsNumber}
@@ -43,11 +41,8 @@ numbers_of Nothing several = []
 numbers_of (One id) several = id ∷ []
 numbers_of Several several = several
 
-abbrev pub numbers_used : PackedUses → (several : List NameId) → List NameId
-numbers_used uses several = numbers_of (unpacked uses) several
-
 abbrev pub numbers_in : KeptLine → List NameId
-numbers_in kept = numbers_used kept.info.uses kept.several
+numbers_in kept = numbers_of kept.info.uses kept.several
 
 -- what is kept beside a line is right of it
 pub record IsInfo (keys : List Name) (info : LineInfo) (several : List NameId)
@@ -56,7 +51,7 @@ pub record IsInfo (keys : List Name) (info : LineInfo) (several : List NameId)
   pub coded : info.is_coded ≡ has_code (body_of line)
   pub steady : info.is_steady ≡ is_steady (body_of line)
   pub defines : IsNumberOf keys info.defines (name_defined line)
-  pub uses : AreNumbers keys (numbers_used info.uses several) (names_used line)
+  pub uses : AreNumbers keys (numbers_of info.uses several) (names_used line)
 
 -- an instruction or no statement, which takes this size, active or not, and gives this name then
 pub record IsBare (keys : List Name) (active : Bool) (line : Reading) (size : ℕ)

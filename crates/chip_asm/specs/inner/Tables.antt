@@ -9,7 +9,6 @@ use Rattle.chip_asm.specs.Names.{Name, lookup_name, values_of}
 use Rattle.chip_asm.specs.declared.table.Symbol.{Symbol}
 use Rattle.chip_asm.specs.declared.table.NameId.{NameId}
 use Rattle.chip_asm.specs.declared.table.Entry.{Entry}
-use Rattle.chip_asm.specs.declared.values.TheConstants.{NAMES_FROM}
 
 pub record Tables : Type 0 where
   pub keys : List Name
@@ -95,14 +94,12 @@ valued_in (key ∷ keys) [] = []
 valued_in (key ∷ keys) (None ∷ values) = valued_in keys values
 valued_in (key ∷ keys) (Some value ∷ values) = (key, value) ∷ valued_in keys values
 
--- it is noted of each name whether it has another value, or none, than before: behind the notes of
--- no name, and of several, which always tells to look at each
+-- it is noted of each name whether it has another value, or none, than before
 pub record AreDifferences (t : Tables) (differs : List Bool) : Type 0 where
-  pub none : slice_get differs 0 ≡ Some false
-  pub several : slice_get differs 1 ≡ Some true
-  pub names : (number : ℕ) → number < length t.keys
-      → slice_get differs (number + NAMES_FROM)
-      ≡ Some (not (has_same_value t.before (values_of t.symbols) (key_at t.keys number)))
+  pub long : length differs ≡ length t.keys
+  pub each : (number : ℕ) → number < length t.keys
+      → slice_index_or differs number false
+      ≡ not (has_same_value t.before (values_of t.symbols) (key_at t.keys number))
 
 -- some entries are the first of others
 abbrev pub IsFront : List Entry → List Entry → Type 0

@@ -3,7 +3,6 @@ use Rattle.std.specs.Prelude.{◌≡◌, ℕ, ◌+◌, ◌<◌, ◌&&◌, ℤ, B
 use Rattle.std.specs.Global.{Vec}
 use Rattle.std.specs.Option.{option_eq}
 use Rattle.std.specs.Ordering.{int_eq}
-use Rattle.chip_asm.specs.declared.values.TheConstants.{NAMES_FROM}
 
 pub record ValueLists : Type 0 where
   pub current : List (Option ℤ)
@@ -16,24 +15,21 @@ abbrev pub is_same_at : (past now : List (Option ℤ)) → ℕ → Bool
 is_same_at past now number =
     option_eq int_eq (slice_index_or past number None) (slice_index_or now number None)
 
--- it is noted of each number whether its values differ: behind the notes of no name and of several
+-- it is noted of each number whether its values differ
 pub record AreNoted (now past : List (Option ℤ)) (differs : List Bool) : Type 0 where
-  pub none : slice_get differs 0 ≡ Some false
-  pub several : slice_get differs 1 ≡ Some true
+  pub long : length differs ≡ length now
   pub each : (number : ℕ) → number < length now
-      → slice_get differs (number + NAMES_FROM) ≡ Some (not (is_same_at past now number))
+      → slice_index_or differs number false ≡ not (is_same_at past now number)
 
 abbrev pub count_true : List Bool → ℕ
 count_true differs = sum_by (λ is. if is then 1 else 0) differs
 
 pub record AreCompared (now past : List (Option ℤ)) (differs : List Bool) (different : ℕ) : Type 0 where
   pub long : length past ≡ length now
-  pub none_yet : length differs ≡ 0 → length now ≡ 0
-  pub noted_long : 0 < length differs → length differs ≡ length now + NAMES_FROM
-  pub noted : 0 < length differs → AreNoted now past differs
+  pub noted : AreNoted now past differs
   pub counted : different ≡ count_true differs
 
 abbrev pub has_room : (now past : Vec (Option ℤ)) → Vec Bool → Bool
 has_room now past differs =
     nat_lt (vec_len now) (vec_capacity now) && nat_lt (vec_len past) (vec_capacity past)
-    && nat_lt (vec_len differs + NAMES_FROM) (vec_capacity differs)
+    && nat_lt (vec_len differs) (vec_capacity differs)

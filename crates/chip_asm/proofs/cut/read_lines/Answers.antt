@@ -28,13 +28,13 @@ returns-then-text-gt-LINE_BYTES-clause-err c =
     = ap (λ l. texts ++ l) (sym (lines-next c.loop-source.rest.now some)) ∙ c.loop-source.invariant.0 in
     let count : length texts ≡ c.len-then-text-gt-LINE_BYTES.result = length-map c.loop-source.lines.items (λ (k : KeptLine). k.text) ∙ sym c.loop-source.lines.ok.0 ∙ sym c.len-then-text-gt-LINE_BYTES.ensures in
     let few : length texts < MOST_LINES = omega (arith, count, c.len-then-text-gt-LINE_BYTES.ensures, c.len.ensures, c.if-len-eq-MOST_LINES.false, c.loop-source.invariant.3, c.loop-source.lines.ok.0) in
-    let long : is_long (first_text c.loop-source.rest.now) ≡ true = ap is_long (sym c.first_text-text.ensures.value) ∙ long-is c.first_text-text.result.now c.if-text-gt-LINE_BYTES.true in
+    let long : is_long (first_text c.loop-source.rest.now) ≡ true = ap is_long (sym c.first_line.ensures.text) ∙ long-is c.first_line.result.0.now c.if-text-gt-LINE_BYTES.true in
     inr (too-long c.args.source.items texts (lines_of (after_first is_newline c.loop-source.rest.now)) (first_text c.loop-source.rest.now) cut c.loop-source.invariant.2 long few ∙ ap (λ n. Some (LineTooLong (n + 1))) count)
 
 pub loop-source-preserved : goal.loop-source-preserved
 loop-source-preserved c =
     let texts : List (List ℕ) = texts_in c.loop-source.lines.items in
-    let t : List ℕ = c.first_text-text.result.now in
+    let t : List ℕ = c.first_line.result.0.now in
     let some : 0 < length c.loop-source.rest.now = some-bytes c.loop-source.rest.now (sym c.is_empty.ensures ∙ c.loop-source-test.true) in
     let cut : texts ++ first_text c.loop-source.rest.now ∷ lines_of (after_first is_newline c.loop-source.rest.now) ≡ lines_of c.args.source.items
     = ap (λ l. texts ++ l) (sym (lines-next c.loop-source.rest.now some)) ∙ c.loop-source.invariant.0 in
@@ -42,10 +42,10 @@ loop-source-preserved c =
     let more : length c.push_line.new.lines.items ≡ length c.loop-source.lines.items + 1 = c.in_ok-push_line.ensures.count in
     let room : length c.loop-source.lines.items < MOST_LINES = omega (arith, c.len.ensures, c.if-len-eq-MOST_LINES.false, c.loop-source.invariant.3, c.loop-source.lines.ok.0) in
     let read : c.push_line.new.meter.parsed ≡ one_more c.loop-source.meter.parsed = ap (λ m. m.parsed) c.push_line.ensures.counted in (
-      ap (λ xs. xs ++ lines_of c.after_line-rest.result.now) c.in_ok-push_line.ensures.texts
-          ∙ append_assoc texts (t ∷ []) (lines_of c.after_line-rest.result.now)
-          ∙ ap (λ b. texts ++ t ∷ lines_of b) c.after_line-rest.ensures.value
-          ∙ ap (λ x. texts ++ x ∷ lines_of (after_first is_newline c.loop-source.rest.now)) c.first_text-text.ensures.value
+      ap (λ xs. xs ++ lines_of c.first_line.result.1.now) c.in_ok-push_line.ensures.texts
+          ∙ append_assoc texts (t ∷ []) (lines_of c.first_line.result.1.now)
+          ∙ ap (λ b. texts ++ t ∷ lines_of b) c.first_line.ensures.rest
+          ∙ ap (λ x. texts ++ x ∷ lines_of (after_first is_newline c.loop-source.rest.now)) c.first_line.ensures.text
           ∙ cut,
       c.in_ok-push_line.ensures.readings
           ∙ ap (λ rs. rs ++ reading_of t ∷ []) c.loop-source.invariant.1
@@ -55,7 +55,7 @@ loop-source-preserved c =
       omega arith,
       omega (arith, read, c.loop-source.invariant.4),
       ap (λ m. m.encoded) c.push_line.ensures.counted ∙ c.loop-source.invariant.5,
-      back-back c.after_line-rest.result.now c.loop-source.rest.now c.args.source.items c.after_line-rest.ensures.back c.loop-source.invariant.6,
+      back-back c.first_line.result.1.now c.loop-source.rest.now c.args.source.items c.first_line.ensures.back c.loop-source.invariant.6,
       c.in_ok-push_line.ensures.infos c.loop-source.invariant.7,
       c.push_line.ensures.symbols ∙ c.loop-source.invariant.8,
     )
@@ -71,4 +71,4 @@ returns-clause-ok c =
 
 pub push_line-requires-clause-part : goal.push_line-requires-clause-part
 push_line-requires-clause-part c =
-    rw (c.get-source.ensures, c.deref.ensures, c.in_ok-shared.ensures.bytes) (part-of c.first_text-text.result.now c.loop-source.rest.now c.args.source.items c.first_text-text.ensures.front c.loop-source.invariant.6)
+    rw (c.get-source.ensures, c.deref.ensures, c.in_ok-shared.ensures.bytes) (part-of c.first_line.result.0.now c.loop-source.rest.now c.args.source.items c.first_line.ensures.front c.loop-source.invariant.6)

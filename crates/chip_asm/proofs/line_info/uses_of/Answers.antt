@@ -5,9 +5,7 @@ use Rattle.chip_lang.specs.SeenLine.{seen_line}
 use Rattle.chip_lang.specs.Uses.{names_used}
 use Rattle.chip_asm.specs.Names.{Name}
 use Rattle.chip_asm.specs.inner.Tables.{AreNumbers, IsNumber}
-use Rattle.chip_asm.specs.declared.line_info.Uses.{Uses}
 use Rattle.chip_asm.specs.declared.table.NameId.{NameId}
-use Rattle.chip_asm.specs.inner.Infos.{numbers_of}
 use Rattle.chip_asm.proofs.InfoSteps.{no-numbers}
 use Rattle.chip_asm.proofs.line_info.uses_of.Goals as goal
 
@@ -30,19 +28,18 @@ returns-in_default-clause-are c = record {
   named = no-first c.used_names-names.result (names_used (seen_line c.args.line.now)) c.used_names-names.ensures c.in_default.ensures.next;
 }
 
-pub returns-in-Some-one-clause-are : goal.returns-in-Some-one-clause-are
-returns-in-Some-one-clause-are c =
+pub returns-then-is_none-clause-are : goal.returns-then-is_none-clause-are
+returns-then-is_none-clause-are c =
     let keys : List Name = c.number-then-is_none.new.self.keys in
     let one : IsNumber keys c.in_ok-id-2.id c.in-Some.name.now = c.in_ok-id-2.ensures.id in
     let only : c.in-Some.name.now ∷ [] ≡ names_used (seen_line c.args.line.now)
     = one-use c.used_names-names.result (names_used (seen_line c.args.line.now)) c.next.new.self c.in-Some.name.now c.used_names-names.ensures c.in-Some.ensures.next c.next.ensures.rest
-    (copied-none c.next-2.result (c.is_none.ensures ∙ ap not c.if-is_none.true) ∙ c.next-2.ensures.next) in
-    subst (λ (uses : Uses). AreNumbers keys (numbers_of uses c.new-numbers.result.items) (names_used (seen_line c.args.line.now))) (sym c.in-Some-one.ensures) (record {
+    (copied-none c.next-2.result (c.is_none.ensures ∙ ap not c.if-is_none.true) ∙ c.next-2.ensures.next) in record {
       within = All-cons (λ (id : NameId). id.number < length keys) c.in_ok-id-2.id [] one.within (All-nil (λ (id : NameId). id.number < length keys));
       named = ap (λ (n : Name). n ∷ []) one.named ∙ only;
-    })
+    }
 
 pub returns-clause-are : goal.returns-clause-are
 returns-clause-are c =
     subst (AreNumbers c.push_numbers.new.table.keys c.push_numbers.new.numbers.items) c.used_names.ensures
-    (c.in_ok-push_numbers.ensures.are [] (subst (λ (ids : List NameId). AreNumbers c.if-is_none.table.keys ids []) (sym c.new-numbers.ensures.items) (no-numbers c.if-is_none.table.keys)))
+    (c.in_ok-push_numbers.ensures.are [] (subst (λ (ids : List NameId). AreNumbers c.args.table.now.keys ids []) (sym c.new-numbers.ensures.items) (no-numbers c.args.table.now.keys)))

@@ -12,20 +12,26 @@ use Rattle.chip_asm.proofs.FactsFound.{facts-at, none-at, read-kept, text-kept}
 use Rattle.chip_asm.proofs.LinesByPlace.{AtPlace, at-place, high, low}
 use Rattle.chip_asm.proofs.Resumed.{length-laid}
 use Rattle.chip_asm.proofs.source.Source.line.Goals as goal
-
--- the line at a place, and what is found of it, are there
-there : (kept lines : List KeptLine) (at : ℕ) (line : KeptLine) → lines ≡ kept → at < length lines → line ≡ get_or lines at line → slice_get kept at ≡ Some line
-there kept lines at line same inside is = ap (λ ls. slice_get ls at) (sym same) ∙ slice_get-get_or lines at line inside ∙ ap Some (sym is)
+use Rattle.chip_asm.proofs.source.Source.line.Goals.{After-index-placement}
 
 placed_many : (kept : Kept) → IsKept kept → length kept.layout.placements.items ≡ length kept.lines.items
 placed_many kept k = length-laid kept.layout (readings_in kept.lines.items) k.laid_out ∙ length-map kept.lines.items reading_in
 
-noted : (kept : Kept) (at : ℕ) (line : KeptLine) (q : Placement) → IsKept kept → slice_get kept.lines.items at ≡ Some line → q ≡ get_or kept.layout.placements.items at q → slice_get kept.layout.placements.items at ≡ Some q
-noted kept at line q k stands is =
-    slice_get-get_or kept.layout.placements.items at q (omega (arith, slice_get_within kept.lines.items at line stands, placed_many kept k)) ∙ ap Some (sym is)
+-- the line at the place, and what is found of it, are there
 
-at-kept : (kept : Kept) (at : ℕ) (line : KeptLine) (q : Placement) → IsKept kept → slice_get kept.lines.items at ≡ Some line → q ≡ get_or kept.layout.placements.items at q → AtPlace (readings_in kept.lines.items) at (found q)
-at-kept kept at line q k stands is = at-place (readings_in kept.lines.items) kept.layout k.laid_out at q (noted kept at line q k stands is)
+stands : (c : After-index-placement) → slice_get c.self.inside.kept.lines.items (c.args.number - 1) ≡ Some c.in_ok-kept.kept.now
+stands c =
+    let found = c.in_ok-kept.ensures.lookup in
+    ap (λ ls. slice_get ls (c.args.number - 1)) (sym c.deref.ensures.value) ∙ slice_get-get_or c.deref.result.now (c.args.number - 1) c.in_ok-kept.kept.now found.3.0 ∙ ap Some (sym found.1)
+
+noted : (c : After-index-placement) → slice_get c.self.inside.kept.layout.placements.items (c.args.number - 1) ≡ Some c.index-placement.result.now
+noted c =
+    let kept = c.self.inside.kept in
+    slice_get-get_or kept.layout.placements.items (c.args.number - 1) c.index-placement.result.now
+    (omega (arith, slice_get_within kept.lines.items (c.args.number - 1) c.in_ok-kept.kept.now (stands c), placed_many kept c.self.invariant)) ∙ ap Some (sym c.index-placement.ensures)
+
+at-kept : (c : After-index-placement) → AtPlace (readings_in c.self.inside.kept.lines.items) (c.args.number - 1) (found c.index-placement.result.now)
+at-kept c = let kept = c.self.inside.kept in at-place (readings_in kept.lines.items) kept.layout c.self.invariant.laid_out (c.args.number - 1) c.index-placement.result.now (noted c)
 
 pub returns-in_err-kept-clause-value : goal.returns-in_err-kept-clause-value
 returns-in_err-kept-clause-value c =
@@ -41,54 +47,26 @@ index-placement-requires c =
     omega (arith, c.in_ok-kept.ensures.lookup.3.0, ap length c.deref.ensures.value, placed_many kept c.self.invariant, kept.layout.placements.ok.0)
 
 pub bytes_at-bytes-requires-clause-low : goal.bytes_at-bytes-requires-clause-low
-bytes_at-bytes-requires-clause-low c =
-    let kept = c.self.inside.kept in
-    let line : KeptLine = c.in_ok-kept.kept.now in
-    let found = c.in_ok-kept.ensures.lookup in
-    low (readings_in kept.lines.items) (c.args.number - 1) _ (at-kept kept (c.args.number - 1) line c.index-placement.result.now c.self.invariant
-    (there kept.lines.items c.deref.result.now (c.args.number - 1) line c.deref.ensures.value found.3.0 found.1) c.index-placement.ensures)
+bytes_at-bytes-requires-clause-low c = low _ _ _ (at-kept (goal.at.bytes_at-bytes-requires-clause-low c).After-index-placement)
 
 pub bytes_at-bytes-requires-clause-high : goal.bytes_at-bytes-requires-clause-high
-bytes_at-bytes-requires-clause-high c =
-    let kept = c.self.inside.kept in
-    let line : KeptLine = c.in_ok-kept.kept.now in
-    let found = c.in_ok-kept.ensures.lookup in
-    high (readings_in kept.lines.items) (c.args.number - 1) _ (at-kept kept (c.args.number - 1) line c.index-placement.result.now c.self.invariant
-    (there kept.lines.items c.deref.result.now (c.args.number - 1) line c.deref.ensures.value found.3.0 found.1) c.index-placement.ensures)
+bytes_at-bytes-requires-clause-high c = high _ _ _ (at-kept (goal.at.bytes_at-bytes-requires-clause-high c).After-index-placement)
 
 pub of-requires-clause-is_read : goal.of-requires-clause-is_read
-of-requires-clause-is_read c =
-    let kept = c.self.inside.kept in
-    let line : KeptLine = c.in_ok-kept.kept.now in
-    let found = c.in_ok-kept.ensures.lookup in
-    read-kept kept (c.args.number - 1) line c.self.invariant (there kept.lines.items c.deref.result.now (c.args.number - 1) line c.deref.ensures.value found.3.0 found.1)
+of-requires-clause-is_read c = read-kept c.self.inside.kept _ c.in_ok-kept.kept.now c.self.invariant (stands (goal.at.of-requires-clause-is_read c).After-index-placement)
 
 pub of-requires-clause-high : goal.of-requires-clause-high
-of-requires-clause-high c =
-    let kept = c.self.inside.kept in
-    let line : KeptLine = c.in_ok-kept.kept.now in
-    let found = c.in_ok-kept.ensures.lookup in
-    let within = high (readings_in kept.lines.items) (c.args.number - 1) _ (at-kept kept (c.args.number - 1) line c.index-placement.result.now c.self.invariant
-    (there kept.lines.items c.deref.result.now (c.args.number - 1) line c.deref.ensures.value found.3.0 found.1) c.index-placement.ensures) in
-    omega (arith, within)
+of-requires-clause-high c = let within = high _ _ _ (at-kept (goal.at.of-requires-clause-high c).After-index-placement) in omega (arith, within)
 
 pub returns-clause-value : goal.returns-clause-value
 returns-clause-value c =
-    let kept = c.self.inside.kept in
-    let line : KeptLine = c.in_ok-kept.kept.now in
     let q : Placement = c.index-placement.result.now in
-    let found = c.in_ok-kept.ensures.lookup in
-    let stands : slice_get kept.lines.items (c.args.number - 1) ≡ Some line = there kept.lines.items c.deref.result.now (c.args.number - 1) line c.deref.ensures.value found.3.0 found.1 in
+    let by = (goal.at.returns-clause-value c).After-index-placement in
     ap Some c.of.ensures
-    ∙ sym (facts-at kept c.args.self.now.lines c.args.number line q c.bytes_at-bytes.result.now c.self.invariant (ap (λ t. t.lines) c.self.view_is) c.if-number-eq0.false stands
-    (noted kept (c.args.number - 1) line q c.self.invariant stands c.index-placement.ensures) c.bytes_at-bytes.ensures.long
-    (λ k h. c.bytes_at-bytes.ensures.each k h ∙ ap (λ image. get_or image (q.here - IMAGE_START + k) 0) c.deref-2.ensures.value))
+    ∙ sym (facts-at c.self.inside.kept c.args.self.now.lines c.args.number c.in_ok-kept.kept.now q c.bytes_at-bytes.result.now c.self.invariant (ap (λ t. t.lines) c.self.view_is) c.if-number-eq0.false (stands by)
+    (noted by) c.bytes_at-bytes.ensures.long (λ k h. c.bytes_at-bytes.ensures.each k h ∙ ap (λ image. get_or image (q.here - IMAGE_START + k) 0) c.deref-2.ensures.value))
 
 pub returns-clause-text : goal.returns-clause-text
 returns-clause-text c =
-    let kept = c.self.inside.kept in
-    let line : KeptLine = c.in_ok-kept.kept.now in
-    let found = c.in_ok-kept.ensures.lookup in
-    text-kept kept c.args.self.now.lines (c.args.number - 1) line (ap (λ t. t.lines) c.self.view_is)
-    (there kept.lines.items c.deref.result.now (c.args.number - 1) line c.deref.ensures.value found.3.0 found.1)
+    text-kept c.self.inside.kept c.args.self.now.lines _ c.in_ok-kept.kept.now (ap (λ t. t.lines) c.self.view_is) (stands (goal.at.returns-clause-text c).After-index-placement)
     ∙ ap Some (ap (λ f. f.text) (sym c.of.ensures))

@@ -15,7 +15,7 @@ pub overflow_add-self : goal.overflow_add-self
 overflow_add-self c =
     let h : c.args.number < length c.self.inside.current.items = within (goal.at.overflow_add-self c).After-self in
     let counted = count-set _ _ _ _ c.args.number (c.self.inside.different - c.one_of.result + c.one_of-2.result) c.index-2.result.now c.ne-differs.result c.self.invariant h c.index-2.ensures (omega (arith, c.one_of.ensures, c.one_of-2.ensures)) in
-    omega (arith, counted, count_by-le-length (λ (b : Bool). b) (set c.self.inside.differs.items (c.args.number + 2) c.ne-differs.result), length-set c.self.inside.differs.items (c.args.number + 2) c.ne-differs.result, c.self.inside.differs.ok.0, c.self.ranges)
+    omega (arith, counted, count_by-le-length (λ (b : Bool). b) (set c.self.inside.differs.items c.args.number c.ne-differs.result), length-set c.self.inside.differs.items c.args.number c.ne-differs.result, c.self.inside.differs.ok.0, c.self.ranges)
 
 pub invariant_of-self : goal.invariant_of-self
 invariant_of-self c =
