@@ -1,6 +1,6 @@
 -- Bytes cut into lines, one line after another.
 use Rattle.std.proofs.Common.{◌≡◌, ℕ, suc, zero, ◌+◌, ◌<◌, ◌≤◌, ◌==◌, Bool, true, false, cond, ltb, List, [], ◌∷◌, ◌++◌, length, drop, take, ◌-◌, refl, ap, sym, ◌∙◌, arith, Some, None, length-append, ne_eqb}
-use Rattle.std.specs.List.{slice_split, onto_first, position_or_len, before_first, after_first, prefix_len, All}
+use Rattle.std.specs.List.{slice_split, onto_first, position_or_len, before_first, after_first, All}
 use Rattle.std.specs.Str.Lines.{lines_of_parts, strip_carriage_return}
 use Rattle.std.proofs.lemmas.Bool.{eqb-true}
 use Rattle.std.proofs.lemmas.Bool.Decides.{nat_tests}

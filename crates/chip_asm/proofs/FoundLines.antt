@@ -1,20 +1,15 @@
 -- What is found of a line that is kept, by its place.
 use Rattle.std.proofs.Common.{◌≡◌, ℕ, ◌<◌, List, length, get_or, ap, sym, ◌∙◌, arith, slice_get, Option, Some, None}
-use Rattle.std.proofs.lemmas.List.{length-map}
-use Rattle.std.proofs.lemmas.Option.{same_Some, slice_get-get_or}
+use Rattle.std.proofs.lemmas.Option.{slice_get-get_or}
 use Rattle.chip_lang.specs.declared.fault.Fault.{Fault}
 use Rattle.chip_lang.specs.Line.{Reading}
 use Rattle.chip_asm.specs.declared.layout.Layout.{Layout}
 use Rattle.chip_asm.specs.declared.placement.Placement.{Placement}
 use Rattle.chip_asm.specs.declared.placement.Status.TheVariants.{Pending}
-use Rattle.chip_asm.specs.Layout.{Placed}
 use Rattle.chip_asm.specs.Program.{code_under, fault_in_code}
 use Rattle.chip_asm.specs.computed.Walk.{placed}
-use Rattle.chip_asm.specs.inner.KeptLine.{KeptLine}
 use Rattle.chip_asm.specs.inner.Layouts.{IsLayoutOf}
-use Rattle.chip_asm.specs.inner.Placements.{Found, found, is_accepted, is_accepted_found, status_coded}
-use Rattle.chip_asm.specs.inner.Records.{reading_in, readings_in}
-use Rattle.chip_asm.proofs.LinesAfter.{read-at}
+use Rattle.chip_asm.specs.inner.Placements.{found, is_accepted, is_accepted_found, status_coded}
 use Rattle.chip_asm.proofs.LinesByPlace.{AtPlace, at-place}
 use Rattle.chip_asm.proofs.Resumed.{length-laid}
 

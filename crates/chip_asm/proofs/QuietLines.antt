@@ -1,12 +1,12 @@
 -- A line that opens, turns and ends nothing can be put in the place of another such line.
-use Rattle.std.proofs.Common.{◌≡◌, ℕ, suc, ◌+◌, ℤ, pos, Bool, true, false, cond, ◌&&◌, ◌||◌, nat_lt, is_none, List, [], ◌∷◌, ◌++◌, length, refl, ap, sym, subst, ◌∙◌, Option, Some, None, option_map, option_to_list, Ok, if◌then◌else◌, unsigned_abs}
+use Rattle.std.proofs.Common.{◌≡◌, ℕ, suc, ◌+◌, ℤ, pos, Bool, true, false, cond, ◌&&◌, ◌||◌, nat_lt, is_none, List, [], ◌∷◌, ◌++◌, length, refl, ap, sym, ◌∙◌, Option, Some, None, option_map, option_to_list, Ok, if◌then◌else◌, unsigned_abs}
 use Rattle.std.specs.List.{list_all}
 use Rattle.std.specs.Option.{option_map_or}
 use Rattle.std.proofs.lemmas.Bool.{false≢true}
 use Rattle.chip_lang.specs.declared.limits.TheConstants.{MEMORY_BYTES}
 use Rattle.chip_lang.specs.declared.fault.Fault.{Fault}
 use Rattle.chip_lang.specs.declared.fault.Fault.TheVariants.{DefinedTwice, PastMemory}
-use Rattle.chip_lang.specs.Line.{Body, empty, equ, org, ds, db, dw, da, code, ifdef, ifund, else_line, endif, align, options, used, xref, Reading, bad, read}
+use Rattle.chip_lang.specs.Line.{Body, empty, db, dw, da, code, else_line, endif, options, used, xref, Reading, bad, read}
 use Rattle.chip_asm.specs.Names.{Name}
 use Rattle.chip_asm.specs.declared.table.Symbol.{Symbol}
 use Rattle.chip_asm.specs.inner.Effect.{is_plain, is_plain_line, AreAlike}
@@ -164,9 +164,6 @@ open-same p xs ys e =
 side-same : (p o : Placed) (xs ys : List Placed) → has_else xs o ≡ has_else ys o → has_else (p ∷ xs) o ≡ has_else (p ∷ ys) o
 unfolding has_else
 side-same p o xs ys e = rw e refl
-
-pub same-refl : (xs : List Placed) → Same xs xs
-same-refl xs = record { count = refl; names = refl; open_ifs = refl; at = refl; aligned = refl; ended = refl; sides = λ o. refl }
 
 -- the same line follows
 pub same-cons : (p : Placed) (xs ys : List Placed) → Same xs ys → Same (p ∷ xs) (p ∷ ys)

@@ -1,7 +1,6 @@
 -- The lines of a source, where one of them is put in the place of one that is alike.
-use Rattle.std.proofs.Common.{◌≡◌, ℕ, zero, suc, ◌+◌, ◌<◌, ◌≤◌, List, [], ◌∷◌, ◌++◌, reverse, length, take, drop, set, get_or, slice_get, fold, refl, ap, sym, subst, ◌∙◌, arith, Some, append_assoc}
+use Rattle.std.proofs.Common.{◌≡◌, ℕ, zero, suc, ◌+◌, ◌<◌, ◌≤◌, List, [], ◌∷◌, ◌++◌, reverse, length, take, drop, set, get_or, fold, refl, ap, sym, subst, ◌∙◌, arith, append_assoc}
 use Rattle.std.proofs.lemmas.List.{length-reverse, length-take, reverse-append}
-use Rattle.std.proofs.lemmas.Option.{slice_get-get_or}
 use Rattle.std.proofs.Math.Seq.{get_or-append_seam}
 use Rattle.chip_lang.specs.Line.{Reading}
 use Rattle.chip_asm.specs.inner.Effect.{AreAlike}
@@ -9,8 +8,8 @@ use Rattle.chip_asm.specs.Layout.{Placed}
 use Rattle.chip_asm.specs.computed.Walk.{place, placed, address}
 use Rattle.chip_asm.proofs.BlockSteps.{reverse-cons}
 use Rattle.chip_asm.proofs.Bounds.{passes, stands-here}
-use Rattle.chip_asm.proofs.Placing.{onto, fold-append, length-numbered, length-placed}
-use Rattle.chip_asm.proofs.QuietLines.{Same, parts, with_line, place-swapped, place-same, same-cons, same-refl, same-swapped}
+use Rattle.chip_asm.proofs.Placing.{onto, fold-append, length-placed}
+use Rattle.chip_asm.proofs.QuietLines.{Same, parts, with_line, place-swapped, place-same, same-cons, same-swapped}
 
 -- each of these stands at an address or past it
 abbrev pub AreAbove : ℕ → List Placed → Type 0

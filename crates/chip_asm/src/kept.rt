@@ -1,10 +1,9 @@
 //! What is kept of a source, and the one way in which an edit changes it.
-ghost use Rattle.std.specs.Prelude.{◌≡◌, List, ◌+◌, ◌<◌, ◌≤◌, [], slice_index_or, slice_set, OnOk, OnErr, IfOk, IfSome, length, map, vec_len};
+ghost use Rattle.std.specs.Prelude.{◌≡◌, List, ◌+◌, ◌<◌, ◌≤◌, [], slice_index_or, slice_set, OnOk, OnErr, IfOk, IfSome, length, vec_len};
 ghost use Rattle.chip_lang.specs.Line.{reading_of};
 ghost use Rattle.chip_asm.specs.Edits.{before_replace};
 ghost use Rattle.chip_asm.specs.Program.{AgreesOutside, image_of};
-ghost use Rattle.chip_asm.specs.Work.{accepted_lines, needs_count};
-ghost use Rattle.chip_asm.specs.declared.limits.TheConstants.{MOST_LINES};
+ghost use Rattle.chip_asm.specs.Work.{needs_count};
 ghost use Rattle.chip_lang.specs.declared.limits.TheConstants.{IMAGE_BYTES};
 ghost use Rattle.chip_asm.specs.inner.Effect.{AreAlike};
 ghost use Rattle.chip_asm.specs.Names.{Name};
@@ -317,7 +316,7 @@ impl Kept {
         );
         self.layout.faults = tally.faults;
         self.layout.end = pass.here;
-        let (names, blocks) = pass.into_parts();
+        let Pass { names, blocks, .. } = pass;
         self.names = names;
         self.blocks = blocks;
     }

@@ -119,17 +119,6 @@ fn push_numbers(
     Ok(())
 }
 
-/// The name that an IF line asks for.
-fn asked_name(line: &Line) -> Option<&[u8]> {
-    match line {
-        Line::Read {
-            body: Body::Ifdef(name) | Body::Ifund(name),
-            ..
-        } => Some(name.get()),
-        _ => None,
-    }
-}
-
 /// What is known of the names that a line uses, and the numbers of several, or of the one that it
 /// asks for.
 fn uses_of(
@@ -146,8 +135,12 @@ fn uses_of(
     let mut numbers = Vec::new(alloc);
     let mut names = used_names(line);
     let Some(name) = names.next() else {
-        if let Some(asked) = asked_name(line) {
-            let id = table.number(alloc, asked)?;
+        if let Line::Read {
+            body: Body::Ifdef(asked) | Body::Ifund(asked),
+            ..
+        } = line
+        {
+            let id = table.number(alloc, asked.get())?;
             numbers.push(id)?;
         }
         return Ok((Uses::Nothing, numbers));

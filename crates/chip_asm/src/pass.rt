@@ -6,7 +6,7 @@ ghost use Rattle.chip_asm.specs.inner.Turns.{AreNested};
 ghost use Rattle.chip_asm.specs.inner.HeldLine.{IsKnownUnder};
 ghost use Rattle.chip_asm.specs.inner.Tables.{IsNumber, KeepsBefore, key_at};
 ghost use Rattle.chip_asm.specs.Names.{Name, lookup_name};
-ghost use Rattle.chip_asm.specs.Layout.{value_at, own_size, is_padded, full_size, is_backwards, is_past_end, is_redefinition, body_of, value_or_zero, condition_of, is_end_body, symbol_given};
+ghost use Rattle.chip_asm.specs.Layout.{value_at, own_size, is_padded, full_size, is_backwards, is_past_end, is_redefinition, body_of, condition_of, is_end_body, symbol_given};
 ghost use Rattle.chip_asm.specs.computed.Walk.{fault_of_value};
 ghost use Rattle.chip_lang.specs.SeenLine.{seen_line, seen_body};
 ghost use Rattle.chip_lang.specs.Line.{Reading, empty as empty_body};
@@ -44,16 +44,6 @@ fn body_or<'a>(line: &'a Line, empty: &'a Body) -> &'a Body
     match line {
         Line::Bad(_) => empty,
         Line::Read { body, .. } => body,
-    }
-}
-
-/// The value, or 0 where there is none.
-fn or_zero(value: Result<i32, Fault>) -> i32
-    ensures { result ≡ value_or_zero value }
-{
-    match value {
-        Ok(value) => value,
-        Err(_) => 0,
     }
 }
 
@@ -283,7 +273,7 @@ impl Pass {
         let body = body_or(line, &empty);
         let active = self.is_active(body);
         let read = self.value_at(known, body, numbers);
-        let value = or_zero(read);
+        let value = read.unwrap_or(0);
         let fault = self.fault_of(active, line, defines, read);
         let status = Status::first(active, fault);
         let size = self.size_of(status.is_accepted(), body, value);
@@ -527,20 +517,5 @@ impl Pass {
             Body::End => self.ended = self.ended || active,
             _ => self.here += size,
         }
-    }
-
-    /// The names found, and the room of the blocks.
-    pub(crate) fn into_parts(self) -> (Table, Vec<Block>)
-        ensures { result.0 ≡ self.names }
-    {
-        let Pass {
-            here: _,
-            aligning: _,
-            ended: _,
-            active: _,
-            blocks,
-            names,
-        } = self;
-        (names, blocks)
     }
 }

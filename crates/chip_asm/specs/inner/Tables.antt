@@ -1,6 +1,6 @@
 -- What contracts see of the table of symbols: the names that lines use or define, each under a
 -- number that stays, and the symbols, as they are and as they were before the edit (own).
-use Rattle.std.specs.Prelude.{◌≡◌, ℕ, ◌+◌, ◌-◌, ◌<◌, ◌≤◌, ℤ, List, [], ◌∷◌, All, IfSome, length, map, Bool, true, false, Option, Some, None, not, refl, option_map, option_to_list, slice_get, slice_index_or, take}
+use Rattle.std.specs.Prelude.{◌≡◌, ℕ, ◌-◌, ◌<◌, ◌≤◌, ℤ, List, [], ◌∷◌, All, IfSome, length, map, Bool, false, Option, Some, None, not, refl, option_map, option_to_list, slice_get, slice_index_or, take}
 use Rattle.std.specs.Coded.{Coded, code_by, coded×, coded_list, coded_ℕ, coded_ℤ}
 use Rattle.std.specs.FinMap as finite
 use Rattle.chip_lang.specs.Uses.{has_same_value}

@@ -1,5 +1,5 @@
 -- The values of names by number, now and before an edit, and whether the two differ (own).
-use Rattle.std.specs.Prelude.{◌≡◌, ℕ, ◌+◌, ◌<◌, ◌&&◌, ℤ, Bool, true, false, not, if◌then◌else◌, List, length, Option, Some, None, nat_lt, slice_get, slice_index_or, sum_by, vec_capacity, vec_len}
+use Rattle.std.specs.Prelude.{◌≡◌, ℕ, ◌<◌, ◌&&◌, ℤ, Bool, false, not, if◌then◌else◌, List, length, Option, None, nat_lt, slice_index_or, sum_by, vec_capacity, vec_len}
 use Rattle.std.specs.Global.{Vec}
 use Rattle.std.specs.Option.{option_eq}
 use Rattle.std.specs.Ordering.{int_eq}

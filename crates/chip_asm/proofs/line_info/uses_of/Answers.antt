@@ -24,7 +24,7 @@ copied-none (Some x) h = cc
 
 pub returns-in_default-clause-are : goal.returns-in_default-clause-are
 returns-in_default-clause-are c = record {
-  within = All-nil (λ (id : NameId). id.number < length c.match-asked_name.table.keys);
+  within = All-nil (λ (id : NameId). id.number < length c.match-line.table.keys);
   named = no-first c.used_names-names.result (names_used (seen_line c.args.line.now)) c.used_names-names.ensures c.in_default.ensures.next;
 }
 

@@ -9,7 +9,6 @@ use Rattle.chip_asm.specs.inner.Passes.{AreCoded, Change, IsEncodedUnder}
 use Rattle.chip_asm.specs.inner.Placements.{count_of, found}
 use Rattle.chip_asm.specs.inner.Recode.{is_encoded_again}
 use Rattle.chip_asm.specs.inner.Records.{reading_in}
-use Rattle.chip_asm.specs.inner.Tables.{Tables}
 use Rattle.chip_asm.proofs.Assembling.{ArePlaces, all-places, tally-places}
 use Rattle.chip_asm.proofs.CodeSteps.{count_by-take}
 use Rattle.chip_asm.proofs.MarkSteps.{all-among}
@@ -65,8 +64,8 @@ returns c =
           let qs_is : (with_items kept.layout.placements qs).items ≡ qs = with_items_is kept.layout.placements qs (omega (arith, c.encode_lines.auto.placements, c.mark_unclosed.auto.placements, c.as_mut_slice-placements.ensures.len)) in
           let image_is : (with_items kept.image image).items ≡ image = with_items_is kept.image image (omega (arith, c.encode_lines.auto.image, c.as_mut_slice-image.ensures.len)) in
           record {
-            infos = rw c.into_parts-names.ensures u.infos;
-            symbols = ap (λ (t : Tables). t.symbols) c.into_parts-names.ensures ∙ w.under.symbols;
+            infos = u.infos;
+            symbols = w.under.symbols;
             laid_out = record {
               placements = ap (map found) qs_is ∙ c.encode_lines.ensures.laid ∙ w.laid;
               codes = subst (λ ps. AreCodesNoted ps e.now) (sym qs_is) (codes-noted e qs image done);
