@@ -13,7 +13,7 @@ use Rattle.chip_asm.specs.inner.KeptLine.{KeptLine}
 use Rattle.chip_asm.specs.inner.Placements.{Found}
 use Rattle.chip_asm.specs.inner.Records.{reading_in}
 use Rattle.chip_asm.specs.inner.Tables.{Tables, name_of, symbols_of}
-use Rattle.chip_asm.specs.inner.Turns.{moved}
+use Rattle.chip_asm.specs.inner.Blocks.{moved}
 use Rattle.chip_asm.specs.Layout.{Placed, full_size, own_size, is_redefinition, is_side_or_end, symbol_given}
 use Rattle.chip_asm.specs.computed.Walk.{place, placed, first_fault, symbols, is_aligning, address}
 use Rattle.chip_asm.proofs.BlockSteps.{active_here}

@@ -24,16 +24,14 @@ use Rattle.chip_asm.specs.inner.Infos.{is_steady}
 use Rattle.chip_asm.specs.inner.Layouts.{IsCounted, IsLayoutOf, final_placement, first_placements, placements_of}
 use Rattle.chip_asm.specs.inner.Passes.{HasCode, IsHeld, IsSlot, is_byte_of, placed_at}
 use Rattle.chip_asm.specs.inner.Placements.{Found, found, is_accepted, is_accepted_found, nothing, status_coded}
-use Rattle.chip_asm.specs.inner.Records.{count_after, lines_after, place_before, reading_in, readings_in}
-use Rattle.chip_asm.specs.inner.Resume.{first_changed}
+use Rattle.chip_asm.specs.inner.Records.{count_after, lines_after, place_before, reading_in, readings_in, first_changed}
 use Rattle.chip_asm.specs.inner.Tables.{AreOver, AreUpTo}
 use Rattle.chip_asm.proofs.Bounds.{end-high}
 use Rattle.chip_asm.proofs.FirstLines.{Begun, begun-symbols, same-placed, steady-at}
-use Rattle.chip_asm.proofs.FoundLines.{none-pending}
+use Rattle.chip_asm.proofs.LinesByPlace.{AtPlace, accepted-at, at-line, at-place, at-place-of, byte-line, byte-nowhere, ends-before, found-there, here-at, high, low, none-pending}
 use Rattle.chip_asm.proofs.ImageSteps.{covered}
-use Rattle.chip_asm.proofs.KeptEdits.{within-lines}
+use Rattle.chip_asm.proofs.KeptSteps.{within-lines}
 use Rattle.chip_asm.proofs.LinesAfter.{Edited, edited-lines, edited-map, same-front, shorter}
-use Rattle.chip_asm.proofs.LinesByPlace.{AtPlace, accepted-at, at-line, at-place, at-place-of, byte-line, byte-nowhere, ends-before, found-there, here-at, high, low}
 use Rattle.chip_asm.proofs.Resumed.{AllSteady, first-laid, length-laid}
 
 -- each byte is that of the lines

@@ -10,10 +10,9 @@ use Rattle.chip_asm.specs.Layout.{body_of}
 use Rattle.chip_asm.specs.Names.{Name}
 use Rattle.chip_asm.specs.Program.{names_of_lines}
 use Rattle.chip_asm.specs.computed.Walk.{placed, symbols}
-use Rattle.chip_asm.specs.inner.Infos.{AreInfos, is_steady}
+use Rattle.chip_asm.specs.inner.Infos.{AreInfos, is_steady, AreSteady}
 use Rattle.chip_asm.specs.inner.KeptLine.{KeptLine}
-use Rattle.chip_asm.specs.inner.Records.{IsPlaceWithin, lines_after, reading_in, readings_in}
-use Rattle.chip_asm.specs.inner.Resume.{AreSteady, first_changed}
+use Rattle.chip_asm.specs.inner.Records.{IsPlaceWithin, lines_after, reading_in, readings_in, first_changed}
 use Rattle.chip_asm.specs.inner.Tables.{AreOver, AreUpTo}
 use Rattle.chip_asm.proofs.LinesAfter.{Edited, edited-lines, first-within, same-front, shorter}
 use Rattle.chip_asm.proofs.Resumed.{AllSteady, NamesSplit, first-placed, names-split}

@@ -16,7 +16,7 @@ use Rattle.chip_asm.specs.Program.{byte_at, bytes_of_lines, code_under, fault_of
 use Rattle.chip_asm.specs.computed.Walk.{address, placed, symbols}
 use Rattle.chip_asm.specs.inner.Layouts.{final_placement}
 use Rattle.chip_asm.proofs.Bounds.{end-low}
-use Rattle.chip_asm.proofs.CarrySteps.{covering}
+use Rattle.chip_asm.proofs.PassSteps.{covering}
 use Rattle.chip_asm.proofs.LinesApart.{ends-by}
 use Rattle.chip_asm.proofs.LinesByPlace.{at-line, byte-line, byte-outside, low}
 use Rattle.chip_asm.proofs.PlacesAgree.{address-of, only}

@@ -14,7 +14,7 @@ use Rattle.chip_lang.specs.Code.{own_bytes, bytes_coded, coded, code_length, cod
 use Rattle.chip_asm.specs.Layout.{body_of, own_size}
 use Rattle.chip_asm.specs.Program.{bytes_in_code}
 use Rattle.chip_asm.specs.declared.placement.Placement.{Placement}
-use Rattle.chip_asm.specs.inner.Recode.{has_code}
+use Rattle.chip_asm.specs.inner.Infos.{has_code}
 use Rattle.chip_asm.specs.inner.Codes.{IsWritten, covers_byte}
 
 -- items in the middle of others

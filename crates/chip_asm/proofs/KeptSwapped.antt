@@ -17,22 +17,19 @@ use Rattle.chip_asm.specs.declared.kept.Kept.{Kept}
 use Rattle.chip_asm.specs.declared.placement.Placement.{Placement}
 use Rattle.chip_asm.specs.inner.Codes.{IsImageOf, IsWritten, code_kept, covers_byte, is_coded, kept_bytes, right_byte}
 use Rattle.chip_asm.specs.inner.Effect.{AreAlike}
-use Rattle.chip_asm.specs.inner.Infos.{IsInfo}
+use Rattle.chip_asm.specs.inner.Infos.{IsInfo, has_code, AreSteady}
 use Rattle.chip_asm.specs.inner.Kept.{IsKept}
 use Rattle.chip_asm.specs.inner.KeptLine.{KeptLine}
 use Rattle.chip_asm.specs.inner.Layouts.{AreCodesNoted, IsCounted, IsLayoutOf}
 use Rattle.chip_asm.specs.inner.Placements.{found, is_accepted, is_accepted_found, status_coded}
-use Rattle.chip_asm.specs.inner.Recode.{has_code}
 use Rattle.chip_asm.specs.inner.Records.{reading_in, readings_in}
-use Rattle.chip_asm.specs.inner.Resume.{AreSteady}
 use Rattle.chip_asm.proofs.EditTexts.{all-after, read-after, readings-set}
 use Rattle.chip_asm.proofs.KeptSteps.{kept-by}
 use Rattle.chip_asm.proofs.LinesByPlace.{AtPlace, accepted-at, at-place-of, byte-line, covers-accepted, found-there}
-use Rattle.chip_asm.proofs.NeededLines.{one-needed}
+use Rattle.chip_asm.proofs.Views.{one-needed}
 use Rattle.chip_asm.proofs.QuietLines.{with_line}
 use Rattle.chip_asm.proofs.Resumed.{length-laid}
-use Rattle.chip_asm.proofs.SwappedFacts.{alike, byte-swapped, byte_in, end-swapped, final-same, line-swapped, line-was, names-swapped, placements-swapped}
-use Rattle.chip_asm.proofs.SwappedLine.{Swapped, swapped}
+use Rattle.chip_asm.proofs.SwappedLine.{Swapped, alike, byte-swapped, byte_in, end-swapped, final-same, line-swapped, line-was, names-swapped, placements-swapped, swapped}
 use Rattle.chip_asm.proofs.TallySteps.{set-here, set-other}
 
 -- the line at the place, before and after

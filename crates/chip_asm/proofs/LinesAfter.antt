@@ -9,8 +9,7 @@ use Rattle.chip_lang.specs.Line.{Reading}
 use Rattle.chip_asm.specs.inner.KeptLine.{KeptLine}
 use Rattle.chip_asm.specs.declared.edit.Edit.{Edit}
 use Rattle.chip_asm.specs.declared.edit.Edit.TheVariants.{Insert, Replace, Delete, Open}
-use Rattle.chip_asm.specs.inner.Records.{reading_in, readings_in, IsPlaceWithin, items_after, lines_after, count_after, place_before}
-use Rattle.chip_asm.specs.inner.Resume.{first_changed}
+use Rattle.chip_asm.specs.inner.Records.{reading_in, readings_in, IsPlaceWithin, items_after, lines_after, count_after, place_before, first_changed}
 
 -- two lists that begin alike begin alike for less of them
 pub shorter : {X : Type 0} (n m : ℕ) (xs ys : List X) → n ≤ m → take m xs ≡ take m ys → take n xs ≡ take n ys

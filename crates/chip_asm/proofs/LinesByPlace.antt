@@ -18,7 +18,7 @@ use Rattle.chip_asm.specs.declared.layout.Layout.{Layout}
 use Rattle.chip_asm.specs.Layout.{Placed, body_of, full_size, is_if, is_if_body, own_size, takes_effect}
 use Rattle.chip_asm.specs.computed.Walk.{place, placed, address, symbols}
 use Rattle.chip_asm.specs.inner.Layouts.{IsLayoutOf, placements_of, final_placement}
-use Rattle.chip_asm.specs.inner.Placements.{Found, found, is_accepted_found}
+use Rattle.chip_asm.specs.inner.Placements.{Found, found, is_accepted_found, is_accepted, status_coded}
 use Rattle.chip_asm.specs.declared.placement.Placement.{Placement}
 use Rattle.chip_asm.specs.Program.{code_under, bytes_in_code, fault_in_code, covers, byte_at, fault_of, first_pass_fault, is_unclosed}
 use Rattle.chip_asm.specs.Work.{is_accepted_at, is_accepted_in}
@@ -28,8 +28,9 @@ use Rattle.chip_asm.proofs.ImageSteps.{code-short, own-short}
 use Rattle.chip_asm.proofs.LinesApart.{ends-by, one-covers, turned}
 use Rattle.chip_asm.proofs.Placing.{length-numbered, line-at}
 use Rattle.chip_asm.proofs.QuietLines.{Parts, parts}
-use Rattle.chip_asm.proofs.Resumed.{next-placed}
+use Rattle.chip_asm.proofs.Resumed.{next-placed, length-laid}
 use Rattle.chip_asm.proofs.UnclosedByPlace.{number-at}
+use Rattle.chip_asm.specs.declared.placement.Status.TheVariants.{Pending}
 
 -- the lines up to a place end by the address after them
 pub ends-before : (lines : List Reading) (first j : ℕ) (x : Placed) → j < first → slice_get (reverse (placed lines)) j ≡ Some x → x.here + x.size ≤ address (placed (take first lines))
@@ -232,3 +233,19 @@ bytes-fit lines n q a accepted = omega (arith, own-room lines n q a accepted, ow
 
 pub code-fits : (lines : List Reading) (n : ℕ) (q : Found) (a : AtPlace lines n q) → is_accepted_found q ≡ true → code_length a.x.line ≤ q.size
 code-fits lines n q a accepted = omega (arith, own-room lines n q a accepted, code-short a.x.line (place (placed (take n lines)) a.x.line).value)
+
+-- What is found of a line that is kept, by its place.
+
+pub found-at : (layout : Layout) (lines : List Reading) → IsLayoutOf layout lines → (at : ℕ) (q : Placement) → at < length lines → q ≡ get_or layout.placements.items at q → AtPlace lines at (found q)
+found-at layout lines laid at q inside is =
+    at-place lines layout laid at q (slice_get-get_or layout.placements.items at q (omega (arith, inside, length-laid layout lines laid)) ∙ ap Some (sym is))
+
+never-pending : (fault : Option Fault) → status_coded fault ≡ Pending → ⊥
+never-pending None e = cc
+never-pending (Some f) e = cc
+
+-- no line that is laid out waits for its code
+pub none-pending : (lines : List Reading) (layout : Layout) → IsLayoutOf layout lines → (n : ℕ) (q : Placement) → slice_get layout.placements.items n ≡ Some q → q.status ≡ Pending → ⊥
+none-pending lines layout laid n q there waits =
+    let a : AtPlace lines n (found q) = at-place lines layout laid n q there in
+    never-pending (fault_in_code (code_under (placed lines) a.x)) (sym (laid.codes n a.x q a.at there (ap is_accepted_found (sym a.placement) ∙ ap is_accepted waits)) ∙ waits)

@@ -16,7 +16,7 @@ use Rattle.chip_asm.specs.Program.{is_unclosed}
 use Rattle.chip_asm.specs.inner.Follows.{block_of, placement_of}
 use Rattle.chip_asm.specs.inner.Layouts.{first_placements, placements_of, final_placement}
 use Rattle.chip_asm.specs.inner.Placements.{Found, found, nothing}
-use Rattle.chip_asm.specs.inner.Marks.{AreMarked, is_among, is_opened_at, marked, unclosed}
+use Rattle.chip_asm.specs.inner.Blocks.{AreMarked, is_among, is_opened_at, marked, unclosed}
 use Rattle.chip_asm.proofs.BlockSteps.{reverse-cons, list_all-reverse}
 use Rattle.chip_asm.proofs.LastLine.{enclosing-all}
 use Rattle.chip_asm.proofs.LinesByPlace.{unclosed-parts}

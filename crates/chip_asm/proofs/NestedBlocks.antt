@@ -7,7 +7,7 @@ use Rattle.chip_asm.specs.declared.block.Block.{Block}
 use Rattle.chip_asm.specs.Layout.{Placed, body_of, has_ended, is_if_body, is_side_or_end}
 use Rattle.chip_asm.specs.computed.Walk.{place, placed, is_active, enclosing}
 use Rattle.chip_asm.specs.inner.Follows.{block_of}
-use Rattle.chip_asm.specs.inner.Turns.{AreNested, moved, turn_first, close_first}
+use Rattle.chip_asm.specs.inner.Blocks.{AreNested, moved, turn_first, close_first}
 use Rattle.chip_asm.proofs.BlockSteps.{reverse-cons, list_all-reverse}
 use Rattle.chip_asm.proofs.LastLine.{at-end}
 use Rattle.chip_asm.proofs.Numbers.{IsNumbered, blocks-cons}

@@ -9,7 +9,7 @@ use Rattle.chip_asm.specs.Layout.{Placed, body_of, full_size, value_at, value_or
 use Rattle.chip_asm.specs.computed.Walk.{place, placed, is_active, first_fault, symbols, is_aligning, address, fault_of_value, enclosing}
 use Rattle.chip_asm.specs.inner.Follows.{Follows, block_of, placement_of, next_address, next_aligning}
 use Rattle.chip_asm.specs.inner.Placements.{Found, is_accepted_found}
-use Rattle.chip_asm.specs.inner.Turns.{moved, AreNested}
+use Rattle.chip_asm.specs.inner.Blocks.{moved, AreNested}
 use Rattle.chip_asm.proofs.Numbers.{IsNumbered, blocks-cons}
 use Rattle.chip_asm.proofs.NestedBlocks.{Nests, nested-placed}
 use Rattle.chip_asm.proofs.PlaceSteps.{address-cons, aligning-cons, has_ended-cons, symbols-cons}

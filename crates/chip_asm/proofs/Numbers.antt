@@ -4,7 +4,7 @@ use Rattle.chip_lang.specs.Line.{Body, else_line, endif, ifdef, ifund}
 use Rattle.chip_asm.specs.Layout.{Placed, is_if, is_else, is_endif, is_else_body, is_if_body, is_endif_body, body_of, has_else, is_number, first_of}
 use Rattle.chip_asm.specs.computed.Walk.{enclosing}
 use Rattle.chip_asm.specs.inner.Follows.{block_of}
-use Rattle.chip_asm.specs.inner.Turns.{moved, turned, turn_first, close_first}
+use Rattle.chip_asm.specs.inner.Blocks.{moved, turned, turn_first, close_first}
 use Rattle.chip_asm.proofs.OpenBlocks.{open_blocks, rest_of, enclosing-open}
 
 -- the numbers of the lines count up, and each line names its block

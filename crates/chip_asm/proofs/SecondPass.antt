@@ -1,15 +1,15 @@
 -- The second pass: at each place the line there has its code under the names after the edit, or
 -- gets it, and the bytes of the other lines stay. What is known before it, over lines that don't
 -- wait, and where it is over.
-use Rattle.std.proofs.Common.{◌≡◌, ℕ, ◌+◌, ◌-◌, ◌<◌, ◌≤◌, ◌⊎◌, inl, inr, Bool, true, false, cond, not, ◌&&◌, ◌||◌, is_none, List, map, reverse, length, take, get_or, slice_get, refl, ap, sym, subst, ◌∙◌, arith, below_more, Option, Some, None, option_map}
+use Rattle.std.proofs.Common.{◌≡◌, ℕ, ◌+◌, ◌-◌, ◌<◌, ◌≤◌, ◌⊎◌, inl, inr, Bool, true, false, cond, not, ◌&&◌, ◌||◌, is_none, List, map, reverse, length, take, get_or, slice_get, refl, ap, sym, subst, ◌∙◌, arith, below_more, Option, Some, None, option_map, [], vec_capacity, sum_by}
 use Rattle.std.specs.List.{enumerate_from}
 use Rattle.std.specs.Option.{option_map_or}
 use Rattle.std.proofs.lemmas.Bool.{and_cases, and_left, and_parts, and_right, cases_eq, cases_lt, false_from_ne_true, false≢true, not-false, or_parts}
-use Rattle.std.proofs.lemmas.List.{length-map, take-take, take_all}
+use Rattle.std.proofs.lemmas.List.{length-map, take-take, take_all, length-take-le}
 use Rattle.std.proofs.lemmas.Option.{get_or_from_slice_get, same_Some, slice_get-get_or, slice_get-map, slice_get_within}
 use Rattle.chip_lang.specs.declared.fault.Fault.{Fault}
 use Rattle.chip_lang.specs.declared.fault.Fault.TheVariants.{UnclosedIf}
-use Rattle.chip_lang.specs.declared.limits.TheConstants.{IMAGE_BYTES, IMAGE_START}
+use Rattle.chip_lang.specs.declared.limits.TheConstants.{IMAGE_BYTES, IMAGE_START, MEMORY_BYTES}
 use Rattle.chip_lang.specs.Code.{code_of, own_bytes}
 use Rattle.chip_lang.specs.Line.{Reading}
 use Rattle.chip_lang.specs.Uses.{agree_on}
@@ -19,30 +19,34 @@ use Rattle.chip_asm.specs.declared.pass.Pass.{Pass}
 use Rattle.chip_asm.specs.declared.placement.Placement.{Placement}
 use Rattle.chip_asm.specs.declared.placement.Status.{Status}
 use Rattle.chip_asm.specs.declared.placement.Status.TheVariants.{Done, Pending, Refused, Skipped, Uncoded}
-use Rattle.chip_asm.specs.Layout.{Placed, body_of}
+use Rattle.chip_asm.specs.Layout.{Placed, body_of, has_ended}
 use Rattle.chip_asm.specs.Names.{values_of}
 use Rattle.chip_asm.specs.Program.{bytes_in_code, code_under, code_with, fault_in_code, is_unclosed, names_of_lines}
 use Rattle.chip_asm.specs.Work.{is_accepted_at, is_accepted_in, needs}
-use Rattle.chip_asm.specs.computed.Walk.{placed}
+use Rattle.chip_asm.specs.computed.Walk.{placed, address, enclosing, is_aligning, symbols}
 use Rattle.chip_asm.specs.inner.Codes.{IsImageOf, IsWritten, code_kept, is_coded, kept_bytes, kept_fault, right_byte}
 use Rattle.chip_asm.specs.inner.Follows.{Follows}
 use Rattle.chip_asm.specs.inner.KeptLine.{KeptLine}
 use Rattle.chip_asm.specs.inner.Layouts.{AreCodesNoted, HasPassed, final_placement, placements_of}
-use Rattle.chip_asm.specs.inner.Marks.{AreMarked, unclosed}
-use Rattle.chip_asm.specs.inner.Passes.{AreCoded, AreGapsZero, AreSettled, Change, HasCode, IsCarried, IsDone, IsEncodedUnder, IsHalfDone, IsHeld, IsUnderWay, again_up_to, is_byte_of, placed_at, stood}
-use Rattle.chip_asm.specs.inner.Placements.{Found, found, is_accepted, is_accepted_found, is_pending, nothing, status_coded}
-use Rattle.chip_asm.specs.inner.Recode.{has_code, is_encoded_again}
+use Rattle.chip_asm.specs.inner.Blocks.{AreMarked, unclosed}
+use Rattle.chip_asm.specs.inner.Passes.{AreCoded, AreGapsZero, AreSettled, Change, HasCode, IsCarried, IsDone, IsEncodedUnder, IsHalfDone, IsHeld, IsUnderWay, again_up_to, is_byte_of, placed_at, stood, is_encoded_again, HasRoom, IsSlot, IsTally}
+use Rattle.chip_asm.specs.inner.Placements.{Found, found, is_accepted, is_accepted_found, is_pending, nothing, status_coded, count_of}
+use Rattle.chip_asm.specs.inner.Infos.{has_code}
 use Rattle.chip_asm.specs.inner.Records.{reading_in, readings_in}
 use Rattle.chip_asm.specs.inner.Tables.{Tables}
-use Rattle.chip_asm.proofs.CarrySteps.{StaysOn, carried-stays, code-stays}
+use Rattle.chip_asm.proofs.PassSteps.{Noted, StaysOn, carried-stays, code-stays, noted-same, byte-parts, held-stays}
 use Rattle.chip_asm.proofs.CodeSteps.{count-numbered, count_by-take}
 use Rattle.chip_asm.proofs.ImageSteps.{no-code, same-bytes}
 use Rattle.chip_asm.proofs.LinesAfter.{read-at}
-use Rattle.chip_asm.proofs.LinesByPlace.{AtPlace, accepted-at, accepted-effect, apart, at-line, at-place-of, byte-line, byte-outside, covers-accepted}
+use Rattle.chip_asm.proofs.LinesByPlace.{AtPlace, accepted-at, accepted-effect, apart, at-line, at-place-of, byte-line, byte-outside, covers-accepted, ends-before}
 use Rattle.chip_asm.proofs.MarkSteps.{is-marked, marked-placements}
-use Rattle.chip_asm.proofs.NeedsSteps.{count-step}
-use Rattle.chip_asm.proofs.PassSteps.{Noted, noted-same}
+use Rattle.chip_asm.proofs.Views.{count-step}
 use Rattle.chip_asm.proofs.Placing.{length-numbered}
+use Rattle.chip_asm.specs.declared.kept.Kept.{Kept}
+use Rattle.chip_asm.specs.inner.Kept.{IsExchanged}
+use Rattle.chip_asm.proofs.Bounds.{end-high}
+use Rattle.chip_asm.proofs.FirstLines.{steady-readings}
+use Rattle.chip_asm.proofs.Resumed.{Resumes, resumes}
 
 abbrev SameCode : Type 0
 SameCode = (line : Reading) (S T : Symbols) → agree_on S T line ≡ true → code_of line S ≡ code_of line T
@@ -314,3 +318,93 @@ half-done e lines pass placements now tally from image u long marks = record {
 
     walked : HasPassed placements pass e.now
     walked = walked-all e lines pass placements tally from image u
+
+-- Both passes over the lines after an edit: where the first one begins, and which places the second
+-- one goes over.
+
+-- where the first pass begins
+
+pub begun-way : (e : Change) (kept : Kept) (first start : ℕ) (pass : Pass) (lines : List KeptLine) (placements : List Placement) (tally : Tally) (from image : List ℕ) → IsExchanged e kept first start
+    → lines ≡ kept.lines.items → placements ≡ kept.layout.placements.items → from ≡ kept.image.items → tally.faults ≡ kept.layout.faults → tally.end ≡ 0
+    → length image ≡ IMAGE_BYTES → ((k : ℕ) → k < start - IMAGE_START → get_or image k 0 ≡ get_or from k 0) → ((k : ℕ) → start - IMAGE_START ≤ k → get_or image k 0 ≡ 0)
+    → pass.names ≡ kept.names
+    → ((before : List Placed) → start ≡ address before → start ≤ MEMORY_BYTES → is_aligning before ≡ true → has_ended before ≡ false → enclosing before ≡ [] → kept.names.symbols ≡ symbols before → Follows pass before)
+    → ((left : ℕ) → left ≤ vec_capacity kept.blocks → length kept.names.symbols + left ≤ kept.names.room → HasRoom pass left)
+    → IsUnderWay e lines pass placements tally from image first
+begun-way e kept first start pass lines placements tally from image x lines_is placements_is from_is faults ends long front zeros names follows room = record {
+  now = x.now ∙ ap readings_in (sym lines_is);
+  change = x.change;
+  few = omega (arith, x.few, ap length lines_is);
+  inside = omega (arith, x.inside, ap length lines_is);
+  placed_many = ap length placements_is ∙ x.placed_many ∙ ap length (sym lines_is);
+  from_long = omega (arith, ap length from_is, x.image_long, kept.image.ok.0);
+  image_long = long;
+  infos = rw (lines_is, names) x.infos;
+  keys = ap (λ (t : Tables). t.keys) names ∙ x.keys;
+  before = ap (λ (t : Tables). t.before) names ∙ x.before;
+  walked = record {
+    placements = ap (λ n. take n (map found placements)) many ∙ ap (λ qs. take first (map found qs)) placements_is ∙ x.front;
+    follows = follows (placed (take first e.now)) x.at_address (omega (arith, x.at_address, end-high (take first e.now))) s.aligning s.ended s.open_blocks x.symbols;
+  };
+  room = room (length lines - first) (omega (arith, x.blocks_room, ap length lines_is)) (omega (arith, x.names_room, ap length lines_is));
+  tallied = record {
+    counted = faults ∙ x.counted ∙ ap (sum_by count_of) (sym placements_is);
+    low = λ j q there pending. absurd (x.none_pending j q (was j there) pending);
+    high = λ j q there pending. absurd (x.none_pending j q (was j there) pending);
+    within = omega (arith, ends);
+  };
+  slots = λ j line q h at there. subst (λ f. IsSlot e f j line q) (sym from_is) (x.slots j line q h at (was j there));
+  held = λ j y q h at there.
+      held-stays e j y q kept.image.items image (x.held j y q h at (was j there))
+      (λ k b. front k (omega (arith, (byte-parts y.here y.size k b).1, ends-before e.now first j y h at, x.at_address)) ∙ ap (λ f. get_or f k 0) from_is);
+  gaps = λ k h none. gap k none (cases_lt k (start - IMAGE_START));
+}
+  where
+    was : {q : Placement} (j : ℕ) → slice_get placements j ≡ Some q → slice_get kept.layout.placements.items j ≡ Some q
+    was j there = ap (λ qs. slice_get qs j) (sym placements_is) ∙ there
+
+    inside_now : first ≤ length e.now
+    inside_now = omega (arith, x.inside, ap length x.now, length-map kept.lines.items reading_in)
+
+    many : length (take first e.now) ≡ first
+    many = length-take-le first e.now inside_now
+
+    s : Resumes (placed (take first e.now))
+    s = resumes (take first e.now) (rw x.now (steady-readings kept.names.keys kept.lines.items first x.infos x.inside x.steady))
+
+    gap : (k : ℕ) → ((j : ℕ) (y : Placed) → j < first → placed_at e j ≡ Some y → is_byte_of y.here y.size k ≡ false) → (k < start - IMAGE_START) ⊎ (start - IMAGE_START ≤ k) → get_or image k 0 ≡ 0
+    gap k none (inl less) = front k less ∙ ap (λ f. get_or f k 0) from_is ∙ x.gaps k (omega (arith, less)) none
+    gap k none (inr past) = zeros k past
+
+-- no line before these places waits, and none behind them, where the names have their values
+pub record ArePlaces (names : Tables) (placements : List Placement) (count start end : ℕ) : Type 0 where
+  pub ordered : start ≤ end
+  pub within : end ≤ count
+  pub before : AreQuiet names placements 0 start
+  pub behind : AreQuiet names placements end count
+
+-- all places
+pub all-places : (names : Tables) (placements : List Placement) (count start end : ℕ) → start ≡ 0 → end ≡ count → ArePlaces names placements count start end
+all-places names placements count start end low high = record {
+  ordered = omega arith;
+  within = omega arith;
+  before = λ j q from to. absurd (omega arith);
+  behind = λ j q from to. absurd (omega arith);
+}
+
+-- those of a tally
+pub tally-places : (names : Tables) (placements : List Placement) (tally : Tally) (count start end : ℕ) → IsTally placements tally → length placements ≡ count → names.before ≡ values_of names.symbols → start ≤ end → end ≤ tally.end
+    → (tally.start < tally.end → start ≡ tally.start) → (tally.start < tally.end → end ≡ tally.end) → ArePlaces names placements count start end
+tally-places names placements tally count start end t many same ordered within low high = record {
+  ordered = ordered;
+  within = omega (arith, t.within);
+  before = λ j q from to there. (same, λ pending. outside j q there pending (inl to));
+  behind = λ j q from to there. (same, λ pending. outside j q there pending (inr from));
+}
+  where
+    outside : (j : ℕ) (q : Placement) → slice_get placements j ≡ Some q → q.status ≡ Pending → (j < start) ⊎ (end ≤ j) → ⊥
+    outside j q there pending out =
+        let from = t.low j q there pending in
+        let to = t.high j q there pending in
+        let some : tally.start < tally.end = omega (arith, from, to) in
+        elim out [ inl less ↦ omega (arith, from, less, low some) | inr past ↦ omega (arith, to, past, high some) ]

@@ -7,7 +7,7 @@ use Rattle.std.proofs.lemmas.Bool.{cases_eq, cases_lt}
 use Rattle.std.proofs.lemmas.Bool.Decides.{Decides-int_eq}
 use Rattle.std.proofs.lemmas.List.{ext_get_or, get_or_append_left, get_or-set_other, get_or-set_same}
 use Rattle.std.proofs.lemmas.List.Sums.{get_or-le-sum_by, sum_by-append, sum_by-cons, sum_by-set}
-use Rattle.chip_asm.specs.inner.ValueLists.{AreCompared, count_true, is_same_at}
+use Rattle.chip_asm.specs.inner.Tables.{AreCompared, count_true, is_same_at}
 
 abbrev one : Bool → ℕ
 one b = cond b 1 0

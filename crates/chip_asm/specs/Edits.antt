@@ -40,10 +40,10 @@ abbrev pub before_insert : ℕ → ℕ → Option ℕ
 before_insert at place =
     if nat_lt place at then Some place else (if nat_eq place at then None else Some (place - 1))
 
--- the same, where the line at `at` was replaced
+-- the place that the line at a place had before the line at `at` was replaced; none for the new line
 abbrev pub before_replace : ℕ → ℕ → Option ℕ
 before_replace at place = if nat_eq place at then None else Some place
 
--- the same, where the line at `at` was taken out
+-- the place that the line at a place had before the line at `at` was taken out
 abbrev pub before_delete : ℕ → ℕ → Option ℕ
 before_delete at place = if nat_lt place at then Some place else Some (place + 1)

@@ -5,13 +5,12 @@ ghost use Rattle.chip_asm.specs.Layout.{body_of, value_at};
 ghost use Rattle.chip_asm.specs.Names.{values_of};
 ghost use Rattle.chip_lang.specs.declared.limits.TheConstants.{IMAGE_BYTES};
 ghost use Rattle.chip_asm.specs.inner.Codes.{is_coded};
-ghost use Rattle.chip_asm.specs.inner.HeldLine.{IsKnownUnder};
-ghost use Rattle.chip_asm.specs.inner.Infos.{AreInfos, IsInfo};
+ghost use Rattle.chip_asm.specs.inner.KeptLine.{IsKnownUnder};
+ghost use Rattle.chip_asm.specs.inner.Infos.{AreInfos, IsInfo, AreSteady};
 ghost use Rattle.chip_asm.specs.inner.Layouts.{placements_of};
 ghost use Rattle.chip_asm.specs.inner.Passes.{AreCoded, AreSettled, Change, IsEncodedUnder, IsTally, IsUnderWay, again_up_to};
 ghost use Rattle.chip_asm.specs.inner.Placements.{found, is_accepted, is_pending};
 ghost use Rattle.chip_asm.specs.inner.Records.{reading_in, readings_in};
-ghost use Rattle.chip_asm.specs.inner.Resume.{AreSteady};
 ghost use Rattle.chip_asm.specs.inner.Tables.{AreDifferences, Tables};
 
 use crate::codes::{copy_code, write_line};
@@ -149,12 +148,14 @@ fn is_settled(changed: &[bool], kept: &BoxedLine, status: Status) -> bool
         → AreDifferences names changed.now → result ≡ true
         → agree_on names.before (values_of names.symbols) (reading_in kept.now) ≡ true }
 {
-    let may_differ = match kept.info().uses {
-        Uses::Nothing => false,
-        Uses::One(id) => changed[id.number as usize],
-        Uses::Several => true,
-    };
-    !status.is_pending() && !may_differ
+    if status.is_pending() {
+        return false;
+    }
+    match kept.info().uses {
+        Uses::Nothing => true,
+        Uses::One(id) => !changed[id.number as usize],
+        Uses::Several => false,
+    }
 }
 
 /// Whether a line is to be encoded.

@@ -1,7 +1,7 @@
 //! The open blocks.
 ghost use Rattle.std.specs.Prelude.{◌≡◌, ◌+◌, ◌<◌, ◌≤◌, List, reverse, vec_len, vec_capacity};
 ghost use Rattle.std.specs.List.{list_all};
-ghost use Rattle.chip_asm.specs.inner.Turns.{turned as turned_block, moved, AreNested};
+ghost use Rattle.chip_asm.specs.inner.Blocks.{turned as turned_block, moved, AreNested};
 ghost use Rattle.chip_lang.specs.SeenLine.{seen_body};
 ghost use Rattle.chip_asm.specs.declared.block.Block.{Block};
 

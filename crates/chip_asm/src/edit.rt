@@ -1,7 +1,6 @@
 //! A change of one line, seen before it is made.
 ghost use Rattle.std.specs.Prelude.{◌≡◌, ◌+◌, ◌<◌, ◌≤◌, slice_set, vec_len, vec_capacity};
-ghost use Rattle.chip_asm.specs.inner.Records.{IsPlaceWithin, count_after, items_after, lines_after};
-ghost use Rattle.chip_asm.specs.inner.Resume.{first_changed};
+ghost use Rattle.chip_asm.specs.inner.Records.{IsPlaceWithin, count_after, items_after, lines_after, first_changed};
 
 use crate::kept_line::BoxedLine;
 use crate::limits::MOST_LINES;

@@ -10,8 +10,7 @@ ghost use Rattle.chip_asm.specs.Names.{Name};
 ghost use Rattle.chip_asm.specs.inner.Infos.{AreInfos, AreInfosOf, IsInfo};
 ghost use Rattle.chip_asm.specs.inner.Layouts.{IsCounted};
 ghost use Rattle.chip_asm.specs.inner.Kept.{HasRoomFor, IsAssembled, IsExchanged, IsKept, MayEdit, lines_kept, needed_by, texts_kept};
-ghost use Rattle.chip_asm.specs.inner.Passes.{Change, IsUnderWay};
-ghost use Rattle.chip_asm.specs.inner.Recode.{count_again};
+ghost use Rattle.chip_asm.specs.inner.Passes.{Change, IsUnderWay, count_again};
 ghost use Rattle.chip_asm.specs.inner.Placements.{nothing};
 ghost use Rattle.chip_asm.specs.inner.Records.{IsPlaceWithin, count_after, items_after, lines_after, reading_in, readings_in, texts_in};
 
@@ -26,8 +25,8 @@ use crate::line_info::{LineInfo, Numbered};
 use crate::pass::Pass;
 use crate::placement::{Placement, Status};
 use crate::table::Table;
-use chip_lang::limits::{IMAGE_BYTES, IMAGE_START};
 use chip_lang::Meter;
+use chip_lang::limits::{IMAGE_BYTES, IMAGE_START};
 use std::alloc::{AllocError, Global};
 use std::mem;
 use std::ops::Range;
@@ -209,7 +208,12 @@ impl Kept {
     }
 
     /// Makes an edit by both passes. Each allocation comes before the first change.
-    pub(crate) fn remake(&mut self, alloc: Global, meter: &mut Meter, edit: Edit) -> Result<(), AllocError>
+    pub(crate) fn remake(
+        &mut self,
+        alloc: Global,
+        meter: &mut Meter,
+        edit: Edit,
+    ) -> Result<(), AllocError>
         requires { MayEdit self.old edit }
         ensures ok { OnOk result (texts_kept self.new
             ≡ texts_in (lines_after self.old.lines.items edit)) }

@@ -39,8 +39,9 @@ pub(crate) enum HeldLine {
     Boxed(Box<ReadLine>),
 }
 
-/// The same behind a pointer, so that an edit, which moves lines, moves little. Many lines are
-/// blank or of a comment alone: where these were read with others, they take no room of their own.
+/// A line of the source. It stands behind a pointer, so that an edit, which moves lines, moves little.
+/// Many lines are blank or of a comment alone: where these were read with others, they take no room of
+/// their own.
 #[derive(Drop)]
 pub(crate) struct BoxedLine {
     held: HeldLine,
@@ -49,7 +50,7 @@ pub(crate) struct BoxedLine {
 
 impl Model for BoxedLine {
     ghost use Rattle.chip_asm.specs.inner.KeptLine.{KeptLine};
-    ghost use Rattle.chip_asm.specs.inner.HeldLine.{kept_held, IsLineHeld};
+    ghost use Rattle.chip_asm.specs.inner.KeptLine.{kept_held, IsLineHeld};
     ghost use Rattle.chip_lang.specs.contracts.expr.Expr as e;
     ghost use Rattle.std.specs.Coded.{codes};
 
@@ -65,12 +66,7 @@ impl Model for BoxedLine {
 impl BoxedLine {
     /// A line of a text and its reading, whose names get their numbers.
     #[inline(always)]
-    fn new(
-        alloc: Global,
-        table: &mut Table,
-        text: LineText,
-        line: Line,
-    ) -> Result<Self, AllocError>
+    fn new(alloc: Global, table: &mut Table, text: LineText, line: Line) -> Result<Self, AllocError>
         ensures text { IfOk result (λ kept. kept.text ≡ text) }
         ensures line { IfOk result (λ kept. kept.line ≡ line) }
         ensures info { IfOk result (λ kept. IsInfo table.new.keys kept.info kept.several

@@ -5,7 +5,7 @@ ghost use Rattle.chip_lang.specs.Line.{Reading};
 ghost use Rattle.chip_asm.specs.computed.Walk.{address, placed};
 ghost use Rattle.chip_asm.specs.declared.placement.Status.TheVariants.{Pending};
 ghost use Rattle.chip_asm.specs.inner.Layouts.{IsLayoutOf};
-ghost use Rattle.chip_asm.specs.inner.Marks.{AreMarked, is_among};
+ghost use Rattle.chip_asm.specs.inner.Blocks.{AreMarked, is_among};
 ghost use Rattle.chip_asm.specs.inner.Passes.{IsTally};
 
 use crate::block::Block;
@@ -58,7 +58,7 @@ pub(crate) struct Tally {
 }
 
 impl Tally {
-    /// That of lines of which so many have a fault and none waits.
+    /// The tally of lines of which so many have a fault and none waits.
     pub(crate) fn new(faults: usize) -> Tally
         ensures faults { result.faults ≡ faults }
         ensures end { result.end ≡ 0 }

@@ -6,8 +6,7 @@ ghost use Rattle.chip_lang.specs.Uses.{name_defined, names_used};
 ghost use Rattle.chip_asm.specs.Layout.{body_of};
 ghost use Rattle.chip_asm.specs.Names.{Name};
 ghost use Rattle.chip_asm.specs.inner.HeldText.{SaysNothing};
-ghost use Rattle.chip_asm.specs.inner.Infos.{IsBare, IsInfo, IsNumberOf, is_bare_line, is_steady, numbers_of};
-ghost use Rattle.chip_asm.specs.inner.Recode.{has_code};
+ghost use Rattle.chip_asm.specs.inner.Infos.{IsBare, IsInfo, IsNumberOf, is_bare_line, is_steady, numbers_of, has_code};
 ghost use Rattle.chip_asm.specs.inner.Tables.{AreNumbers, Extends};
 
 use crate::table::{NameId, Table};
@@ -121,11 +120,7 @@ fn push_numbers(
 
 /// What is known of the names that a line uses, and the numbers of several, or of the one that it
 /// asks for.
-fn uses_of(
-    alloc: Global,
-    table: &mut Table,
-    line: &Line,
-) -> Result<(Uses, Vec<NameId>), AllocError>
+fn uses_of(alloc: Global, table: &mut Table, line: &Line) -> Result<(Uses, Vec<NameId>), AllocError>
     ensures keys { Extends table.old.keys table.new.keys }
     ensures symbols { table.new.symbols ≡ table.old.symbols }
     ensures before { table.new.before ≡ table.old.before }
@@ -163,7 +158,7 @@ pub(crate) struct Numbered {
 }
 
 impl LineInfo {
-    /// That of a line that is blank or only a comment.
+    /// What is kept of a line that is blank or only a comment.
     pub(crate) const NOTHING: LineInfo = LineInfo {
         is_bare: true,
         is_coded: false,
@@ -172,7 +167,7 @@ impl LineInfo {
         uses: Uses::Nothing,
     };
 
-    /// That of a line, whose names get their numbers.
+    /// What is kept of a line, whose names get their numbers.
     pub(crate) fn of(alloc: Global, table: &mut Table, line: &Line) -> Result<Numbered, AllocError>
         ensures keys { Extends table.old.keys table.new.keys }
         ensures symbols { table.new.symbols ≡ table.old.symbols }

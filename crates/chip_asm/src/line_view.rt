@@ -34,7 +34,7 @@ impl<'a> Model for LineView<'a> {
 }
 
 impl<'a> LineView<'a> {
-    /// That of a kept line of a number, which is placed so and takes these bytes of the image.
+    /// The view of a kept line of a number, which is placed so and takes these bytes of the image.
     pub(crate) fn of(
         number: usize,
         kept: &'a BoxedLine,

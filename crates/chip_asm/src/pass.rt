@@ -2,8 +2,8 @@
 ghost use Rattle.std.specs.Prelude.{ℕ, ◌≡◌, reverse, ◌+◌, ◌-◌, ◌≤◌, ◌<◌, ◌^◌, List, [], ◌∷◌, ◌++◌, IfSome, length, is_some, is_none, unsigned_abs, pos, Option, None, Some, Ok, true, false, not, ◌&&◌, ◌||◌, if◌then◌else◌, option_to_list, slice_get, vec_capacity};
 ghost use Rattle.std.specs.List.{list_all};
 ghost use Rattle.chip_asm.specs.declared.block.Block.{Block};
-ghost use Rattle.chip_asm.specs.inner.Turns.{AreNested};
-ghost use Rattle.chip_asm.specs.inner.HeldLine.{IsKnownUnder};
+ghost use Rattle.chip_asm.specs.inner.Blocks.{AreNested};
+ghost use Rattle.chip_asm.specs.inner.KeptLine.{IsKnownUnder};
 ghost use Rattle.chip_asm.specs.inner.Tables.{IsNumber, KeepsBefore, key_at};
 ghost use Rattle.chip_asm.specs.Names.{Name, lookup_name};
 ghost use Rattle.chip_asm.specs.Layout.{value_at, own_size, is_padded, full_size, is_backwards, is_past_end, is_redefinition, body_of, condition_of, is_end_body, symbol_given};
@@ -370,7 +370,7 @@ impl Pass {
         }
     }
 
-    /// The same, where the caller knows whether lines are active: there is a loop for each.
+    /// Goes on as `run` does, where the caller knows whether lines are active: there is a loop for each.
     #[inline(always)]
     fn run_as(
         &mut self,

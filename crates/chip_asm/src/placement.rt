@@ -32,7 +32,7 @@ impl Status {
         }
     }
 
-    /// That of a new instruction or a line without a statement, which has no fault.
+    /// The status of a new instruction or of a line without a statement, which has no fault.
     pub(crate) fn bare(active: bool, is_coded: bool) -> Status
         ensures { result ≡ bare_status active is_coded }
     {
@@ -43,7 +43,7 @@ impl Status {
         }
     }
 
-    /// That of an accepted line whose code has this fault, or none.
+    /// The status of an accepted line whose code has this fault, or none.
     pub(crate) fn coded(fault: Option<Fault>) -> Status
         ensures { result ≡ status_coded fault }
     {

@@ -2,7 +2,7 @@
 ghost use Rattle.std.specs.Prelude.{◌≡◌, ◌<◌, ◌++◌, [], ◌∷◌, None, OnOk, false, true, not, if◌then◌else◌, length, slice_index_or, slice_set};
 ghost use Rattle.std.specs.Option.{option_eq};
 ghost use Rattle.std.specs.Ordering.{int_eq};
-ghost use Rattle.chip_asm.specs.inner.ValueLists.{AreNoted};
+ghost use Rattle.chip_asm.specs.inner.Tables.{AreNoted};
 
 use std::alloc::{AllocError, Global};
 use std::marker::Model;
@@ -19,7 +19,7 @@ pub(crate) struct Values {
 }
 
 impl Model for Values {
-    ghost use Rattle.chip_asm.specs.inner.ValueLists.{AreCompared, ValueLists, has_room};
+    ghost use Rattle.chip_asm.specs.inner.Tables.{AreCompared, ValueLists, has_room};
 
     ghost Value = { ValueLists };
 
@@ -33,7 +33,7 @@ impl Model for Values {
 }
 
 impl Values {
-    /// Those of no names.
+    /// The values of no names.
     pub(crate) fn new(alloc: Global) -> Self
         ensures now { result.current ≡ [] }
         ensures past { result.past ≡ [] }

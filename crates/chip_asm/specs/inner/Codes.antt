@@ -8,7 +8,7 @@ use Rattle.chip_asm.specs.declared.table.Table.{Table}
 use Rattle.chip_asm.specs.Layout.{body_of}
 use Rattle.chip_asm.specs.inner.KeptLine.{KeptLine}
 use Rattle.chip_asm.specs.inner.Placements.{is_accepted}
-use Rattle.chip_asm.specs.inner.Recode.{has_code}
+use Rattle.chip_asm.specs.inner.Infos.{has_code}
 use Rattle.chip_asm.specs.inner.Records.{reading_in}
 use Rattle.chip_asm.specs.computed.Walk.{placed}
 use Rattle.chip_asm.specs.Program.{byte_at, bytes_in_code, code_with, fault_in_code}

@@ -1,7 +1,7 @@
 -- What is kept of a line beside its reading, so that steps over all lines needn't look into most of
 -- them (own).
-use Rattle.std.specs.Prelude.{◌≡◌, ℕ, pos, length, slice_get, Bool, true, false, not, if◌then◌else◌, ◌&&◌, List, [], ◌∷◌, All, Option, Some, None}
-use Rattle.chip_lang.specs.Line.{Body, empty, code, Reading, bad, read}
+use Rattle.std.specs.Prelude.{◌≡◌, ℕ, pos, length, slice_get, Bool, true, false, not, if◌then◌else◌, ◌&&◌, List, [], ◌∷◌, All, Option, Some, None, ◌<◌, slice_index_or}
+use Rattle.chip_lang.specs.Line.{Body, empty, code, Reading, bad, read, db, dw, da}
 use Rattle.chip_lang.specs.Uses.{names_used, name_defined}
 use Rattle.chip_asm.specs.Names.{Name}
 use Rattle.chip_asm.specs.inner.KeptLine.{KeptLine}
@@ -10,7 +10,6 @@ use Rattle.chip_asm.specs.declared.line_info.Numbered.{Numbered}
 use Rattle.chip_asm.specs.declared.line_info.Uses.{Uses}
 use Rattle.chip_asm.specs.declared.line_info.Uses.TheVariants.{Nothing, One, Several}
 use Rattle.chip_asm.specs.declared.table.NameId.{NameId}
-use Rattle.chip_asm.specs.inner.Recode.{has_code}
 use Rattle.chip_asm.specs.inner.Records.{reading_in}
 use Rattle.chip_asm.specs.inner.Tables.{AreNumbers, IsNumber}
 use Rattle.chip_asm.specs.Layout.{body_of, own_size, is_if_body, is_end_body, is_align_body}
@@ -24,6 +23,14 @@ is_bare _ = false
 abbrev pub is_bare_line : Reading → Bool
 is_bare_line (bad fault) = false
 is_bare_line (read name body) = is_bare body
+
+-- the line has bytes of its own
+abbrev pub has_code : Body → Bool
+has_code (db es) = true
+has_code (dw es) = true
+has_code (da bytes) = true
+has_code (code form operands) = true
+has_code _ = false
 
 -- it opens no block, ends no source and switches no alignment
 abbrev pub is_steady : Body → Bool
@@ -70,3 +77,9 @@ AreInfosOf keys infos lines =
 -- what is kept beside each line
 abbrev pub AreInfos : List Name → List KeptLine → Type 0
 AreInfos keys lines = All (λ kept. IsInfo keys kept.info kept.several (reading_in kept)) lines
+
+-- of the first lines each is steady
+abbrev pub AreSteady : List KeptLine → (many : ℕ) → Type 0
+AreSteady lines many =
+    (place : ℕ) (other : KeptLine) → place < many
+    → (slice_index_or lines place other).info.is_steady ≡ true

@@ -13,12 +13,11 @@ use Rattle.chip_asm.specs.declared.placement.Placement.{Placement}
 use Rattle.chip_asm.specs.Layout.{Placed}
 use Rattle.chip_asm.specs.computed.Walk.{address, placed, symbols}
 use Rattle.chip_asm.specs.inner.Codes.{IsImageOf}
-use Rattle.chip_asm.specs.inner.Infos.{AreInfos}
+use Rattle.chip_asm.specs.inner.Infos.{AreInfos, AreSteady}
 use Rattle.chip_asm.specs.inner.Layouts.{IsCounted, IsLayoutOf, first_placements}
 use Rattle.chip_asm.specs.inner.Placements.{found}
 use Rattle.chip_asm.specs.inner.Passes.{Change, IsChange, IsHeld, IsSlot, is_byte_of, placed_at}
 use Rattle.chip_asm.specs.inner.Records.{IsPlaceWithin, lines_after, place_before, readings_in, texts_in}
-use Rattle.chip_asm.specs.inner.Resume.{AreSteady}
 
 -- what is kept is right for the texts
 pub record IsKept (kept : Kept) : Type 0 where
@@ -62,7 +61,7 @@ change_of kept edit =
       keys = kept.names.keys;
     }
 
--- the same is kept, with room for an edit after which there are so many lines
+-- nothing that is kept changed, and there is room for an edit after which there are so many lines
 pub record HasRoomFor (old new : Kept) (count : ℕ) : Type 0 where
   pub lines : new.lines.items ≡ old.lines.items
   pub names : new.names ≡ old.names

@@ -20,7 +20,7 @@ pub record HasPassed (all : List Placement) (pass : Pass) (lines : List Reading)
   pub placements : take (length lines) (map found all) ≡ first_placements lines
   pub follows : Follows pass (placed lines)
 
--- the same, with the fault of an IF that no ENDIF closes
+-- what both passes find of a line before its code: also the fault of an IF that no ENDIF closes
 abbrev pub final_placement : List Placed → Placed → Found
 final_placement all p = record (placement_of p) { fault = first_pass_fault all p }
 
@@ -43,3 +43,7 @@ pub record IsLayoutOf (layout : Layout) (lines : List Reading) : Type 0 where
   pub codes : AreCodesNoted layout.placements.items lines
   pub end_address : layout.end ≡ address (placed lines)
   pub counted : IsCounted layout
+
+-- the pass stands after the first of some lines, with what it found of them
+abbrev pub IsWalked : List Placement → Pass → List Reading → (place : ℕ) → Type 0
+IsWalked placements pass lines place = HasPassed placements pass (take place lines)

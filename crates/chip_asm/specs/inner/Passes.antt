@@ -1,5 +1,5 @@
 -- What is known while the two passes go over the lines after an edit (own).
-use Rattle.std.specs.Prelude.{◌≡◌, ℕ, ◌+◌, ◌-◌, ◌<◌, ◌≤◌, ◌⊎◌, ◌&&◌, Bool, true, false, List, length, reverse, Option, Some, Result, nat_le, nat_lt, slice_get, slice_index, sum_by, vec_len, vec_capacity}
+use Rattle.std.specs.Prelude.{◌≡◌, ℕ, ◌+◌, ◌-◌, ◌<◌, ◌≤◌, ◌⊎◌, ◌&&◌, Bool, true, false, List, length, reverse, Option, Some, Result, nat_le, nat_lt, slice_get, slice_index, sum_by, vec_len, vec_capacity, count_by, take}
 use Rattle.std.specs.Option.{option_map_or}
 use Rattle.chip_lang.specs.declared.fault.Fault.{Fault}
 use Rattle.chip_lang.specs.declared.limits.TheConstants.{IMAGE_BYTES, IMAGE_START}
@@ -14,16 +14,15 @@ use Rattle.chip_asm.specs.declared.placement.Status.TheVariants.{Pending}
 use Rattle.chip_asm.specs.Layout.{Placed, body_of, takes_effect}
 use Rattle.chip_asm.specs.Names.{Name, values_of}
 use Rattle.chip_asm.specs.Program.{bytes_in_code, code_under, code_with, fault_in_code, names_of_lines}
-use Rattle.chip_asm.specs.Work.{is_accepted_at, is_accepted_in}
+use Rattle.chip_asm.specs.Work.{is_accepted_at, is_accepted_in, needs}
 use Rattle.chip_asm.specs.computed.Walk.{placed}
-use Rattle.chip_asm.specs.inner.Infos.{AreInfos}
+use Rattle.chip_asm.specs.inner.Infos.{AreInfos, has_code}
 use Rattle.chip_asm.specs.inner.KeptLine.{KeptLine}
-use Rattle.chip_asm.specs.inner.Layouts.{placements_of}
+use Rattle.chip_asm.specs.inner.Layouts.{placements_of, IsWalked}
 use Rattle.chip_asm.specs.inner.Placements.{count_of, found, is_accepted, is_pending, status_coded}
-use Rattle.chip_asm.specs.inner.Recode.{has_code, count_up_to}
 use Rattle.chip_asm.specs.inner.Records.{readings_in}
-use Rattle.chip_asm.specs.inner.Resume.{IsWalked}
 use Rattle.chip_asm.specs.inner.Tables.{Tables}
+use Rattle.std.specs.List.{enumerate_from}
 
 -- an edit: the lines before and after it, where the line at a place stood, and the names that have
 -- numbers
@@ -153,6 +152,19 @@ pub record IsEncodedUnder (e : Change) (names : Tables) (lines : List KeptLine) 
   pub change : IsChange e
   pub symbols : names.symbols ≡ names_of_lines e.now
   pub before : names.before ≡ values_of (names_of_lines e.was)
+
+-- the line with its place has bytes of its own, and has to be encoded
+unfoldable pub is_encoded_again : (old new : List Reading) → (ℕ → Option ℕ) → ℕ × Reading → Bool
+is_encoded_again old new origin at = has_code (body_of at.1) && needs old new origin at
+
+-- how many lines have to be encoded
+abbrev pub count_again : (old new : List Reading) → (ℕ → Option ℕ) → ℕ
+count_again old new origin = count_by (is_encoded_again old new origin) (enumerate_from 0 new)
+
+-- how many of the lines before a place have to be encoded
+abbrev pub count_up_to : (old new : List Reading) → (ℕ → Option ℕ) → ℕ → ℕ
+count_up_to old new origin place =
+    count_by (is_encoded_again old new origin) (take place (enumerate_from 0 new))
 
 -- how many of the lines before a place are encoded again
 abbrev pub again_up_to : Change → ℕ → ℕ

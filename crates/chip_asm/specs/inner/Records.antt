@@ -49,3 +49,10 @@ place_before (Insert at line) place = before_insert at place
 place_before (Replace at line) place = before_replace at place
 place_before (Delete at) place = before_delete at place
 place_before (Open all) place = None
+
+-- the lines before this place stay as they are
+abbrev pub first_changed : Edit → ℕ
+first_changed (Insert at line) = at
+first_changed (Replace at line) = at
+first_changed (Delete at) = at
+first_changed (Open all) = 0

@@ -1,14 +1,17 @@
 -- What contracts see of the table of symbols: the names that lines use or define, each under a
 -- number that stays, and the symbols, as they are and as they were before the edit (own).
-use Rattle.std.specs.Prelude.{◌≡◌, ℕ, ◌-◌, ◌<◌, ◌≤◌, ℤ, List, [], ◌∷◌, All, IfSome, length, map, Bool, false, Option, Some, None, not, refl, option_map, option_to_list, slice_get, slice_index_or, take}
-use Rattle.std.specs.Coded.{Coded, code_by, coded×, coded_list, coded_ℕ, coded_ℤ}
 use Rattle.std.specs.FinMap as finite
+use Rattle.std.specs.Prelude.{◌≡◌, ℕ, ◌-◌, ◌<◌, ◌≤◌, ℤ, List, [], ◌∷◌, All, IfSome, length, map, Bool, false, Option, Some, None, not, refl, option_map, option_to_list, slice_get, slice_index_or, take, ◌&&◌, if◌then◌else◌, nat_lt, sum_by, vec_capacity, vec_len}
+use Rattle.std.specs.Coded.{Coded, code_by, coded×, coded_list, coded_ℕ, coded_ℤ}
 use Rattle.chip_lang.specs.Uses.{has_same_value}
 use Rattle.chip_lang.specs.Value.{Symbols}
 use Rattle.chip_asm.specs.Names.{Name, lookup_name, values_of}
 use Rattle.chip_asm.specs.declared.table.Symbol.{Symbol}
 use Rattle.chip_asm.specs.declared.table.NameId.{NameId}
 use Rattle.chip_asm.specs.declared.table.Entry.{Entry}
+use Rattle.std.specs.Global.{Vec}
+use Rattle.std.specs.Option.{option_eq}
+use Rattle.std.specs.Ordering.{int_eq}
 
 pub record Tables : Type 0 where
   pub keys : List Name
@@ -128,3 +131,33 @@ AreUpTo number symbols = All (λ e. e.1.line ≤ number) symbols
 -- all of them stand in lines past it
 abbrev pub AreOver : ℕ → List (Name × Symbol) → Type 0
 AreOver number symbols = All (λ e. number < e.1.line) symbols
+
+pub record ValueLists : Type 0 where
+  pub current : List (Option ℤ)
+  pub past : List (Option ℤ)
+  -- there is room for one name more
+  pub has_room : Bool
+
+-- the value of a number is the same in both
+abbrev pub is_same_at : (past now : List (Option ℤ)) → ℕ → Bool
+is_same_at past now number =
+    option_eq int_eq (slice_index_or past number None) (slice_index_or now number None)
+
+-- it is noted of each number whether its values differ
+pub record AreNoted (now past : List (Option ℤ)) (differs : List Bool) : Type 0 where
+  pub long : length differs ≡ length now
+  pub each : (number : ℕ) → number < length now
+      → slice_index_or differs number false ≡ not (is_same_at past now number)
+
+abbrev pub count_true : List Bool → ℕ
+count_true differs = sum_by (λ is. if is then 1 else 0) differs
+
+pub record AreCompared (now past : List (Option ℤ)) (differs : List Bool) (different : ℕ) : Type 0 where
+  pub long : length past ≡ length now
+  pub noted : AreNoted now past differs
+  pub counted : different ≡ count_true differs
+
+abbrev pub has_room : (now past : Vec (Option ℤ)) → Vec Bool → Bool
+has_room now past differs =
+    nat_lt (vec_len now) (vec_capacity now) && nat_lt (vec_len past) (vec_capacity past)
+    && nat_lt (vec_len differs) (vec_capacity differs)

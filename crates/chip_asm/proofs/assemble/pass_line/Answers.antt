@@ -6,11 +6,9 @@ use Rattle.chip_asm.specs.Layout.{Placed, body_of}
 use Rattle.chip_asm.specs.computed.Walk.{place, placed}
 use Rattle.chip_asm.specs.inner.Follows.{Follows, placement_of}
 use Rattle.chip_asm.specs.inner.Placements.{bare_status, found, is_accepted, is_accepted_found, nothing}
-use Rattle.chip_asm.specs.inner.Recode.{has_code}
+use Rattle.chip_asm.specs.inner.Infos.{has_code}
 use Rattle.chip_asm.specs.inner.Records.{reading_in}
-use Rattle.chip_asm.proofs.CarrySteps.{bare-accepted, fresh-held, noted-found, zeros-next}
-use Rattle.chip_asm.proofs.PassSteps.{Copied, StepsOn, copied, copy-room, facing, passed-on, value-faced}
-use Rattle.chip_asm.proofs.RunSteps.{copied-held}
+use Rattle.chip_asm.proofs.PassSteps.{Copied, StepsOn, bare-accepted, copied, copied-held, copy-room, facing, fresh-held, noted-found, passed-on, value-faced, zeros-next}
 use Rattle.chip_asm.proofs.assemble.pass_line.Goals.{then-is_accepted+then-is_accepted-2, then-is_accepted+else-is_accepted-2, else-is_accepted}
 use Rattle.chip_asm.proofs.assemble.pass_line.Goals as goal
 

@@ -1,4 +1,4 @@
-use Rattle.chip_asm.specs.inner.Resume.{AreSteady}
+use Rattle.chip_asm.specs.inner.Infos.{AreSteady}
 use Rattle.chip_asm.proofs.assemble.steady_lines.Given as goal
 
 abbrev pub invariant-loop-index : goal.invariant-loop-index

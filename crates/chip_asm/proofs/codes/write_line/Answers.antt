@@ -7,7 +7,7 @@ use Rattle.chip_asm.specs.Layout.{body_of}
 use Rattle.chip_asm.specs.Names.{values_of}
 use Rattle.chip_asm.specs.Program.{bytes_in_code, fault_in_code}
 use Rattle.chip_asm.specs.inner.Codes.{code_kept, kept_bytes}
-use Rattle.chip_asm.specs.inner.Recode.{has_code}
+use Rattle.chip_asm.specs.inner.Infos.{has_code}
 use Rattle.chip_asm.specs.inner.Records.{reading_in}
 use Rattle.chip_asm.proofs.ImageSteps.{bytes-coded, code-read, no-code, put, zeroed}
 use Rattle.chip_asm.proofs.codes.write_line.Goals as goal

@@ -1,5 +1,5 @@
 use Rattle.std.proofs.Common.{take}
-use Rattle.chip_asm.specs.inner.Marks.{AreMarked}
+use Rattle.chip_asm.specs.inner.Blocks.{AreMarked}
 use Rattle.chip_asm.specs.inner.Passes.{IsTally}
 use Rattle.chip_asm.proofs.layout.mark_unclosed.Given as goal
 

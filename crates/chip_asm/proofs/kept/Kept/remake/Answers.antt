@@ -9,14 +9,14 @@ use Rattle.chip_asm.specs.inner.Kept.{HasRoomFor, IsExchanged, change_of, lines_
 use Rattle.chip_asm.specs.inner.KeptLine.{KeptLine}
 use Rattle.chip_asm.specs.inner.Passes.{Change}
 use Rattle.chip_asm.specs.inner.Placements.{nothing}
-use Rattle.chip_asm.specs.inner.Records.{IsPlaceWithin, count_after, items_after, lines_after, reading_in, readings_in}
-use Rattle.chip_asm.specs.inner.Resume.{AreSteady, first_changed}
+use Rattle.chip_asm.specs.inner.Records.{IsPlaceWithin, count_after, items_after, lines_after, reading_in, readings_in, first_changed}
+use Rattle.chip_asm.specs.inner.Infos.{AreSteady}
 use Rattle.chip_asm.specs.inner.Tables.{Tables}
 use Rattle.chip_asm.proofs.Exchanges.{exchanged, placed-many}
 use Rattle.chip_asm.proofs.FirstLines.{Begun}
-use Rattle.chip_asm.proofs.KeptEdits.{begun-kept, kept-edited, within-lines}
+use Rattle.chip_asm.proofs.KeptSteps.{begun-kept, kept-edited, within-lines}
 use Rattle.chip_asm.proofs.LinesAfter.{edited-items}
-use Rattle.chip_asm.proofs.NeedsSteps.{count-needed}
+use Rattle.chip_asm.proofs.Views.{count-needed}
 use Rattle.chip_asm.proofs.kept.Kept.remake.Goals as goal
 use Rattle.chip_asm.proofs.kept.Kept.remake.Goals.{After-exchange}
 

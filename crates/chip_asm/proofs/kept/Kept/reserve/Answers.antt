@@ -1,5 +1,5 @@
 use Rattle.std.proofs.Common.{refl}
-use Rattle.chip_asm.proofs.KeptRoom.{filled, kept-moved}
+use Rattle.chip_asm.proofs.KeptSteps.{filled, kept-moved}
 use Rattle.chip_asm.proofs.kept.Kept.reserve.Goals as goal
 
 pub returns-in_err-reserve-2-clause-kept : goal.returns-in_err-reserve-2-clause-kept

@@ -2,8 +2,7 @@ use Rattle.std.proofs.Common.{◌∙◌, ◌<◌, arith, ap, sym, length, get_or
 use Rattle.std.proofs.lemmas.List.{take_all}
 use Rattle.chip_asm.specs.computed.Walk.{address, placed}
 use Rattle.chip_asm.specs.inner.Placements.{found}
-use Rattle.chip_asm.proofs.FoundLines.{found-at}
-use Rattle.chip_asm.proofs.LinesByPlace.{here-at}
+use Rattle.chip_asm.proofs.LinesByPlace.{found-at, here-at}
 use Rattle.chip_asm.proofs.Resumed.{length-laid}
 use Rattle.chip_asm.proofs.layout.Layout.address_at.Goals as goal
 

@@ -12,9 +12,7 @@ use Rattle.chip_asm.specs.inner.Placements.{Found, bare_status, found, is_accept
 use Rattle.chip_asm.specs.inner.Records.{reading_in}
 use Rattle.chip_asm.proofs.BareLines.{number-within, passed-bare}
 use Rattle.chip_asm.proofs.Bounds.{end-low}
-use Rattle.chip_asm.proofs.CarrySteps.{zeros-next}
-use Rattle.chip_asm.proofs.PassSteps.{Copied, copied, copy-room, facing, passed-on}
-use Rattle.chip_asm.proofs.RunSteps.{StoodBare, bare-held, bare-stood, copied-held, none-copied, noted-bare, steps-bare, two-copied}
+use Rattle.chip_asm.proofs.PassSteps.{Copied, StoodBare, bare-held, bare-stood, copied, copied-held, copy-room, facing, none-copied, noted-bare, passed-on, steps-bare, two-copied, zeros-next}
 use Rattle.chip_asm.proofs.TallySteps.{tally-same}
 use Rattle.chip_asm.proofs.pass.Pass.run_as.Goals.{else-active, else-active-via-else-active, else-active-via-then-active+else-is_accepted, else-loop-place-test, then-active+then-is_accepted+else-size-eq2, then-active+then-is_accepted+then-size-eq2, then-loop-place-test+in-Some+else-here+then-not-define_new, then-loop-place-test+in-Some+then-here, then-loop-place-test+in_default}
 use Rattle.chip_asm.proofs.pass.Pass.run_as.Goals as goal

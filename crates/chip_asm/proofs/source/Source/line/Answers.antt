@@ -8,7 +8,7 @@ use Rattle.chip_asm.specs.inner.Kept.{IsKept}
 use Rattle.chip_asm.specs.inner.KeptLine.{KeptLine}
 use Rattle.chip_asm.specs.inner.Placements.{found}
 use Rattle.chip_asm.specs.inner.Records.{reading_in, readings_in}
-use Rattle.chip_asm.proofs.FactsFound.{facts-at, none-at, read-kept, text-kept}
+use Rattle.chip_asm.proofs.WholeImage.{facts-at, none-at, read-kept, text-kept}
 use Rattle.chip_asm.proofs.LinesByPlace.{AtPlace, at-place, high, low}
 use Rattle.chip_asm.proofs.Resumed.{length-laid}
 use Rattle.chip_asm.proofs.source.Source.line.Goals as goal

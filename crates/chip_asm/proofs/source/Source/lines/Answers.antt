@@ -1,7 +1,7 @@
 use Rattle.std.proofs.Common.{ap, arith, length}
 use Rattle.std.proofs.lemmas.List.{length-map}
 use Rattle.chip_asm.specs.inner.KeptLine.{KeptLine}
-use Rattle.chip_asm.proofs.FactsFound.{length-facts}
+use Rattle.chip_asm.proofs.WholeImage.{length-facts}
 use Rattle.chip_asm.proofs.source.Source.lines.Goals as goal
 
 pub returns-clause-told : goal.returns-clause-told

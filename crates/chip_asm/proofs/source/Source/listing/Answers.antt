@@ -4,7 +4,7 @@ use Rattle.std.specs.Fmt.{signed_decimal}
 use Rattle.std.specs.List.{flat_map}
 use Rattle.chip_asm.specs.LineViews.{LineFacts, line_facts}
 use Rattle.chip_asm.specs.Listing.{listing_of, row_by}
-use Rattle.chip_asm.proofs.FactsFound.{line-at-place}
+use Rattle.chip_asm.proofs.WholeImage.{line-at-place}
 use Rattle.chip_asm.proofs.ListingSteps.{past-rows, rows-more}
 use Rattle.chip_asm.proofs.source.Source.listing.Goals as goal
 use Rattle.chip_asm.proofs.source.Source.listing.Goals.{in-Some+in_ok-push_decimal_row, in_default}

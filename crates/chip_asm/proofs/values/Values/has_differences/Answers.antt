@@ -1,6 +1,6 @@
 use Rattle.std.proofs.Common.{ap, arith, sym, ◌∙◌}
 use Rattle.std.proofs.lemmas.Bool.{ltb-false}
-use Rattle.chip_asm.specs.inner.ValueLists.{ValueLists}
+use Rattle.chip_asm.specs.inner.Tables.{ValueLists}
 use Rattle.chip_asm.proofs.ValueSteps.{all-same}
 use Rattle.chip_asm.proofs.values.Values.has_differences.Goals as goal
 

@@ -3,7 +3,7 @@ use Rattle.std.specs.Option.{option_eq}
 use Rattle.std.specs.Ordering.{int_eq}
 use Rattle.std.proofs.lemmas.List.{get_or_default}
 use Rattle.std.proofs.lemmas.List.Sums.{count_by-le-length}
-use Rattle.chip_asm.specs.inner.ValueLists.{ValueLists}
+use Rattle.chip_asm.specs.inner.Tables.{ValueLists}
 use Rattle.chip_asm.proofs.ValueSteps.{compared-set, count-set}
 use Rattle.chip_asm.proofs.values.Values.set.Goals as goal
 use Rattle.chip_asm.proofs.values.Values.set.Goals.{After-self}

@@ -1,5 +1,5 @@
 use Rattle.std.proofs.Common.{◌∙◌, ap, arith, sym}
-use Rattle.chip_asm.specs.inner.ValueLists.{ValueLists}
+use Rattle.chip_asm.specs.inner.Tables.{ValueLists}
 use Rattle.chip_asm.proofs.ValueSteps.{all-same}
 use Rattle.chip_asm.proofs.values.Values.settle.Goals as goal
 
