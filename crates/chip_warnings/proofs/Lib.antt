@@ -1,1 +1,6 @@
 pub mod Placed
+pub mod Names
+pub mod Lines
+pub mod Flags
+pub mod Told
+pub mod Flows

@@ -1,3 +1,12 @@
 -- What a source says that it may not mean (own).
 --     Warnings  the numbers of warnings, and where they stand
+--     Seen      what a line is to the lines around it
+--     Marked    what instructions do with the addresses that they name
+--     Reach     where execution comes
+--     Warned    which lines have which warnings
 pub mod Warnings
+pub mod Seen
+pub mod Marked
+pub mod Reach
+pub mod Warned
+pub mod inner

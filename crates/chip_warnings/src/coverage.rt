@@ -1,6 +1,9 @@
 //! What a search over all key scripts saw executed.
 
-use crate::seen::{Says, Seen};
+ghost use Rattle.std.specs.Prelude.{◌≡◌, ◌&&◌, not, true, slice_index_or};
+ghost use Rattle.chip_warnings.specs.Seen.{is_code};
+
+use crate::seen::Seen;
 
 /// What the key scripts of an image execute, as a search over all of them saw it.
 #[derive(Clone, Copy)]
@@ -14,8 +17,10 @@ pub struct Coverage<'a> {
 
 impl<'a> Coverage<'a> {
     /// Whether a line is an instruction at whose address no key script makes a step.
-    pub(crate) fn leaves_out(&self, seen: &Seen) -> bool {
-        matches!(seen.says, Says::Code { .. })
-            && matches!(self.executed.get(seen.address), Some(false))
+    pub(crate) fn leaves_out(&self, seen: &Seen) -> bool
+        ensures { result ≡ (is_code seen.now.says
+            && not (slice_index_or self.now.executed.now seen.now.address true)) }
+    {
+        seen.says.is_code() && matches!(self.executed.get(seen.address), Some(false))
     }
 }

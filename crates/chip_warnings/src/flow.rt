@@ -1,16 +1,21 @@
 //! Where execution comes, line after line.
 
+ghost use Rattle.std.specs.Prelude.{◌≡◌, ◌∷◌, [], List, ℕ, Bool, Some, false, not, is_some};
+ghost use Rattle.chip_warnings.specs.Reach.{base_before, comes_next, flow_after, goes_elsewhere, may_skip, reach_at, reach_past};
+ghost use Rattle.chip_warnings.specs.Seen.{holds_of};
+ghost use Rattle.chip_warnings.specs.Warned.{falls_into_data, has_warning, is_at_odd_address, is_not_in_profile, is_super_instruction, is_unreachable, jumps_to_data, splits_rows};
+ghost use Rattle.chip_warnings.specs.inner.Noted.{marked_in};
+
 use crate::coverage::Coverage;
 use crate::marks::Marks;
 use crate::seen::{Says, Seen};
-use crate::survey::Survey;
 use crate::warning::WarningCode;
 use chip_lang::limits::IMAGE_START;
 use chip_machine::Quirks;
 
 /// Whether execution comes to a place.
 #[derive(Clone, Copy)]
-enum Reach {
+pub(crate) enum Reach {
     /// From the instruction above, or by a jump.
     Comes,
     /// The instruction above goes elsewhere, and no jump leads there.
@@ -22,101 +27,135 @@ enum Reach {
 /// What is known at a line from the lines above it.
 #[derive(Clone, Copy)]
 pub(crate) struct Flow {
-    /// The last line with bytes, and its number.
-    pub(crate) last: Seen,
-    pub(crate) number: usize,
+    /// The last line with bytes.
+    pub(crate) last: Option<Seen>,
     /// Whether a label or ORG stands after that line.
     begins: bool,
+    /// Whether execution comes to the place after it.
     reach: Reach,
 }
 
 impl Flow {
     /// At the first line: the program begins at the start of the image.
-    pub(crate) const START: Flow = Flow {
-        last: Seen {
-            address: IMAGE_START - 2,
+    pub(crate) fn start() -> Flow
+        ensures { (jumped : ℕ → Bool) → result ≡ flow_after jumped [] }
+    {
+        Flow {
+            last: None,
             begins: false,
-            unused: false,
-            says: Says::Nothing,
-        },
-        number: 0,
-        begins: false,
-        reach: Reach::Comes,
-    };
-
-    /// Comes to a line.
-    pub(crate) fn arrive(&mut self, marks: &Marks, seen: &Seen) {
-        self.begins = self.begins || seen.begins;
-        if matches!(seen.says, Says::Code { .. }) {
-            if self.begins || marks.is_jumped(seen.address) {
-                self.reach = Reach::Comes;
-            } else if self.last.address.saturating_add(2) != seen.address {
-                self.reach = Reach::Unsure;
-            }
+            reach: Reach::Comes,
         }
     }
 
-    /// Goes on from the line of a number, at which it has arrived.
-    pub(crate) fn leave(&mut self, number: usize, seen: &Seen) {
-        self.reach = match seen.says {
-            Says::Nothing => return,
-            Says::Code { base, .. } => self.reach_after(base, seen.address),
-            _ => Reach::Unsure,
-        };
-        self.last = *seen;
-        self.number = number;
-        self.begins = false;
+    /// At the line after one.
+    pub(crate) fn after(&self, marks: &Marks, seen: &Seen) -> Flow
+        ensures { (above : List Seen)
+            → self.now ≡ flow_after (marked_in marks.now).jumped above
+            → result ≡ flow_after (marked_in marks.now).jumped (seen.now ∷ above) }
+    {
+        match seen.says {
+            Says::Nothing => Flow {
+                last: self.last,
+                begins: seen.begins || self.begins,
+                reach: self.reach,
+            },
+            Says::Code { base, .. } => Flow::past(seen, self.reach_past(marks, seen, base)),
+            _ => Flow::past(seen, Reach::Unsure),
+        }
+    }
+
+    /// Directly after a line with bytes.
+    fn past(seen: &Seen, reach: Reach) -> Flow
+        ensures { result ≡ record { last = Some seen.now; begins = false; reach = reach } }
+    {
+        Flow {
+            last: Some(*seen),
+            begins: false,
+            reach,
+        }
     }
 
     /// Whether execution comes to the place after an instruction.
-    fn reach_after(&self, base: u16, address: usize) -> Reach {
-        if !matches!(self.reach, Reach::Comes) {
+    fn reach_past(&self, marks: &Marks, seen: &Seen, base: u16) -> Reach
+        ensures { result ≡ reach_past
+            (holds_of may_skip (base_before self.now.last seen.now.address)) base
+            (reach_at (marked_in marks.now).jumped self.now seen.now) }
+    {
+        if !matches!(self.reach_at(marks, seen), Reach::Comes) {
             return Reach::Unsure;
         }
-        match base {
-            // JP, RET, EXIT, unless the instruction above may skip it
-            0x1000 | 0x00EE | 0x00FD if !self.skips_to(address) => Reach::Never,
+        let may_be_skipped = match self.base_before(seen.address) {
+            Some(above) => may_skip(above),
+            None => false,
+        };
+        if goes_elsewhere(base) && !may_be_skipped {
+            Reach::Never
+        } else if base == 0xB000 {
             // JP V0: a table may follow
-            0xB000 => Reach::Unsure,
-            _ => Reach::Comes,
+            Reach::Unsure
+        } else {
+            Reach::Comes
         }
     }
 
-    /// Whether the line above may skip the instruction at an address.
-    fn skips_to(&self, address: usize) -> bool {
-        let Says::Code { base, .. } = self.last.says else {
-            return false;
-        };
-        // SE, SNE, SKP, SKNP
-        self.last.is_code_before(address)
-            && matches!(base, 0x3000 | 0x4000 | 0x5000 | 0x9000 | 0xE09E | 0xE0A1)
+    /// Whether execution comes to an instruction.
+    fn reach_at(&self, marks: &Marks, seen: &Seen) -> Reach
+        ensures { result ≡ reach_at (marked_in marks.now).jumped self.now seen.now }
+    {
+        if seen.begins || self.begins || marks.is_jumped(seen.address) {
+            Reach::Comes
+        } else if self.comes_next(seen.address) {
+            self.reach
+        } else {
+            Reach::Unsure
+        }
     }
 
-    /// Whether a line, at which it has arrived, has a warning of a kind.
+    /// Whether an address is the next one after the line above, if that is an instruction.
+    fn comes_next(&self, address: usize) -> bool
+        ensures { result ≡ comes_next self.now.last address }
+    {
+        match self.last {
+            None => address == IMAGE_START,
+            Some(last) => last.is_two_before(address),
+        }
+    }
+
+    /// The word of the form of the instruction that stands directly before an address.
+    fn base_before(&self, address: usize) -> Option<u16>
+        ensures { result ≡ base_before self.now.last address }
+    {
+        let last = self.last?;
+        if last.is_two_before(address) {
+            last.says.base()
+        } else {
+            None
+        }
+    }
+
+    /// Whether a line has a warning of a kind.
     pub(crate) fn has(
         &self,
         code: WarningCode,
-        survey: &Survey,
+        marks: &Marks,
         seen: &Seen,
         quirks: Quirks,
         coverage: Option<Coverage<'_>>,
-    ) -> bool {
+    ) -> bool
+        ensures { (allowed : ℕ) → result ≡ has_warning
+            (record { allowed = allowed; quirks = quirks; coverage = coverage.entry })
+            (marked_in marks.now) self.now seen.now code }
+    {
         match code {
             WarningCode::SplitRows => self.splits_rows(seen),
             WarningCode::UnusedName => seen.unused,
-            WarningCode::Unreachable => self.is_unreachable(&survey.marks, seen),
-            WarningCode::FallsIntoData => self.falls_into(seen) && !survey.marks.writes_code,
-            WarningCode::JumpsToData => data_line(&survey.marks, seen).is_some(),
-            WarningCode::OddAddress => {
-                matches!(seen.says, Says::Code { .. })
-                    && seen.address % 2 == 1
-                    && !self.last.is_code_before(seen.address)
-            }
-            WarningCode::NotInProfile => is_missing(quirks, seen),
+            WarningCode::Unreachable => self.is_unreachable(marks, seen),
+            WarningCode::FallsIntoData => self.falls_into_data(marks, seen),
+            WarningCode::JumpsToData => data_line(marks, seen).is_some(),
+            WarningCode::OddAddress => self.is_at_odd_address(seen),
+            WarningCode::NotInProfile => is_not_in_profile(quirks, seen),
             WarningCode::NeverExecuted => match coverage {
-                Some(coverage) => {
-                    coverage.leaves_out(seen) && !self.is_unreachable(&survey.marks, seen)
-                }
+                Some(coverage) => coverage.leaves_out(seen) && !self.is_unreachable(marks, seen),
                 None => false,
             },
             WarningCode::Property(_) => false,
@@ -124,55 +163,100 @@ impl Flow {
     }
 
     /// Whether nothing reaches an instruction.
-    fn is_unreachable(&self, marks: &Marks, seen: &Seen) -> bool {
-        matches!((seen.says, self.reach), (Says::Code { .. }, Reach::Never)) && !marks.writes_code
+    fn is_unreachable(&self, marks: &Marks, seen: &Seen) -> bool
+        ensures { result ≡ is_unreachable (marked_in marks.now) self.now seen.now }
+    {
+        seen.says.is_code()
+            && matches!(self.reach_at(marks, seen), Reach::Never)
+            && !marks.writes_code
     }
 
     /// Whether ALIGN puts a zero byte between the rows above and those of a line.
-    fn splits_rows(&self, seen: &Seen) -> bool {
-        let (Says::Rows(above), Says::Rows(rows)) = (self.last.says, seen.says) else {
+    fn splits_rows(&self, seen: &Seen) -> bool
+        ensures { result ≡ splits_rows self.now seen.now }
+    {
+        if self.begins || seen.begins {
             return false;
-        };
-        !self.begins
-            && above % 2 == 1
-            && rows % 2 == 1
-            && self.last.address.saturating_add(above).saturating_add(1) == seen.address
+        }
+        match self.last {
+            Some(last) => last.splits(seen),
+            None => false,
+        }
     }
 
     /// Whether execution runs from the instruction above into a line of data.
-    fn falls_into(&self, seen: &Seen) -> bool {
-        let Says::Code { base, .. } = self.last.says else {
-            return false;
-        };
-        matches!(seen.says, Says::Rows(_) | Says::Data)
+    fn falls_into_data(&self, marks: &Marks, seen: &Seen) -> bool
+        ensures { result ≡ falls_into_data (marked_in marks.now) self.now seen.now }
+    {
+        seen.says.is_data()
             && matches!(self.reach, Reach::Comes)
-            && !matches!(base, 0x1000 | 0x00EE | 0x00FD)
-            && self.last.is_code_before(seen.address)
+            && self.is_run_past(seen.address)
+            && !marks.writes_code
+    }
+
+    /// Whether directly before an address stands an instruction that doesn't go elsewhere.
+    fn is_run_past(&self, address: usize) -> bool
+        ensures { result ≡ holds_of (λ base. not (goes_elsewhere base))
+            (base_before self.now.last address) }
+    {
+        match self.base_before(address) {
+            Some(base) => !goes_elsewhere(base),
+            None => false,
+        }
+    }
+
+    /// Whether an instruction stands at an odd address, and none directly before it.
+    fn is_at_odd_address(&self, seen: &Seen) -> bool
+        ensures { result ≡ is_at_odd_address self.now seen.now }
+    {
+        seen.says.is_code() && seen.address % 2 == 1 && self.base_before(seen.address).is_none()
     }
 }
 
 /// The number of the line of data to which a JP or CALL leads.
-pub(crate) fn data_line(marks: &Marks, seen: &Seen) -> Option<usize> {
-    match seen.says {
-        Says::Code {
-            base: 0x1000 | 0x2000,
-            word,
-        } => marks.data_at(usize::from(word % 4096)),
+pub(crate) fn data_line(marks: &Marks, seen: &Seen) -> Option<usize>
+    ensures { is_some result ≡ jumps_to_data (marked_in marks.now) seen.now }
+{
+    match seen.says.base() {
+        // JP, CALL
+        Some(base) if base == 0x1000 || base == 0x2000 => marks.data_at(seen.says.target()),
         _ => None,
     }
 }
 
 /// Whether a line is an instruction that the machine doesn't have.
-fn is_missing(quirks: Quirks, seen: &Seen) -> bool {
+fn is_not_in_profile(quirks: Quirks, seen: &Seen) -> bool
+    ensures { result ≡ is_not_in_profile quirks seen.now }
+{
     if quirks.has_super_instructions {
         return false;
     }
-    match seen.says {
-        // SCD, SCR, SCL, EXIT, LOW, HIGH, LD HF, LD R
-        Says::Code { base, .. } => matches!(
-            base,
-            0x00C0 | 0x00FB | 0x00FC | 0x00FD | 0x00FE | 0x00FF | 0xF030 | 0xF075 | 0xF085
-        ),
-        _ => false,
+    match seen.says.base() {
+        Some(base) => is_super_instruction(base),
+        None => false,
     }
+}
+
+/// Whether an instruction is one of SUPER-CHIP: SCD, SCR, SCL, EXIT, LOW, HIGH, LD HF, LD R.
+fn is_super_instruction(base: u16) -> bool
+    ensures { result ≡ is_super_instruction base }
+{
+    matches!(
+        base,
+        0x00C0 | 0x00FB | 0x00FC | 0x00FD | 0x00FE | 0x00FF | 0xF030 | 0xF075 | 0xF085
+    )
+}
+
+/// Whether an instruction goes elsewhere: JP, RET, EXIT.
+fn goes_elsewhere(base: u16) -> bool
+    ensures { result ≡ goes_elsewhere base }
+{
+    matches!(base, 0x1000 | 0x00EE | 0x00FD)
+}
+
+/// Whether an instruction may skip the next one: SE, SNE, SKP, SKNP.
+fn may_skip(base: u16) -> bool
+    ensures { result ≡ may_skip base }
+{
+    matches!(base, 0x3000 | 0x4000 | 0x5000 | 0x9000 | 0xE09E | 0xE0A1)
 }

@@ -1,8 +1,13 @@
 //! What instructions do with the addresses that they name.
 
-ghost use Rattle.std.specs.Prelude.{◌<◌, ◌≤◌};
+ghost use Rattle.std.specs.Prelude.{◌≡◌, ◌<◌, ◌≤◌, ◌+◌, ◌&&◌, ◌||◌, ℕ, IfOk, IfSome, length, nat_lt, slice_index, is_some};
+ghost use Rattle.std.specs.List.{list_any};
+ghost use Rattle.chip_lang.specs.declared.limits.TheConstants.{MEMORY_BYTES};
+ghost use Rattle.chip_warnings.specs.Seen.{base_of, is_code};
+ghost use Rattle.chip_warnings.specs.Marked.{is_among, is_data_at, is_store, jumps_to, marked_by, places_jumped_to, places_of, places_pointed_at, points_at, has_store};
+ghost use Rattle.chip_warnings.specs.inner.Noted.{flag, marked_in};
 
-use crate::seen::{Says, Seen};
+use crate::seen::Seen;
 use chip_lang::limits::MEMORY_BYTES;
 use std::alloc::{AllocError, Global};
 
@@ -23,68 +28,36 @@ pub(crate) struct Marks {
 
 impl Marks {
     /// The marks of the lines of a source.
-    pub(crate) fn of(alloc: Global, lines: &[Seen]) -> Result<Marks, AllocError> {
-        let mut marks = Marks {
-            jumped: vec![in alloc; false; MEMORY_BYTES]?,
-            pointed: vec![in alloc; false; MEMORY_BYTES]?,
-            data: vec![in alloc; 0; MEMORY_BYTES]?,
-            writes: false,
-            writes_code: false,
-        };
-        for (index, seen) in lines.iter().enumerate() {
-            marks.note(index.saturating_add(1), seen);
-        }
-        marks.writes_code = marks.writes && lines.iter().any(|seen| marks.points_into(seen));
-        Ok(marks)
-    }
-
-    /// Notes what a line does.
-    fn note(&mut self, number: usize, seen: &Seen) {
-        match seen.says {
-            Says::Code { base, word } => self.note_code(base, usize::from(word % 4096)),
-            Says::Rows(_) | Says::Data if seen.address < self.data.len() => {
-                self.data[seen.address] = number;
-            }
-            _ => {}
-        }
-    }
-
-    /// Notes what an instruction does with the address that it names.
-    fn note_code(&mut self, base: u16, address: usize)
-        requires { address < 4096 }
+    pub(crate) fn of(alloc: Global, lines: &[Seen]) -> Result<Marks, AllocError>
+        ensures { IfOk result (λ marks. marked_in marks ≡ marked_by lines.now) }
     {
-        match base {
-            // JP, CALL
-            0x1000 | 0x2000 => mark(&mut self.jumped, address, 1),
-            // LD I
-            0xA000 => mark(&mut self.pointed, address, 1),
-            // JP V0
-            0xB000 => mark(&mut self.jumped, address, 256),
-            // LD B, LD [I]
-            0xF033 | 0xF055 => self.writes = true,
-            _ => {}
-        }
-    }
-
-    /// Whether some `LD I, a` names a byte of an instruction.
-    fn points_into(&self, seen: &Seen) -> bool {
-        matches!(seen.says, Says::Code { .. })
-            && (self.is_pointed(seen.address) || self.is_pointed(seen.address.saturating_add(1)))
-    }
-
-    fn is_pointed(&self, address: usize) -> bool {
-        address < self.pointed.len() && self.pointed[address]
+        let pointed = places_pointed(alloc, lines)?;
+        let jumped = places_jumped(alloc, lines)?;
+        let data = places_of_data(alloc, lines)?;
+        let writes = has_store(lines);
+        let is_code_pointed = has_code_pointed(&pointed, lines);
+        Ok(Marks {
+            jumped,
+            pointed,
+            data,
+            writes,
+            writes_code: writes && is_code_pointed,
+        })
     }
 
     /// Whether a JP or CALL goes to an address.
-    pub(crate) fn is_jumped(&self, address: usize) -> bool {
-        address < self.jumped.len() && self.jumped[address]
+    pub(crate) fn is_jumped(&self, address: usize) -> bool
+        ensures { result ≡ (marked_in self.now).jumped address }
+    {
+        is_set(&self.jumped, address)
     }
 
     /// The number of the line of data that begins at an address. None where the program may have
     /// written there.
-    pub(crate) fn data_at(&self, address: usize) -> Option<usize> {
-        if self.writes && self.is_pointed(address) {
+    pub(crate) fn data_at(&self, address: usize) -> Option<usize>
+        ensures { is_some result ≡ (marked_in self.now).data_at address }
+    {
+        if self.writes && is_set(&self.pointed, address) {
             return None;
         }
         match self.data.get(address) {
@@ -94,14 +67,132 @@ impl Marks {
     }
 }
 
-/// Sets some flags, from one on.
+/// For each address, whether some instruction may go to it.
+fn places_jumped(alloc: Global, lines: &[Seen]) -> Result<Vec<bool>, AllocError>
+    ensures { IfOk result (λ flags.
+        (a : ℕ) → flag flags.items a ≡ list_any (jumps_to a) lines.now) }
+{
+    let mut flags = vec![in alloc; false; MEMORY_BYTES]?;
+    for seen in lines {
+        mark(&mut flags, seen.says.target(), places_jumped_to(seen));
+    }
+    Ok(flags)
+}
+
+/// For each address, whether some instruction names it as that of bytes.
+fn places_pointed(alloc: Global, lines: &[Seen]) -> Result<Vec<bool>, AllocError>
+    ensures { IfOk result (λ flags.
+        (a : ℕ) → flag flags.items a ≡ list_any (points_at a) lines.now) }
+{
+    let mut flags = vec![in alloc; false; MEMORY_BYTES]?;
+    for seen in lines {
+        mark(&mut flags, seen.says.target(), places_pointed_at(seen));
+    }
+    Ok(flags)
+}
+
+/// For each address, the number of the line of data that begins there, or 0.
+fn places_of_data(alloc: Global, lines: &[Seen]) -> Result<Vec<usize>, AllocError>
+    ensures { IfOk result (λ numbers.
+        (a : ℕ) → nat_lt 0 (slice_index numbers.items a) ≡ list_any (is_data_at a) lines.now) }
+{
+    let mut numbers = vec![in alloc; 0; MEMORY_BYTES]?;
+    for (index, seen) in lines.iter().enumerate() {
+        note_data(&mut numbers, index.saturating_add(1), seen);
+    }
+    Ok(numbers)
+}
+
+/// Notes the number of a line at its address, where it is data.
+fn note_data(numbers: &mut [usize], number: usize, seen: &Seen)
+    requires size { length numbers.old ≡ MEMORY_BYTES }
+    requires counted { 0 < number }
+    ensures size { length numbers.new ≡ MEMORY_BYTES }
+    ensures set { (a : ℕ) → nat_lt 0 (slice_index numbers.new a)
+        ≡ (nat_lt 0 (slice_index numbers.old a) || is_data_at a seen.now) }
+{
+    if seen.says.is_data() && seen.address < numbers.len() {
+        numbers[seen.address] = number;
+    }
+}
+
+/// How many addresses an instruction may go to, from the one in its word on.
+fn places_jumped_to(seen: &Seen) -> usize
+    ensures value { result ≡ places_of places_jumped_to (base_of seen.now.says) }
+    ensures bound { result ≤ 256 }
+{
+    match seen.says.base() {
+        // JP, CALL, JP V0
+        Some(base) if base == 0x1000 || base == 0x2000 => 1,
+        Some(base) if base == 0xB000 => 256,
+        _ => 0,
+    }
+}
+
+/// How many addresses an instruction names as those of bytes.
+fn places_pointed_at(seen: &Seen) -> usize
+    ensures value { result ≡ places_of places_pointed_at (base_of seen.now.says) }
+    ensures bound { result ≤ 256 }
+{
+    match seen.says.base() {
+        // LD I
+        Some(base) if base == 0xA000 => 1,
+        _ => 0,
+    }
+}
+
+/// Whether some line is an instruction that writes into the memory.
+fn has_store(lines: &[Seen]) -> bool
+    ensures { result ≡ has_store lines.now }
+{
+    lines.iter().any(is_store)
+}
+
+/// Whether a line is an instruction that writes into the memory.
+fn is_store(seen: &Seen) -> bool
+    ensures { result ≡ is_store seen.now }
+{
+    match seen.says.base() {
+        // LD B, LD [I]
+        Some(base) => base == 0xF033 || base == 0xF055,
+        None => false,
+    }
+}
+
+/// Whether some line is an instruction of which some byte is flagged.
+fn has_code_pointed(flags: &[bool], lines: &[Seen]) -> bool
+    ensures { result ≡ list_any (λ s. is_code s.says
+        && (flag flags.now s.address || flag flags.now (s.address + 1))) lines.now }
+{
+    lines.iter().any(|seen| is_code_pointed(flags, seen))
+}
+
+/// Whether a line is an instruction of which some byte is flagged.
+fn is_code_pointed(flags: &[bool], seen: &Seen) -> bool
+    ensures { result ≡ (is_code seen.now.says
+        && (flag flags.now seen.now.address || flag flags.now (seen.now.address + 1))) }
+{
+    seen.says.is_code()
+        && seen.address < flags.len()
+        && (is_set(flags, seen.address) || is_set(flags, seen.address + 1))
+}
+
+/// Whether an address is flagged.
+fn is_set(flags: &[bool], address: usize) -> bool
+    ensures { result ≡ flag flags.now address }
+{
+    address < flags.len() && flags[address]
+}
+
+/// Sets the flags of so many addresses, from one on.
 fn mark(flags: &mut [bool], first: usize, count: usize)
+    requires size { length flags.old ≡ MEMORY_BYTES }
     requires first { first < 4096 }
     requires count { count ≤ 256 }
+    ensures size { length flags.new ≡ MEMORY_BYTES }
+    ensures set { (a : ℕ) → flag flags.new a ≡ (flag flags.old a || is_among first count a) }
 {
-    for index in first..first + count {
-        if index < flags.len() {
-            flags[index] = true;
-        }
+    for index in first..(first + count).min(flags.len()) {
+        flags[index] = true;
     }
 }

@@ -1,11 +1,15 @@
 //! The warnings of a source.
 
-ghost use Rattle.std.specs.Prelude.{◌≡◌, IfOk, OnOk, None, [], All, false, true};
+ghost use Rattle.std.specs.Prelude.{◌≡◌, ◌++◌, ◌&&◌, IfOk, IsSome, OnOk, None, [], All, false, map, not, true};
 ghost use Rattle.chip_asm.specs.Program.{image_of};
+ghost use Rattle.chip_warnings.specs.Warned.{has_warning, kinds_on, kinds_told, warned};
+ghost use Rattle.chip_warnings.specs.inner.Judged.{asked_by};
+ghost use Rattle.chip_warnings.specs.inner.Noted.{marked_in};
 ghost use Rattle.chip_warnings.specs.Warnings.{StandsAt, StandsIn, Adds, is_switched_off};
 
 use crate::coverage::Coverage;
 use crate::flow::Flow;
+use crate::marks::Marks;
 use crate::seen::Seen;
 use crate::survey::Survey;
 use crate::text::{fault_there, help, sentence};
@@ -34,6 +38,10 @@ pub fn warnings(
         (λ warnings. All (StandsIn allowed source.now.lines) warnings.items) }
     ensures faulty { IfOk result
         (λ warnings. image_of source.now.lines ≡ None → warnings.items ≡ []) }
+    ensures told { IfOk result (λ warnings. IsSome (image_of source.now.lines)
+        → kinds_told warnings.items ≡ warned
+        (record { allowed = allowed; quirks = quirks; coverage = coverage.entry })
+        source.now.lines) }
 {
     let mut warnings = Vec::new(alloc);
     if source.image().is_none() {
@@ -41,26 +49,24 @@ pub fn warnings(
     }
     let survey = Survey::of(alloc, source)?;
     let properties = properties_of(alloc, source)?;
-    let mut flow = Flow::START;
+    let mut flow = Flow::start();
     let mut faults = properties.faults.as_slice();
     for place in 0..source.lines() {
         let number = place + 1;
-        let Some(line) = source.line(number) else {
-            break;
-        };
-        let seen = survey.line(number);
-        flow.arrive(&survey.marks, &seen);
-        let judge = Judge {
-            survey: &survey,
-            flow: &flow,
-            quirks,
-            allowed,
-            coverage,
-        };
-        let bytes = line.text();
-        judge.push_warnings(alloc, &mut warnings, number, bytes)?;
-        faults = judge.push_fault_at(alloc, &mut warnings, faults, number, bytes)?;
-        flow.leave(number, &seen);
+        if let Some(line) = source.line(number) {
+            let seen = survey.line(place);
+            let judge = Judge {
+                marks: &survey.marks,
+                flow: &flow,
+                quirks,
+                allowed,
+                coverage,
+            };
+            let bytes = line.text();
+            judge.push_warnings(alloc, &mut warnings, number, bytes, &seen)?;
+            faults = judge.push_fault_at(alloc, &mut warnings, faults, number, bytes)?;
+            flow = flow.after(&survey.marks, &seen);
+        }
     }
     Ok(warnings)
 }
@@ -68,7 +74,7 @@ pub fn warnings(
 /// What the warnings of a line follow from.
 #[derive(Clone, Copy)]
 pub(crate) struct Judge<'a> {
-    pub(crate) survey: &'a Survey,
+    pub(crate) marks: &'a Marks,
     pub(crate) flow: &'a Flow,
     pub(crate) quirks: Quirks,
     allowed: u16,
@@ -83,14 +89,17 @@ impl<'a> Judge<'a> {
         warnings: &mut Vec<Warning>,
         number: usize,
         line: &[u8],
+        seen: &Seen,
     ) -> Result<(), AllocError>
-        ensures { OnOk result (Adds (StandsAt self.now.allowed number line.now)
+        ensures adds { OnOk result (Adds (StandsAt self.now.allowed number line.now)
             warnings.old.items warnings.new.items) }
+        ensures told { OnOk result (kinds_told warnings.new.items
+            ≡ kinds_told warnings.old.items ++ map (λ kind. (number, kind))
+            (kinds_on (asked_by self.now) (marked_in self.now.marks.now) self.now.flow.now seen.now)) }
     {
-        let seen = self.survey.line(number);
         for code in CODES {
-            if self.has(*code, &seen) {
-                let warning = self.warning(alloc, *code, number, line, &seen)?;
+            if self.has(*code, seen) {
+                let warning = self.warning(alloc, *code, number, line, seen)?;
                 warnings.push(warning)?;
             }
         }
@@ -99,12 +108,15 @@ impl<'a> Judge<'a> {
 
     /// Whether a line has a warning of a kind that isn't switched off.
     fn has(&self, code: WarningCode, seen: &Seen) -> bool
-        ensures { result ≡ true → is_switched_off self.now.allowed code ≡ false }
+        ensures told { result ≡ true → is_switched_off self.now.allowed code ≡ false }
+        ensures value { result ≡ (not (is_switched_off self.now.allowed code)
+            && has_warning (asked_by self.now) (marked_in self.now.marks.now) self.now.flow.now
+            seen.now code) }
     {
         !code.is_switched_off(self.allowed)
             && self
                 .flow
-                .has(code, self.survey, seen, self.quirks, self.coverage)
+                .has(code, self.marks, seen, self.quirks, self.coverage)
     }
 
     /// The warning of a kind of the line of a number.
@@ -117,7 +129,8 @@ impl<'a> Judge<'a> {
         seen: &Seen,
     ) -> Result<Warning, AllocError>
         requires { is_switched_off self.now.allowed code ≡ false }
-        ensures { IfOk result (StandsAt self.now.allowed number line.now) }
+        ensures stands { IfOk result (StandsAt self.now.allowed number line.now) }
+        ensures kind { IfOk result (λ warning. warning.code ≡ code) }
     {
         let span = fault_span(alloc, line, fault_there(code))?;
         let sentence = sentence(alloc, code, line, span, seen, self)?;
@@ -142,8 +155,10 @@ impl<'a> Judge<'a> {
         number: usize,
         line: &[u8],
     ) -> Result<&'b [PropertyFault], AllocError>
-        ensures { OnOk result (Adds (StandsAt self.now.allowed number line.now)
+        ensures adds { OnOk result (Adds (StandsAt self.now.allowed number line.now)
             warnings.old.items warnings.new.items) }
+        ensures told { OnOk result
+            (kinds_told warnings.new.items ≡ kinds_told warnings.old.items) }
     {
         let Some((fault, later)) = faults.split_first() else {
             return Ok(faults);
@@ -165,8 +180,10 @@ impl<'a> Judge<'a> {
         number: usize,
         line: &[u8],
     ) -> Result<(), AllocError>
-        ensures { OnOk result (Adds (StandsAt self.now.allowed number line.now)
+        ensures adds { OnOk result (Adds (StandsAt self.now.allowed number line.now)
             warnings.old.items warnings.new.items) }
+        ensures told { OnOk result
+            (kinds_told warnings.new.items ≡ kinds_told warnings.old.items) }
     {
         let code = WarningCode::Property(fault.code);
         if code.is_switched_off(self.allowed) {

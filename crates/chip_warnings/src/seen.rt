@@ -1,5 +1,12 @@
 //! What a line is to the lines around it.
 
+ghost use Rattle.std.specs.Prelude.{◌≡◌, ◌<◌, ◌+◌, ◌==◌, ◌&&◌, if◌then◌else◌};
+ghost use Rattle.chip_lang.specs.Line.{reading_of};
+ghost use Rattle.chip_lang.specs.SeenLine.{seen_body, seen_line};
+ghost use Rattle.chip_warnings.specs.Seen.{base_of, target_of, begins, first_word, is_code, is_data, says_by_body, says_by_reading};
+ghost use Rattle.chip_warnings.specs.Warned.{splits_from};
+ghost use Rattle.chip_warnings.specs.declared.seen.Says.{Says};
+
 use chip_asm::LineView;
 use chip_lang::{Body, Line, decode};
 
@@ -18,60 +25,127 @@ pub(crate) enum Says {
     Data,
 }
 
+impl Says {
+    /// Whether it is an instruction.
+    pub(crate) fn is_code(self) -> bool
+        ensures { result ≡ is_code self }
+    {
+        matches!(self, Says::Code { .. })
+    }
+
+    /// The word of the form of an instruction.
+    pub(crate) fn base(self) -> Option<u16>
+        ensures { result ≡ base_of self }
+    {
+        match self {
+            Says::Code { base, .. } => Some(base),
+            _ => None,
+        }
+    }
+
+    /// The address in an instruction's word.
+    pub(crate) fn target(self) -> usize
+        ensures value { result ≡ target_of self }
+        ensures bound { result < 4096 }
+    {
+        match self {
+            Says::Code { word, .. } => usize::from(word % 4096),
+            _ => 0,
+        }
+    }
+
+    /// Whether it is data.
+    pub(crate) fn is_data(self) -> bool
+        ensures { result ≡ is_data self }
+    {
+        matches!(self, Says::Rows(_) | Says::Data)
+    }
+}
+
 /// What a line is to the lines around it.
 #[derive(Clone, Copy)]
 pub(crate) struct Seen {
-    /// The address of an active line, and 0 of another one.
+    /// Counted from 1.
+    pub(crate) number: usize,
+    /// Where it stands, or would if it were active.
     pub(crate) address: usize,
     /// Whether a label or ORG stands here.
     pub(crate) begins: bool,
-    /// Whether it defines a name that no line uses.
+    /// Whether it gives a name that is never used.
     pub(crate) unused: bool,
     pub(crate) says: Says,
 }
 
 impl Seen {
-    /// A line that isn't active.
-    pub(crate) const INACTIVE: Seen = Seen {
-        address: 0,
-        begins: false,
-        unused: false,
-        says: Says::Nothing,
-    };
-
-    /// A line of a source without faults.
-    pub(crate) fn of(line: &LineView<'_>) -> Seen {
-        let Line::Read { label, body } = line.reading() else {
-            return Seen::INACTIVE;
-        };
-        if !line.is_active() {
-            return Seen::INACTIVE;
-        }
-        let begins = match body {
-            Body::Org(_) => true,
-            Body::Equ(_) | Body::Define => false,
-            _ => label.is_some(),
-        };
-        Seen {
-            address: line.address(),
-            begins,
-            unused: false,
-            says: said(body, line.bytes()),
-        }
+    /// Whether it stands two bytes before an address.
+    pub(crate) fn is_two_before(&self, address: usize) -> bool
+        ensures { result ≡ (self.now.address + 2 == address) }
+    {
+        address >= 2 && address - 2 == self.address
     }
 
-    /// Whether it is an instruction that stands directly before an address.
-    pub(crate) fn is_code_before(&self, address: usize) -> bool {
-        matches!(self.says, Says::Code { .. }) && self.address.saturating_add(2) == address
+    /// Whether one byte stands between an odd number of values of DB here and an odd number below.
+    pub(crate) fn splits(&self, below: &Seen) -> bool
+        ensures { result ≡ splits_from self.now.says self.now.address below.now }
+    {
+        let (Says::Rows(above), Says::Rows(rows)) = (self.says, below.says) else {
+            return false;
+        };
+        above % 2 == 1
+            && rows % 2 == 1
+            && below.address > above
+            && below.address - above - 1 == self.address
     }
 }
 
-/// What the bytes of a body are.
-fn said(body: &Body, bytes: &[u8]) -> Says {
-    if bytes.is_empty() {
+/// Whether a label or ORG stands on an active line.
+pub(crate) fn begins(line: &LineView<'_>) -> bool
+    ensures { result ≡ (line.now.active && begins (reading_of line.now.text)) }
+{
+    line.is_active() && is_begun_by(line.reading())
+}
+
+/// Whether a label or ORG stands on a line.
+fn is_begun_by(line: &Line) -> bool
+    ensures { result ≡ begins (seen_line line.now) }
+{
+    match line {
+        Line::Bad(_) => false,
+        Line::Read { label, body } => match body {
+            Body::Org(_) => true,
+            Body::Equ(_) | Body::Define => false,
+            _ => label.is_some(),
+        },
+    }
+}
+
+/// What the bytes of an active line are.
+pub(crate) fn says_of(line: &LineView<'_>) -> Says
+    ensures { result ≡ (if line.now.active
+        then says_by_reading (reading_of line.now.text) line.now.bytes
+        else Says.Nothing) }
+{
+    if !line.is_active() {
         return Says::Nothing;
     }
-    let word = first_word(bytes);
+    said(line.reading(), line.bytes())
+}
+
+/// What the bytes of a line are.
+fn said(line: &Line, bytes: &[u8]) -> Says
+    ensures { result ≡ says_by_reading (seen_line line.now) bytes.now }
+{
+    match line {
+        Line::Bad(_) => Says::Nothing,
+        Line::Read { body, .. } if !bytes.is_empty() => said_by(body, first_word(bytes)),
+        _ => Says::Nothing,
+    }
+}
+
+/// What the bytes of a body are that begin with a word.
+fn said_by(body: &Body, word: u16) -> Says
+    ensures { result ≡ says_by_body (seen_body body.now) word }
+{
     match body {
         Body::Code(form, _) if form.base == 0 => Says::PerhapsCode,
         Body::Code(form, _) => Says::Code {
@@ -86,7 +160,9 @@ fn said(body: &Body, bytes: &[u8]) -> Says {
 }
 
 /// The word that the first two bytes make, and 0 of fewer bytes.
-fn first_word(bytes: &[u8]) -> u16 {
+fn first_word(bytes: &[u8]) -> u16
+    ensures { result ≡ first_word bytes.now }
+{
     match bytes {
         [high, low, ..] => u16::from(*high) * 256 + u16::from(*low),
         _ => 0,

@@ -1,11 +1,17 @@
 //! What is known of a source before its lines are judged.
 
+ghost use Rattle.std.specs.Prelude.{◌≡◌, ◌<◌, ◌∷◌, [], List, ℕ, IfOk, OnOk, Some, slice_get, vec_len};
+ghost use Rattle.chip_lang.specs.SeenLine.{seen_line};
+ghost use Rattle.chip_lang.specs.Uses.{names_used};
+ghost use Rattle.chip_warnings.specs.Seen.{is_meant, is_needless, is_unused, is_used, names_asked, names_of_line, seen_lines, seen_of};
+ghost use Rattle.chip_warnings.specs.Marked.{marked_by};
+ghost use Rattle.chip_warnings.specs.inner.Noted.{Has, Knows, marked_in};
+
 use crate::marks::Marks;
-use crate::seen::Seen;
-use chip_asm::limits::LINE_BYTES;
-use chip_asm::{NameHasher, Source};
+use crate::seen::{Seen, begins, says_of};
+use chip_asm::{LineView, NameHasher, Source};
 use chip_lang::limits::IMAGE_START;
-use chip_lang::{Body, Line, used_names};
+use chip_lang::{Body, Line, defines, used_names};
 use chip_properties::names_used;
 use indexmap::IndexSet;
 use std::alloc::{AllocError, Global};
@@ -22,47 +28,69 @@ pub(crate) struct Survey {
 
 impl Survey {
     /// The survey of a source without faults.
-    pub(crate) fn of(alloc: Global, source: &Source) -> Result<Survey, AllocError> {
-        let mut used = IndexSet::with_hasher(alloc, NameHasher::new(0));
-        let mut lines = seen_lines(alloc, source, &mut used)?;
-        mark_unused(alloc, source, &used, &mut lines)?;
+    pub(crate) fn of(alloc: Global, source: &Source) -> Result<Survey, AllocError>
+        ensures lines { IfOk result (λ survey.
+            survey.lines.items ≡ seen_lines source.now.lines) }
+        ensures marks { IfOk result (λ survey.
+            marked_in survey.marks ≡ marked_by (seen_lines source.now.lines)) }
+    {
+        let used = names_of(alloc, source)?;
+        let lines = lines_of(alloc, source, &used)?;
         let marks = Marks::of(alloc, &lines)?;
         Ok(Survey { lines, marks })
     }
 
-    /// The line of a number, from 1.
-    pub(crate) fn line(&self, number: usize) -> Seen {
-        match self.lines.get(number.saturating_sub(1)) {
-            Some(seen) => *seen,
-            None => Seen::INACTIVE,
-        }
+    /// The line at a place, from 0 on.
+    pub(crate) fn line(&self, place: usize) -> Seen
+        requires { place < vec_len self.now.lines }
+        ensures { slice_get self.now.lines.items place ≡ Some result }
+    {
+        self.lines[place]
     }
 }
 
-/// The lines of a source. The names that they use are added to the set.
-fn seen_lines(alloc: Global, source: &Source, used: &mut Names) -> Result<Vec<Seen>, AllocError> {
-    let mut lines = Vec::with_capacity(alloc, source.lines())?;
+/// The names that the lines of a source use.
+fn names_of(alloc: Global, source: &Source) -> Result<Names, AllocError>
+    ensures { IfOk result (λ used.
+        (name : List ℕ) → Has used name (is_used source.now.lines name)) }
+{
+    let mut used = IndexSet::with_hasher(alloc, NameHasher::new(0));
     for place in 0..source.lines() {
         if let Some(line) = source.line(place + 1) {
-            note_names(alloc, used, line.reading())?;
-            for name in &names_used(alloc, line.text())? {
-                note_name(alloc, used, name.get())?;
-            }
-            lines.push(Seen::of(&line))?;
+            note_line(alloc, &mut used, &line)?;
         }
     }
-    Ok(lines)
+    Ok(used)
 }
 
 /// Adds the names that a line uses.
-fn note_names(alloc: Global, used: &mut Names, line: &Line) -> Result<(), AllocError> {
-    let mut names = used_names(line);
-    for _ in 0..LINE_BYTES {
-        match names.next() {
-            Some(name) => note_name(alloc, used, name)?,
-            None => break,
-        }
+fn note_line(alloc: Global, used: &mut Names, line: &LineView<'_>) -> Result<(), AllocError>
+    ensures { OnOk result (Knows (names_of_line line.now.text) used.old used.new) }
+{
+    note_expressions(alloc, used, line.reading())?;
+    note_asked(alloc, used, line.reading())?;
+    let words = names_used(alloc, line.text())?;
+    for word in &words {
+        note_name(alloc, used, word.get())?;
     }
+    Ok(())
+}
+
+/// Adds the names in the expressions of a line.
+fn note_expressions(alloc: Global, used: &mut Names, line: &Line) -> Result<(), AllocError>
+    ensures { OnOk result (Knows (names_used (seen_line line.now)) used.old used.new) }
+{
+    let mut names = used_names(line);
+    while let Some(name) = names.next() {
+        note_name(alloc, used, name)?;
+    }
+    Ok(())
+}
+
+/// Adds the name of which a line asks.
+fn note_asked(alloc: Global, used: &mut Names, line: &Line) -> Result<(), AllocError>
+    ensures { OnOk result (Knows (names_asked (seen_line line.now)) used.old used.new) }
+{
     match line {
         Line::Read {
             body: Body::Ifdef(name) | Body::Ifund(name),
@@ -72,33 +100,63 @@ fn note_names(alloc: Global, used: &mut Names, line: &Line) -> Result<(), AllocE
     }
 }
 
-fn note_name(alloc: Global, used: &mut Names, name: &[u8]) -> Result<(), AllocError> {
-    if used.get_index_of(name).is_none() {
+/// Adds a name.
+fn note_name(alloc: Global, used: &mut Names, name: &[u8]) -> Result<(), AllocError>
+    ensures { OnOk result (Knows (name.now ∷ []) used.old used.new) }
+{
+    if !used.contains(name) {
         used.insert(Vec::from_slice(alloc, name)?)?;
     }
     Ok(())
 }
 
-/// Marks each line that defines a name which isn't in the set. A name that begins with `_` is meant
-/// to stay, and so is a label where the program begins.
-fn mark_unused(
-    alloc: Global,
-    source: &Source,
-    used: &Names,
-    lines: &mut [Seen],
-) -> Result<(), AllocError> {
-    let symbols = source.symbols(alloc)?;
-    for (name, symbol) in &symbols {
-        let index = symbol.line.saturating_sub(1);
-        if index < lines.len() && used.get_index_of(name.get()).is_none() {
-            let seen = lines[index];
-            let is_start = seen.begins && seen.address == IMAGE_START;
-            let is_meant = matches!(name.get(), [b'_', ..]);
-            lines[index] = Seen {
-                unused: !is_start && !is_meant,
-                ..seen
-            };
+/// The lines of a source that uses these names.
+fn lines_of(alloc: Global, source: &Source, used: &Names) -> Result<Vec<Seen>, AllocError>
+    requires { (name : List ℕ) → Has used.now name (is_used source.now.lines name) }
+    ensures { IfOk result (λ lines. lines.items ≡ seen_lines source.now.lines) }
+{
+    let mut lines = Vec::with_capacity(alloc, source.lines())?;
+    for place in 0..source.lines() {
+        if let Some(line) = source.line(place + 1) {
+            lines.push(seen_of(&line, used))?;
         }
     }
-    Ok(())
+    Ok(lines)
+}
+
+/// A line of a source that uses these names.
+fn seen_of(line: &LineView<'_>, used: &Names) -> Seen
+    ensures { (texts : List (List ℕ))
+        → ((name : List ℕ) → Has used.now name (is_used texts name))
+        → result ≡ seen_of texts line.now }
+{
+    Seen {
+        number: line.number(),
+        address: line.address(),
+        begins: begins(line),
+        unused: is_unused(line, used),
+        says: says_of(line),
+    }
+}
+
+/// Whether a line gives a name that is never used.
+fn is_unused(line: &LineView<'_>, used: &Names) -> bool
+    ensures { (texts : List (List ℕ))
+        → ((name : List ℕ) → Has used.now name (is_used texts name))
+        → result ≡ is_unused texts line.now }
+{
+    if !line.is_active() || begins(line) && line.address() == IMAGE_START {
+        return false;
+    }
+    match defines(line.reading()) {
+        Some(name) => !used.contains(name) && !is_meant(name),
+        None => false,
+    }
+}
+
+/// Whether a name is meant to stay though no line uses it.
+fn is_meant(name: &[u8]) -> bool
+    ensures { result ≡ is_meant name.now }
+{
+    matches!(name, [b'_', ..])
 }

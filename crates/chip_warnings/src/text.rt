@@ -34,7 +34,10 @@ pub(crate) fn sentence(
     requires rises { span.start ≤ span.end }
     requires inside { span.end ≤ length line.now }
 {
-    let above = judge.flow.number;
+    let above = match judge.flow.last {
+        Some(last) => last.number,
+        None => 0,
+    };
     let text = match code {
         WarningCode::UnusedName => {
             let mut text = Vec::from_slice(alloc, &line[span.start..span.end])?;
@@ -48,7 +51,7 @@ pub(crate) fn sentence(
         WarningCode::FallsIntoData => {
             format!(in alloc; "execution runs from line {above} into this data")?
         }
-        WarningCode::JumpsToData => jump_sentence(alloc, seen, &judge.survey.marks)?,
+        WarningCode::JumpsToData => jump_sentence(alloc, seen, judge.marks)?,
         WarningCode::OddAddress => odd_sentence(alloc, seen)?,
         WarningCode::NotInProfile => missing_sentence(alloc, seen, judge.quirks)?,
         WarningCode::NeverExecuted => never_sentence(alloc, judge.coverage)?,

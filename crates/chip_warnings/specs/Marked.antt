@@ -1,0 +1,75 @@
+-- What the instructions of a source do with the addresses that they name (own).
+use Rattle.std.specs.Prelude.{ℕ, ◌+◌, ◌==◌, ◌&&◌, ◌||◌, not, Bool, if◌then◌else◌, nat_le, nat_lt, List, Option, Some, None}
+use Rattle.std.specs.List.{list_any}
+use Rattle.chip_lang.specs.declared.limits.TheConstants.{MEMORY_BYTES}
+use Rattle.chip_warnings.specs.declared.seen.Seen.{Seen}
+use Rattle.chip_warnings.specs.Seen.{base_of, holds_of, is_code, is_data, target_of}
+
+-- one of so many bytes, from one on, that lie in the memory
+abbrev pub is_among : (first count address : ℕ) → Bool
+is_among first count address =
+    nat_le first address && nat_lt address (first + count) && nat_lt address MEMORY_BYTES
+
+-- how many addresses an instruction may go to, from the one in its word on: JP and CALL to that one,
+-- JP V0 to 256
+abbrev pub places_jumped_to : (base : ℕ) → ℕ
+places_jumped_to base = if base == 4096 || base == 8192 then 1 else (if base == 45056 then 256 else 0)
+
+-- how many addresses it names as those of bytes: LD I one
+abbrev pub places_pointed_at : (base : ℕ) → ℕ
+places_pointed_at base = if base == 40960 then 1 else 0
+
+-- how many addresses, of something that may be an instruction
+abbrev pub places_of : (places : (base : ℕ) → ℕ) → Option ℕ → ℕ
+places_of places None = 0
+places_of places (Some base) = places base
+
+-- a line is an instruction that may go to an address
+abbrev pub jumps_to : (address : ℕ) → Seen → Bool
+jumps_to address s =
+    is_among (target_of s.says) (places_of places_jumped_to (base_of s.says)) address
+
+-- a line is an instruction that names an address as that of bytes
+abbrev pub points_at : (address : ℕ) → Seen → Bool
+points_at address s =
+    is_among (target_of s.says) (places_of places_pointed_at (base_of s.says)) address
+
+-- a store: LD B, Vx or LD [I], Vx
+abbrev pub is_store : Seen → Bool
+is_store s = holds_of (λ base. base == 61491 || base == 61525) (base_of s.says)
+
+-- data that begins at an address of the memory
+abbrev pub is_data_at : (address : ℕ) → Seen → Bool
+is_data_at address s = is_data s.says && s.address == address && nat_lt address MEMORY_BYTES
+
+-- a program has a store
+abbrev pub has_store : List Seen → Bool
+has_store lines = list_any is_store lines
+
+-- some LD I names an address
+abbrev pub is_pointed_at : List Seen → (address : ℕ) → Bool
+is_pointed_at lines address = list_any (points_at address) lines
+
+-- some LD I names the address of a byte of an instruction
+abbrev pub is_code_pointed_at : List Seen → Seen → Bool
+is_code_pointed_at lines s =
+    is_code s.says && (is_pointed_at lines s.address || is_pointed_at lines (s.address + 1))
+
+-- what is told of the addresses of a program
+pub record Marked : Type 0 where
+  -- an instruction may go to an address
+  pub jumped : (address : ℕ) → Bool
+  -- data begins at an address, and no store may write there
+  pub data_at : (address : ℕ) → Bool
+  -- the program may write over its instructions
+  pub writes_code : Bool
+
+abbrev pub marked_by : List Seen → Marked
+marked_by lines =
+    record {
+      jumped = λ address. list_any (jumps_to address) lines;
+      data_at = λ address.
+          list_any (is_data_at address) lines
+          && not (has_store lines && is_pointed_at lines address);
+      writes_code = has_store lines && list_any (is_code_pointed_at lines) lines;
+    }

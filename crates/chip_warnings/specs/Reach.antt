@@ -1,0 +1,97 @@
+-- Where execution comes, by the lines above a line, of which the nearest comes first (own).
+use Rattle.std.specs.Prelude.{ℕ, ◌+◌, ◌==◌, ◌&&◌, ◌||◌, not, Bool, true, false, if◌then◌else◌, List, [], ◌∷◌, Option, Some, None}
+use Rattle.chip_lang.specs.declared.limits.TheConstants.{IMAGE_START}
+use Rattle.chip_warnings.specs.declared.flow.Reach.{Reach}
+use Rattle.chip_warnings.specs.declared.flow.Reach.TheVariants.{Comes, Never, Unsure}
+use Rattle.chip_warnings.specs.declared.flow.Flow.{Flow}
+use Rattle.chip_warnings.specs.declared.seen.Says.{Says}
+use Rattle.chip_warnings.specs.declared.seen.Says.TheVariants.{Nothing, Code}
+use Rattle.chip_warnings.specs.declared.seen.Seen.{Seen}
+use Rattle.chip_warnings.specs.Seen.{base_of, holds_of}
+
+-- ---- the line above
+
+-- a line has bytes
+abbrev pub has_bytes : Says → Bool
+has_bytes Nothing = false
+has_bytes says = true
+
+-- the last line that has bytes
+abbrev pub last_with_bytes : (above : List Seen) → Option Seen
+last_with_bytes [] = None
+last_with_bytes (s ∷ above) = if has_bytes s.says then Some s else last_with_bytes above
+
+-- a label or ORG stands after that line
+abbrev pub begins_since : (above : List Seen) → Bool
+begins_since [] = false
+begins_since (s ∷ above) = not (has_bytes s.says) && (s.begins || begins_since above)
+
+-- an address comes right after the last line with bytes, where that is an instruction; where there is
+-- none, the start of the image comes
+abbrev pub comes_next : (last : Option Seen) → (address : ℕ) → Bool
+comes_next None address = address == IMAGE_START
+comes_next (Some s) address = s.address + 2 == address
+
+-- the word of the form of the instruction that stands directly before an address
+abbrev pub base_before : (last : Option Seen) → (address : ℕ) → Option ℕ
+base_before None address = None
+base_before (Some s) address = if s.address + 2 == address then base_of s.says else None
+
+-- ---- where execution comes
+
+-- JP, RET, EXIT
+abbrev pub goes_elsewhere : (base : ℕ) → Bool
+goes_elsewhere base = base == 4096 || base == 238 || base == 253
+
+-- SE, SNE, SKP, SKNP
+abbrev pub may_skip : (base : ℕ) → Bool
+may_skip base =
+    base == 12288 || base == 16384 || base == 20480 || base == 36864 || base == 57502 || base == 57505
+
+-- JP V0, after which a table may follow
+abbrev pub jumps_by_table : (base : ℕ) → Bool
+jumps_by_table base = base == 45056
+
+-- Whether execution comes to an instruction, by what is known from the lines above it. It comes to a
+-- label, to what stands after ORG, to an address to which an instruction may go, and from the
+-- instruction above to the next one.
+abbrev pub reach_at : (jumped : ℕ → Bool) → Flow → Seen → Reach
+reach_at jumped flow s =
+    if s.begins || flow.begins || jumped s.address then Comes
+    else (if comes_next flow.last s.address then flow.reach else Unsure)
+
+-- Whether execution comes to the place after an instruction, by whether it comes to that. It doesn't
+-- where the instruction goes elsewhere, unless the one above may skip that.
+abbrev pub reach_past : (may_be_skipped : Bool) → (base : ℕ) → Reach → Reach
+reach_past may_be_skipped base Comes =
+    if goes_elsewhere base && not may_be_skipped then Never
+    else (if jumps_by_table base then Unsure else Comes)
+reach_past may_be_skipped base reach = Unsure
+
+-- whether execution comes to the place after a line, by what is known at that line
+abbrev pub reach_by : (jumped : ℕ → Bool) → Flow → Seen → Says → Reach
+reach_by jumped flow s Nothing = flow.reach
+reach_by jumped flow s (Code base word) =
+    reach_past (holds_of may_skip (base_before flow.last s.address)) base (reach_at jumped flow s)
+reach_by jumped flow s says = Unsure
+
+-- Whether execution comes to the place after these lines. It comes to the start of the image. After
+-- data it isn't known.
+abbrev pub reach_after : (jumped : ℕ → Bool) → (above : List Seen) → Reach
+reach_after jumped [] = Comes
+reach_after jumped (s ∷ above) =
+    reach_by jumped
+    (record {
+      last = last_with_bytes above;
+      begins = begins_since above;
+      reach = reach_after jumped above;
+    }) s s.says
+
+-- what is known at a line from those above it
+unfoldable pub flow_after : (jumped : ℕ → Bool) → (above : List Seen) → Flow
+flow_after jumped above =
+    record {
+      last = last_with_bytes above;
+      begins = begins_since above;
+      reach = reach_after jumped above;
+    }

@@ -1,0 +1,159 @@
+-- Which lines have which warnings (own).
+use Rattle.std.specs.Prelude.{ℕ, ◌+◌, ◌%◌, ◌==◌, ◌&&◌, ◌||◌, not, Bool, true, false, List, [], ◌∷◌, length, map, filter, is_none, reverse, take, Option, Some, None, slice_get, slice_index_or}
+use Rattle.std.specs.List.{flat_map, range_with_len}
+use Rattle.chip_machine.specs.declared.quirks.Quirks.{Quirks}
+use Rattle.chip_warnings.specs.declared.coverage.Coverage.{Coverage}
+use Rattle.chip_warnings.specs.declared.flow.Flow.{Flow}
+use Rattle.chip_warnings.specs.declared.flow.Reach.{Reach}
+use Rattle.chip_warnings.specs.declared.flow.Reach.TheVariants.{Comes, Never}
+use Rattle.chip_warnings.specs.declared.seen.Says.{Says}
+use Rattle.chip_warnings.specs.declared.seen.Says.TheVariants.{Rows}
+use Rattle.chip_warnings.specs.declared.seen.Seen.{Seen}
+use Rattle.chip_warnings.specs.declared.warning.Warning.{Warning}
+use Rattle.chip_warnings.specs.declared.warning.WarningCode.{WarningCode}
+use Rattle.chip_warnings.specs.declared.warning.WarningCode.TheVariants.{SplitRows, UnusedName, Unreachable, FallsIntoData, JumpsToData, OddAddress, NotInProfile, NeverExecuted, Property}
+use Rattle.chip_warnings.specs.Seen.{base_of, holds_of, is_code, is_data, seen_lines, target_of}
+use Rattle.chip_warnings.specs.Marked.{Marked, marked_by}
+use Rattle.chip_warnings.specs.Reach.{base_before, flow_after, goes_elsewhere, reach_at}
+use Rattle.chip_warnings.specs.Warnings.{is_switched_off}
+
+-- ---- each kind, at a line, by what is known from the lines above it
+
+abbrev pub is_odd : ℕ → Bool
+is_odd n = n % 2 == 1
+
+-- so many values of DB at an address, after so many at another: both odd, and one byte between them
+abbrev pub splits_after : (above_at above : ℕ) → (address : ℕ) → Says → Bool
+splits_after above_at above address (Rows count) =
+    is_odd above && is_odd count && above_at + above + 1 == address
+splits_after above_at above address says = false
+
+-- values of DB after others, each of an odd number
+abbrev pub splits_from : (above : Says) → (above_at : ℕ) → Seen → Bool
+splits_from (Rows above) above_at s = splits_after above_at above s.address s.says
+splits_from says above_at s = false
+
+-- the same, after the last line with bytes
+abbrev pub splits_by : (last : Option Seen) → Seen → Bool
+splits_by None s = false
+splits_by (Some last) s = splits_from last.says last.address s
+
+-- W1: the line above and this one are DB with an odd number of values each, one byte stands between
+-- them, and no label or ORG
+abbrev pub splits_rows : Flow → Seen → Bool
+splits_rows flow s = splits_by flow.last s && not flow.begins && not s.begins
+
+-- execution never comes
+abbrev pub is_never : Reach → Bool
+is_never Never = true
+is_never reach = false
+
+-- execution comes
+abbrev pub is_coming : Reach → Bool
+is_coming Comes = true
+is_coming reach = false
+
+-- W3: execution never comes to an instruction, of a program that doesn't write over its own
+abbrev pub is_unreachable : Marked → Flow → Seen → Bool
+is_unreachable marked flow s =
+    is_code s.says && is_never (reach_at marked.jumped flow s) && not marked.writes_code
+
+-- W4: directly before data stands an instruction from which execution comes to the data, other than
+-- JP, RET and EXIT, in a program that doesn't write over its instructions
+abbrev pub falls_into_data : Marked → Flow → Seen → Bool
+falls_into_data marked flow s =
+    is_data s.says && is_coming flow.reach
+    && holds_of (λ base. not (goes_elsewhere base)) (base_before flow.last s.address)
+    && not marked.writes_code
+
+-- W5: JP or CALL to data
+abbrev pub jumps_to_data : Marked → Seen → Bool
+jumps_to_data marked s =
+    holds_of (λ base. base == 4096 || base == 8192) (base_of s.says)
+    && marked.data_at (target_of s.says)
+
+-- W6: an instruction at an odd address, unless one stands directly before it
+abbrev pub is_at_odd_address : Flow → Seen → Bool
+is_at_odd_address flow s =
+    is_code s.says && is_odd s.address && is_none (base_before flow.last s.address)
+
+-- SCD, SCR, SCL, EXIT, LOW, HIGH, LD HF, LD R
+abbrev pub is_super_instruction : (base : ℕ) → Bool
+is_super_instruction base =
+    base == 192 || base == 251 || base == 252 || base == 253 || base == 254 || base == 255
+    || base == 61488 || base == 61557 || base == 61573
+
+-- W7: an instruction that the machine doesn't have
+abbrev pub is_not_in_profile : Quirks → Seen → Bool
+is_not_in_profile quirks s =
+    not quirks.has_super_instructions && holds_of is_super_instruction (base_of s.says)
+
+-- an instruction at an address that no key script comes to
+abbrev pub is_left_out : Option Coverage → Seen → Bool
+is_left_out None s = false
+is_left_out (Some coverage) s =
+    is_code s.says && not (slice_index_or coverage.executed.now s.address true)
+
+-- ---- all kinds
+
+-- what is asked: which warnings are switched off, the quirks of the machine, and what a search saw
+-- executed, if one was made
+pub record Asked : Type 0 where
+  pub allowed : ℕ
+  pub quirks : Quirks
+  pub coverage : Option Coverage
+
+-- a line has a warning of a kind; W8 only without W3
+abbrev pub has_warning : Asked → Marked → Flow → Seen → WarningCode → Bool
+has_warning asked marked flow s SplitRows = splits_rows flow s
+has_warning asked marked flow s UnusedName = s.unused
+has_warning asked marked flow s Unreachable = is_unreachable marked flow s
+has_warning asked marked flow s FallsIntoData = falls_into_data marked flow s
+has_warning asked marked flow s JumpsToData = jumps_to_data marked s
+has_warning asked marked flow s OddAddress = is_at_odd_address flow s
+has_warning asked marked flow s NotInProfile = is_not_in_profile asked.quirks s
+has_warning asked marked flow s NeverExecuted =
+    is_left_out asked.coverage s && not (is_unreachable marked flow s)
+has_warning asked marked flow s (Property code) = false
+
+-- W1 to W8
+abbrev pub kinds : List WarningCode
+kinds =
+    SplitRows ∷ UnusedName ∷ Unreachable ∷ FallsIntoData ∷ JumpsToData ∷ OddAddress ∷ NotInProfile
+    ∷ NeverExecuted ∷ []
+
+-- the kinds of which a line has a warning that isn't switched off
+unfoldable pub kinds_on : Asked → Marked → Flow → Seen → List WarningCode
+kinds_on asked marked flow s =
+    filter
+    (λ kind. not (is_switched_off asked.allowed kind) && has_warning asked marked flow s kind) kinds
+
+-- those of a line, if there is one, after the lines above it
+abbrev pub kinds_after : Asked → Marked → (above : List Seen) → Option Seen → List WarningCode
+kinds_after asked marked above None = []
+kinds_after asked marked above (Some s) = kinds_on asked marked (flow_after marked.jumped above) s
+
+-- those of the line at a place of these lines, from 0 on
+abbrev pub kinds_at : Asked → (lines : List Seen) → (place : ℕ) → List WarningCode
+kinds_at asked lines place =
+    kinds_after asked (marked_by lines) (reverse (take place lines)) (slice_get lines place)
+
+-- the same, each with the number of that line
+abbrev pub warned_at : Asked → (lines : List Seen) → (place : ℕ) → List (ℕ × WarningCode)
+warned_at asked lines place = map (λ kind. (place + 1, kind)) (kinds_at asked lines place)
+
+-- the warnings W1 to W8 of a source, each with the number of its line, in the order of the lines
+unfoldable pub warned : Asked → (texts : List (List ℕ)) → List (ℕ × WarningCode)
+warned asked texts =
+    flat_map (warned_at asked (seen_lines texts)) (range_with_len 0 (length texts))
+
+-- ---- what is told
+
+abbrev pub is_property : WarningCode → Bool
+is_property (Property code) = true
+is_property kind = false
+
+-- those among some warnings that aren't of properties, each with the number of its line
+abbrev pub kinds_told : List Warning → List (ℕ × WarningCode)
+kinds_told warnings =
+    map (λ (w : Warning). (w.line, w.code)) (filter (λ (w : Warning). not (is_property w.code)) warnings)

@@ -1,0 +1,34 @@
+-- What is kept of a source while its lines are judged.
+use Rattle.std.specs.Prelude.{◌≡◌, ℕ, ◌&&◌, ◌||◌, not, Bool, false, nat_lt, List, slice_index, slice_index_or}
+use Rattle.std.specs.List.{list_any}
+use Rattle.std.specs.Global.{Vec}
+use Rattle.std.specs.Str.{bytes_eq}
+use Rattle.indexmap.specs.IndexSet.{IndexSet}
+use Rattle.chip_asm.specs.declared.name_hasher.NameHasher.{NameHasher}
+use Rattle.chip_warnings.specs.declared.marks.Marks.{Marks}
+use Rattle.chip_warnings.specs.Marked.{Marked}
+
+-- a set has a name exactly where this says so
+abbrev pub Has : IndexSet (Vec ℕ) NameHasher → (name : List ℕ) → Bool → Type 0
+Has set name answer = list_any (λ (key : Vec ℕ). bytes_eq name key.items) set.keys ≡ answer
+
+-- the new set has some names beside those of the old one
+abbrev pub Knows : (names : List (List ℕ)) (old new : IndexSet (Vec ℕ) NameHasher) → Type 0
+Knows names old new =
+    (name : List ℕ)
+    → Has new name (list_any (λ (key : Vec ℕ). bytes_eq name key.items) old.keys || list_any (bytes_eq name) names)
+
+-- a flag by its address; false past the last
+abbrev pub flag : (flags : List Bool) (address : ℕ) → Bool
+flag flags address = slice_index_or flags address false
+
+-- what the flags say
+abbrev pub marked_in : Marks → Marked
+marked_in marks =
+    record {
+      jumped = λ address. flag marks.jumped.items address;
+      data_at = λ address.
+          nat_lt 0 (slice_index marks.«data».items address)
+          && not (marks.writes && flag marks.pointed.items address);
+      writes_code = marks.writes_code;
+    }
