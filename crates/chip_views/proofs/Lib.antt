@@ -3,4 +3,3 @@ pub mod WordLayout
 pub mod TextLines
 pub mod ImageText
 pub mod Parts
-pub mod Rows

@@ -3,7 +3,8 @@ use Rattle.std.proofs.lemmas.List.{take_all}
 use Rattle.std.specs.List.{flat_map}
 use Rattle.chip_asm.specs.LineViews.{LineFacts, line_facts}
 use Rattle.chip_cover.specs.Marks.{marked_listing, marked_row}
-use Rattle.chip_cover.proofs.Rows.{line-at-place, past-rows, rows-more}
+use Rattle.chip_asm.proofs.ListingSteps.{past-rows, rows-more}
+use Rattle.chip_asm.proofs.WholeImage.{line-at-place}
 use Rattle.chip_cover.proofs.marks.marked_listing.Goals as goal
 use Rattle.chip_cover.proofs.marks.marked_listing.Goals.{in-Some+in_ok-push_marked, in_default}
 

@@ -4,7 +4,8 @@ use Rattle.std.specs.List.{flat_map}
 use Rattle.chip_asm.specs.LineViews.{LineFacts, line_facts}
 use Rattle.chip_asm.specs.Listing.{row_by}
 use Rattle.chip_views.specs.Hexadecimal.{hex_listing, hex_value}
-use Rattle.chip_views.proofs.Rows.{line-at-place, past-rows, rows-more}
+use Rattle.chip_asm.proofs.ListingSteps.{past-rows, rows-more}
+use Rattle.chip_asm.proofs.WholeImage.{line-at-place}
 use Rattle.chip_views.proofs.hexadecimal.hex_listing.Goals as goal
 use Rattle.chip_views.proofs.hexadecimal.hex_listing.Goals.{in-Some+in_ok-push_row, in_default}
 

@@ -7,7 +7,9 @@ use Rattle.chip_warnings.specs.Reach.{flow_after}
 use Rattle.chip_warnings.specs.Seen.{seen_lines}
 use Rattle.chip_warnings.specs.Warned.{kinds_told, warned, warned_at}
 use Rattle.chip_warnings.specs.inner.Noted.{marked_in}
-use Rattle.chip_warnings.proofs.Lines.{above-next, line-at-place, past-lines, seen-length}
+use Rattle.chip_asm.proofs.ListingSteps.{past-rows}
+use Rattle.chip_asm.proofs.WholeImage.{line-at-place}
+use Rattle.chip_warnings.proofs.Lines.{above-next, seen-length}
 use Rattle.chip_warnings.proofs.Placed.{next_placed}
 use Rattle.chip_warnings.proofs.Told.{warned-next}
 use Rattle.chip_warnings.proofs.report.warnings.Goals as goal
@@ -42,7 +44,7 @@ loop-place-preserved c =
                 ∙ ap (λ (m : Marked). flow_after m.jumped (s ∷ above)) same
                 ∙ ap (flow_after (marked_by lines).jumped) (sym (above-next lines place s at));
           }
-      | in_default w ↦ absurd (omega (arith, inside, past-lines facts place (sym read ∙ w.in_default.is)))
+      | in_default w ↦ absurd (omega (arith, inside, past-rows facts place (sym read ∙ w.in_default.is)))
     ]
 
 pub line-seen-requires : goal.line-seen-requires

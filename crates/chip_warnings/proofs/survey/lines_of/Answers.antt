@@ -3,7 +3,9 @@ use Rattle.std.proofs.lemmas.List.{map-append, take_all}
 use Rattle.chip_asm.specs.LineViews.{LineFacts, line_facts}
 use Rattle.chip_warnings.specs.declared.seen.Seen.{Seen}
 use Rattle.chip_warnings.specs.Seen.{seen_lines, seen_of}
-use Rattle.chip_warnings.proofs.Lines.{line-at-place, past-lines, take-next}
+use Rattle.chip_asm.proofs.ListingSteps.{past-rows}
+use Rattle.chip_asm.proofs.WholeImage.{line-at-place}
+use Rattle.chip_warnings.proofs.Lines.{take-next}
 use Rattle.chip_warnings.proofs.survey.lines_of.Goals as goal
 use Rattle.chip_warnings.proofs.survey.lines_of.Goals.{in-Some+in_ok-push, in_default}
 
@@ -20,7 +22,7 @@ loop-place-preserved c =
           ∙ ap (λ (l : List Seen). l ++ w.seen_of.result ∷ []) c.loop-place.invariant
           ∙ ap (λ (s : Seen). map (seen_of texts) (take place facts) ++ s ∷ []) (w.seen_of.ensures texts c.requires)
           ∙ sym (ap (map (seen_of texts)) (take-next facts place w.in-Some.line (sym read ∙ w.in-Some.is)) ∙ map-append (seen_of texts) (take place facts) (w.in-Some.line ∷ []))
-      | in_default w ↦ absurd (omega (arith, inside, past-lines facts place (sym read ∙ w.in_default.is)))
+      | in_default w ↦ absurd (omega (arith, inside, past-rows facts place (sym read ∙ w.in_default.is)))
     ]
 
 pub returns : goal.returns

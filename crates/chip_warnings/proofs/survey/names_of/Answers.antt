@@ -4,7 +4,8 @@ use Rattle.std.specs.Str.{bytes_eq}
 use Rattle.std.proofs.lemmas.List.{take_all}
 use Rattle.chip_asm.specs.LineViews.{LineFacts, line_facts}
 use Rattle.chip_warnings.specs.Seen.{is_used, names_of_line}
-use Rattle.chip_warnings.proofs.Lines.{line-at-place, past-lines}
+use Rattle.chip_asm.proofs.ListingSteps.{past-rows}
+use Rattle.chip_asm.proofs.WholeImage.{line-at-place}
 use Rattle.chip_warnings.proofs.Names.{has, names-next}
 use Rattle.chip_warnings.proofs.survey.names_of.Goals as goal
 use Rattle.chip_warnings.proofs.survey.names_of.Goals.{in-Some+in_ok-note_line, in_default}
@@ -24,7 +25,7 @@ loop-place-preserved c =
           ap (λ u. has u.keys name) w.used-is ∙ w.in_ok-note_line.ensures name
           ∙ ap (λ b. b || list_any (bytes_eq name) (names_of_line w.in-Some.line.text)) (c.loop-place.invariant name)
           ∙ sym (names-next texts place w.in-Some.line.text name there)
-      | in_default w ↦ absurd (omega (arith, inside, past-lines facts place (sym read ∙ w.in_default.is)))
+      | in_default w ↦ absurd (omega (arith, inside, past-rows facts place (sym read ∙ w.in_default.is)))
     ]
 
 pub returns : goal.returns
