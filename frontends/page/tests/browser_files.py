@@ -13,7 +13,7 @@ import sys
 import time
 from pathlib import Path
 
-from browser_page import SETTLED, PageTests, wait_for
+from browser_page import REST, SETTLED, PageTests, wait_for
 from driver import CONTROL
 
 
@@ -35,6 +35,22 @@ FAKE_FILE = """{
   globalThis.showOpenFilePicker = async () => [handleOf(disk)];
 }"""
 
+# what is told of an edit, and whether pixels are coloured, in each picture from now on
+WATCH_EFFECTS = """{
+  globalThis.effects = new Set();
+  const plain = ['--screen-dark', '--screen-lit'].map((name) => getComputedStyle(document.documentElement).getPropertyValue(name).trim());
+  const copy = new OffscreenCanvas(128, 64).getContext('2d', { willReadFrequently: true });
+  const watch = () => {
+    effects.add(document.getElementById('edit-effect').textContent);
+    copy.drawImage(document.getElementById('screen'), 0, 0);
+    const colours = new Set(new Uint32Array(copy.getImageData(0, 0, 128, 64).data.buffer));
+    const names = [...colours].map((colour) => `#${[0, 8, 16].map((bits) => ((colour >>> bits) & 255).toString(16).padStart(2, '0')).join('')}`);
+    if (names.some((name) => !plain.includes(name))) effects.add('a flash');
+    requestAnimationFrame(watch);
+  };
+  watch();
+}"""
+
 
 class FileTests(PageTests):
     def test_reload(self) -> None:
@@ -50,7 +66,13 @@ class FileTests(PageTests):
             assert browser.value("chipbenchPage.model.step") == 777
             assert "kept by the browser" in self.text_of("#notices")
             self.check_step(text, 777, ["kins 20 3 down", "kins 40 3 up"])
-            # the file changes meanwhile: its text is shown, and mine is offered
+
+    def test_the_text_before_is_told_once(self) -> None:
+        """Where the file changed meanwhile its text is shown, and mine is offered: at the first load, and among the earlier texts from then on."""
+        with self.page(self.example("guess")) as browser:
+            self.put_line(1, "; mine")
+            self.rest()
+            time.sleep(0.5)
             self.path.write_text("CLS\n")
             self.reload()
             assert self.source() == "CLS\n"
@@ -589,7 +611,8 @@ class FileTests(PageTests):
             assert len(sessions) == 1, (sessions, children)
             os.kill(int(sessions[0]), signal.SIGKILL)
             self.put_line(1, "; mine")
-            browser.wait("/The program ended because/.test(document.getElementById('notices').textContent)")
+            browser.wait("/The program ended/.test(document.getElementById('notices').textContent)")
+            assert "The program ended because" in self.text_of("#notices"), self.text_of("#notices")
             self.picture("killed")
             self.check_step(text, 90, ["kins 20 3 down"])
             assert browser.value("document.getElementById('source-text').value").startswith("; mine\n")
@@ -637,9 +660,21 @@ class FileTests(PageTests):
             browser.wait("document.getElementById('file-name').textContent === 'star2.asm'")
             assert (self.folder / "star2.asm").read_text() == "CLS\n" and not (self.folder / "star2").exists()
             self.open_named("first.asm")
-            # another document is no edit of the one before
-            self.rest()
-            assert self.text_of("#edit-effect") == "", self.text_of("#edit-effect")
+
+    def test_another_document_is_no_edit(self) -> None:
+        """What differs from the one before isn't told as a change, nor coloured on the screen."""
+        other = "LD F, V0\nDRW V0, V0, 5\nHERE: JP HERE\n"
+        with self.page("LD V0, 9\nHERE: JP HERE\n", "first.asm") as browser:
+            (self.folder / "second.asm").write_text(other)
+            self.step(3)
+            browser.value(WATCH_EFFECTS)
+            for name in ("second.asm", "first.asm", "second.asm"):
+                self.open_named(name)
+                self.step(3)
+            assert browser.value("[...effects]") == [""], browser.value("[...effects]")
+            # an edit is told
+            self.put_line(2, "DRW V1, V1, 4")
+            browser.wait("effects.has('a flash') && [...effects].some((effect) => effect.startsWith('the edit changed'))")
 
     def test_a_byte_order_mark(self) -> None:
         """It isn't seen, so the card of its fault names it, and takes it out."""
@@ -654,12 +689,12 @@ class FileTests(PageTests):
     def test_a_window_that_lost_the_program(self) -> None:
         """It shows no addresses beside lines that may be others by now, and all of them once it has the program again."""
         with self.page("LD V0, 5\nLD V1, 6\n") as browser:
-            addresses = "[...document.querySelectorAll('#fields .row')].map((row) => row.textContent).join(' ').trim()"
-            assert browser.value(addresses).startswith("02006005")
+            addresses = "[...document.querySelectorAll('#editor .row')].map((row) => row.textContent).join(' ').match(/02\\d\\d[0-9a-f]{4}/g)?.join() ?? ''"
+            assert browser.value(addresses) == "02006005,02026106", browser.value(addresses)
             browser.value("fetch('open', { method: 'POST', body: JSON.stringify({ source: '', options: {}, commands: [] }) }).then((reply) => reply.json())")
             self.put_line(1, "CLS")
             browser.wait("/Another window/.test(document.getElementById('notices').textContent)")
             assert browser.value(addresses) == "", browser.value(addresses)
             browser.value("document.querySelector('.notice button').click()")
-            browser.wait(f"{addresses}.startsWith('020000e0')")
+            browser.wait(f"({addresses}).startsWith('020000e0')")
             self.browser.console = [line for line in self.browser.console if "409" not in line]

@@ -2,8 +2,10 @@
 
 from __future__ import annotations
 
+import contextlib
 import tempfile
 import time
+from collections.abc import Iterator
 from pathlib import Path
 
 from browser_page import PageTests, wait_for
@@ -78,30 +80,67 @@ class LayoutTests(PageTests):
         )
         self.step(2300)
 
-    def test_the_shape(self) -> None:
-        """Source and screen come first, with one row of moves; addresses and bytes can be hidden; the time is as long as what was played."""
-        controls = (
-            "[...document.querySelectorAll('#transport :is(button, input, select, summary)')].filter((one) => one.checkVisibility() && !one.closest('details > div'))"
-            ".map((one) => { const b = one.getBoundingClientRect(); return b.y + b.height / 2; })"
-        )
+    @contextlib.contextmanager
+    def wide_page(self) -> Iterator[Browser]:
+        """A game at 1,440 by 900."""
         with self.page(self.example("breaker")) as browser:
-            def width(selector: str) -> float:
-                return browser.value(f"document.querySelector('{selector}').getBoundingClientRect().width")
-
             browser.size(1440, 900)
             browser.wait("innerWidth === 1440")
-            assert width("#source-part") >= 560 and width("#screen") >= 520, (width("#source-part"), width("#screen"))
-            assert 55 < width("#gutter") < 57, width("#gutter")
-            middles = browser.value(controls)
-            assert 8 <= len(middles) <= 14 and max(middles) - min(middles) < 3, middles
-            text = "document.getElementById('editor').clientWidth - document.getElementById('fields').getBoundingClientRect().width"
+            yield browser
+
+    def width(self, selector: str) -> float:
+        return self.browser.value(f"document.querySelector('{selector}').getBoundingClientRect().width")
+
+    def test_source_and_screen_come_first(self) -> None:
+        with self.wide_page():
+            assert self.width("#source-part") >= 560 and self.width("#screen") >= 520, (self.width("#source-part"), self.width("#screen"))
+
+    def test_the_gutter(self) -> None:
+        """It has the number of the line, a breakpoint and a mark, and nothing wider."""
+        with self.wide_page():
+            assert 55 < self.width("#gutter") < 57, self.width("#gutter")
+
+    def test_bytes_that_are_hidden(self) -> None:
+        """Addresses and bytes make room for the text, and come back."""
+        shown = "document.getElementById('editor').innerText.includes('6005')"
+        with self.page("LD V0, 5\n") as browser:
+            browser.size(1440, 900)
+            browser.wait("innerWidth === 1440")
+            assert browser.value(shown)
+            text = "document.getElementById('editor').clientWidth - (document.getElementById('fields')?.getBoundingClientRect().width ?? 0)"
             before = browser.value(text)
             browser.click("#bytes")
-            assert not browser.value("document.getElementById('fields').checkVisibility()") and browser.value(text) > before + 90
+            assert not browser.value(shown) and browser.value(text) > before + 90
             browser.click("#bytes")
-            assert browser.value("document.getElementById('fields').checkVisibility()")
+            assert browser.value(shown)
+
+    def test_one_row_of_moves(self) -> None:
+        controls = (
+            "[...document.querySelectorAll('#time-part :is(button, input, select, summary)')].filter((one) => one.checkVisibility() && !one.closest('details > div'))"
+            ".map((one) => { const b = one.getBoundingClientRect(); return b.y + b.height / 2; })"
+        )
+        with self.wide_page() as browser:
+            middles = browser.value(controls)
+            assert 8 <= len(middles) <= 14 and max(middles) - min(middles) < 3, middles
+
+    def test_the_time_is_that_of_the_play(self) -> None:
+        """Near the right end of the overview is what was played last, and not the last step that there could be."""
+        with self.wide_page() as browser:
+            browser.click("#play")
+            browser.wait("chipbenchPage.model.step > 1500")
+            browser.click("#play")
+            played = browser.value("chipbenchPage.model.step")
+            left, top, width = browser.value("(({ left, top, width }) => [left, top, width])(document.getElementById('overview').getBoundingClientRect())")
+            browser.mouse("mousePressed", left + 0.95 * width, top + 5)
+            browser.mouse("mouseReleased", left + 0.95 * width, top + 5, 0)
+            step = browser.value("chipbenchPage.model.step")
+            assert 0.7 * played < step < 2 * played, (played, step)
             self.played(browser)
             assert browser.value("chipbenchPage.timeline.window") == [0, 3150], browser.value("chipbenchPage.timeline.window")
+
+    def test_the_screen_is_dark(self) -> None:
+        """In both themes."""
+        with self.wide_page() as browser:
             for theme in ("light", "dark"):
                 browser.theme(theme)
                 dark, lit = (
@@ -128,6 +167,17 @@ class LayoutTests(PageTests):
                     self.check_part("#editor", width, height)
                     assert browser.value(COVERED) == [], (width, height, browser.value(COVERED))
                     self.picture(f"layout-{width}-{height}-{theme}")
+
+    def test_nothing_is_out_of_reach(self) -> None:
+        """At each size: no part is without height, and no control lies below another part or outside of the window."""
+        low = "[...document.querySelectorAll('main section, #time-part')].filter((one) => one.checkVisibility() && one.getBoundingClientRect().height < 36).map((one) => one.id)"
+        with self.page(self.example("breaker")) as browser:
+            for width, height in SIZES:
+                browser.size(width, height)
+                browser.wait(f"innerWidth === {width}")
+                time.sleep(0.1)
+                assert browser.value(low) == [], (width, height, browser.value(low))
+                assert browser.value(COVERED) == [], (width, height, browser.value(COVERED))
 
     def check_part(self, selector: str, width: int, height: int) -> None:
         """The panel, the screen, the registers and the time are in sight and have a size."""
@@ -187,14 +237,15 @@ class LayoutTests(PageTests):
 
     def test_nothing_moves(self) -> None:
         """A notice, a fault, a message and a play leave each part where it is."""
-        boxes = """['#source-part', '#editor', '#screen', '#registers-part', '#tabs', '#words-part', '#transport', '#play', '#step', '#close-up', '#overview', 'footer']
-            .map((name) => { const b = document.querySelector(name).getBoundingClientRect(); return [name, b.x, b.y, b.width, b.height].join(' '); })"""
+        boxes = """[...document.querySelectorAll('section, footer, #editor, #screen, #tabs, #play, #step, #close-up, #overview')].filter((one) => one.checkVisibility())
+            .map((one) => { const b = one.getBoundingClientRect(); return [one.id || one.localName, b.x, b.y, b.width, b.height].join(' '); })"""
         text = self.example("breaker")
         with self.page(text) as browser:
             for width, height in ((1440, 900), (1024, 768)):
                 browser.size(width, height)
                 self.step(300)
                 before = browser.value(boxes)
+                assert len(before) >= 12, before
                 self.put_line(30, "        LD V1, NOWHERE")
                 self.rest()
                 assert browser.value(boxes) == before, width
@@ -212,7 +263,7 @@ class LayoutTests(PageTests):
                 browser.click("#play")
 
     def test_notices(self) -> None:
-        """One is seen, the newest, which says how many there are; it goes with its cause, and what only tells goes by itself."""
+        """One is seen, the newest, which says how many there are."""
         seen = "[...document.querySelectorAll('.notice')].filter((one) => one.checkVisibility()).map((one) => one.querySelector('p').textContent)"
         with self.page("CLS\n") as browser:
             browser.value(f"{self.module('notices.mjs')}.then(({{ notice }}) => {{ notice('one', 'One.'); notice('two', 'Two.', {{ choices: [['Yes', () => {{}}]] }}); notice('one', 'One more.', {{ bad: true }}); }})")
@@ -222,6 +273,25 @@ class LayoutTests(PageTests):
             assert browser.value(seen) == ["Two."], browser.value(seen)
             self.notice_button("Yes")
             assert browser.value(seen) == []
+
+    def test_notices_go(self) -> None:
+        """With their cause: what was told of a text isn't told of another one. What only tells, and asks nothing, goes by itself."""
+        told = "[...document.querySelectorAll('.notice p')].map((one) => one.textContent)"
+        with self.page("CLS\n", "first.asm") as browser:
+            (self.folder / "second.asm").write_text("LD V0, 5\n")
+            browser.value("chipbenchPage.model.setOptions({ rate: '2000' })")
+            browser.wait(f"{told}.length === 1")
+            browser.value("chipbenchPage.model.setOptions({ rate: '10' })")
+            browser.wait(f"{told}.length === 0")
+            self.put_line(1, "LD V1, 6")
+            time.sleep(0.5)
+            self.reload()
+            browser.wait(f"{told}.some((text) => text.includes('kept by the browser'))")
+            self.open_named("second.asm")
+            assert not any("kept by the browser" in text for text in browser.value(told)), browser.value(told)
+            browser.value(f"{self.module('notices.mjs')}.then(({{ notice }}) => notice('mere', 'So it is.'))")
+            browser.wait(f"{told}.includes('So it is.')")
+            browser.wait(f"!{told}.includes('So it is.')", 20.0)
 
     def test_the_focus_is_seen(self) -> None:
         """Whatever Tab reaches shows that it has the focus."""

@@ -23,17 +23,20 @@ class PlayTests(PageTests):
         self.browser.click("#settings [value=apply]")
         self.rest()
 
-    def test_arrow_keys(self) -> None:
-        """While it plays the arrow keys end no play, and are the game's keys where the settings say which."""
+    def test_arrow_keys_end_no_play(self) -> None:
         with self.page(self.example("guess"), words=("--tape", "05")) as browser:
-            size = "chipbenchPage.model.keys.size"
+            state = f"[{DIRECTION}, chipbenchPage.model.keys.size]"
             browser.value("document.getElementById('close-up').focus()")
             browser.press(" ", "Space")
             browser.wait("chipbenchPage.model.step > 50")
             for name in ("ArrowLeft", "ArrowRight", "ArrowUp"):
                 browser.press(name, hold=0.05)
-            assert browser.value(f"[{DIRECTION}, {size}]") == [1, 0], browser.value(f"[{DIRECTION}, {size}]")
-            browser.press(" ", "Space")
+                assert browser.value(state) == [1, 0], (name, browser.value(state))
+
+    def test_arrow_keys_of_the_game(self) -> None:
+        """While it plays the arrow keys are the game's keys, where the settings say which."""
+        with self.page(self.example("guess"), words=("--tape", "05")) as browser:
+            size = "chipbenchPage.model.keys.size"
             self.chosen(preset="2486")
             browser.value("document.getElementById('close-up').focus()")
             browser.press(" ", "Space")
@@ -69,9 +72,18 @@ class PlayTests(PageTests):
                 browser.wait("/^breakpoint at step/.test(document.getElementById('run-result').textContent)")
             self.rest()
             assert self.registers()["pc"] == "0208"
-            # what was told of a step isn't of another one
-            browser.press("ArrowRight")
-            browser.wait("document.getElementById('run-result').textContent === ''")
+
+    def test_what_is_told_of_a_step_goes_with_it(self) -> None:
+        """The answer of a search, and why a run ended, aren't told of the step after."""
+        with self.page(LOOP) as browser:
+            for run in ("chipbenchPage.editor.breakpoints.set([5]); document.querySelector('[data-run=break-on]').click()", "chipbenchPage.editor.goToLine(5); document.getElementById('search-line').click()"):
+                self.step(0)
+                browser.value(run)
+                told = "[...document.querySelectorAll('#run-result, #search-result')].map((one) => one.textContent).join('')"
+                browser.wait(f"/step [1-9]/.test({told})")
+                browser.value("document.getElementById('close-up').focus()")
+                browser.press("ArrowRight")
+                browser.wait(f"{told} === ''")
 
     def test_play_without_a_run(self) -> None:
         """A fault pauses a play, which records nothing and says why; it begins none either."""
@@ -106,35 +118,48 @@ class PlayTests(PageTests):
             assert "Play begins anew at step 0" in self.text_of("#run-result"), self.text_of("#run-result")
 
     def test_settings_belong_to_the_file(self) -> None:
-        """Each file has its own, which come back with it; a new game has a seed, and sound stays as it was set."""
+        """Each file has its own, which come back with it."""
         text = "RND V0, 255\nADD V1, 1\nJP #200\n"
         with self.page(text, "first.asm") as browser:
             (self.folder / "second.asm").write_text("RND V1, 255\n")
-            self.chosen(random="seed", seed="7", rate="20", screen="amber", preset="5789")
+            self.chosen(random="seed", seed="7", rate="20", profile="vip", every="5000")
             browser.value("chipbenchPage.editor.breakpoints.set([2])")
             self.step(40)
             self.open_named("second.asm")
             self.rest()
-            state = "(({ model }) => [model.options.seed ?? null, model.options.rate, model.look.screen, model.look.arrows, model.breakLines, model.step])(chipbenchPage)"
-            assert browser.value(state) == [None, "10", "theme", "", [], 0], browser.value(state)
+            state = (
+                "(({ model, editor }) => { const { seed, tape, rate, profile, every } = { seed: '', tape: '', profile: 'schip', every: '1000', ...model.options };"
+                "return [seed, tape, rate, profile, every, editor.breakpoints.lines, model.step]; })(chipbenchPage)"
+            )
+            assert browser.value(state) == ["", "", "10", "schip", "1000", [], 0], browser.value(state)
             self.check_step("RND V1, 255\n", 1, [])
-            self.chosen(random="none", rate="30", screen="lcd")
+            self.chosen(random="tape", tape="05", rate="30", every="2000")
             self.step(5)
             self.open_named("first.asm")
             self.rest()
-            assert browser.value(state) == ["7", "20", "amber", "5789", [2], 40], browser.value(state)
-            self.check_step(text, 40, [], ("--seed", "7", "--rate", "20"))
-            assert browser.value("document.documentElement.dataset.screen") == "amber"
+            assert browser.value(state) == ["7", "", "20", "vip", "5000", [2], 40], browser.value(state)
+            self.check_step(text, 40, [], ("--seed", "7", "--rate", "20", "--profile", "vip"))
             self.open_named("second.asm")
             self.rest()
-            assert browser.value(state) == [None, "30", "lcd", "", [], 5], browser.value(state)
-            browser.click("#sound")
+            assert browser.value(state) == ["", "05", "30", "schip", "2000", [], 5], browser.value(state)
             self.reload()
-            assert browser.value("document.getElementById('sound').ariaPressed") == "true"
-            assert browser.value(state) == [None, "30", "lcd", "", [], 5], browser.value(state)
-            browser.click("#sound")
+            assert browser.value(state) == ["", "05", "30", "schip", "2000", [], 5], browser.value(state)
+
+    def test_colours_and_arrows_belong_to_the_file(self) -> None:
+        with self.page("CLS\n", "first.asm") as browser:
+            (self.folder / "second.asm").write_text("RND V1, 255\n")
+            state = "[document.documentElement.dataset.screen, document.querySelector('#settings form').elements.arrows.value]"
+            self.chosen(screen="amber", preset="5789")
+            for name, wanted in (("second.asm", ["theme", ""]), ("first.asm", ["amber", "5789"])):
+                self.open_named(name)
+                browser.click("#show-settings")
+                assert browser.value(state) == wanted, (name, browser.value(state))
+                browser.click("#settings [value=cancel]")
+
+    def test_a_new_game_has_a_seed(self) -> None:
+        """One that stays with it."""
         with self.page_of_nothing() as browser:
-            seed = browser.value("chipbenchPage.model.options.seed")
+            seed = browser.value("chipbenchPage.model.options.seed ?? '0'")
             assert 1 <= int(seed) <= 9999, seed
             browser.value("document.getElementById('start-empty').click()")
             self.put_line(1, "RND V0, 255")
@@ -144,6 +169,13 @@ class PlayTests(PageTests):
             browser.wait(SETTLED)
             assert browser.value("chipbenchPage.model.options.seed") == seed
             self.check_step("RND V0, 255", 1, [], ("--seed", seed))
+
+    def test_sound_stays(self) -> None:
+        with self.page("CLS\n") as browser:
+            for wanted in ("true", "false"):
+                browser.click("#sound")
+                self.reload()
+                assert browser.value("document.getElementById('sound').ariaPressed") == wanted
 
     def test_crashes(self) -> None:
         """Keys under which the machine stops are found beside the author's work; they are shown, and what was there comes back."""

@@ -54,6 +54,14 @@ DRAGGED = f"""new Promise((done) => {{
     requestAnimationFrame(tick);
 }})"""
 
+# a sprite of four rows in two lines, and what is drawn of it
+SPRITE = "LD I, SHIP\nDRW V0, V1, 4\nSHIP: DB $...11..., $..1111.. ; the top\nDB $.111111., $11111111\nNEXT: DB 1\n"
+PIXELS = "[...document.querySelectorAll('#sprite button')].map((one) => one.ariaPressed === 'true' ? '1' : '.').join('').match(/.{8}/g)"
+
+
+def pixel(row: int, column: int) -> str:
+    return f"#sprite button:nth-child({8 * row + column + 1})"
+
 
 class RunTests(PageTests):
     def test_each_example(self) -> None:
@@ -583,45 +591,50 @@ class RunTests(PageTests):
             assert browser.value(rows) == []
 
     def test_enter_in_the_lists_of_the_search(self) -> None:
-        """It searches, and opens no list; and a step over a call is made also while a long search runs."""
+        """It searches, and opens no list."""
         text = "LOOP: CALL ONE\nRND V0, 255\nJP LOOP\nONE: ADD V1, 1\nRET\n"
         with self.page(text, words=("--seed", "1")) as browser:
             self.tab("search")
             browser.value("{ const { elements } = document.getElementById('search'); elements.subject.value = 'v1'; elements.value.value = '3'; elements.relation.focus(); }")
             browser.press("Enter", text="\r")
             browser.wait("/^step/.test(document.getElementById('search-result').textContent)")
-            self.step(0)
+
+    def test_a_step_over_a_call_beside_a_search(self) -> None:
+        """It is made at once, however long the search goes on."""
+        text = "LOOP: CALL ONE\nRND V0, 255\nJP LOOP\nONE: ADD V1, 1\nRET\n"
+        with self.page(text, words=("--seed", "1")) as browser:
             browser.value("{ const { elements } = document.getElementById('search'); elements.subject.value = 'pc'; elements.value.value = '#300'; document.querySelector('#search [value=next]').click(); }")
             browser.wait("!document.getElementById('search-stop').hidden")
             browser.value("document.activeElement.blur()")
             browser.press("m", "KeyM")
             browser.wait("chipbenchPage.model.step === 3")
 
-    def test_drawing_a_sprite(self) -> None:
-        """By dragging, over the rows of several DB lines, from them and back into them."""
-        text = "LD I, SHIP\nDRW V0, V1, 4\nSHIP: DB $...11..., $..1111.. ; the top\nDB $.111111., $11111111\nNEXT: DB 1\n"
-        with self.page(text) as browser:
+    def test_a_sprite_of_several_lines(self) -> None:
+        """It is read from them, and written back into them."""
+        with self.page(SPRITE) as browser:
             self.tab("sprite")
             browser.value("chipbenchPage.editor.goToLine(3)")
             browser.click("#sprite-line")
-            rows = "[...document.querySelectorAll('#sprite button')].map((one) => one.ariaPressed === 'true' ? '1' : '.').join('').match(/.{8}/g)"
-            assert browser.value(rows) == ["...11...", "..1111..", ".111111.", "11111111"], browser.value(rows)
-
-            def pixel(row: int, column: int) -> tuple[float, float]:
-                return browser.center(f"#sprite button:nth-child({8 * row + column + 1})")
-
-            browser.mouse("mouseMoved", *pixel(0, 0), 0)
-            browser.mouse("mousePressed", *pixel(0, 0))
-            for place in ((0, 1), (0, 2), (1, 1), (1, 0)):
-                browser.mouse("mouseMoved", *pixel(*place))
-            browser.mouse("mouseReleased", *pixel(1, 0), 0)
-            browser.mouse("mouseMoved", *pixel(3, 7), 0)
-            browser.mouse("mousePressed", *pixel(3, 7))
-            browser.mouse("mouseReleased", *pixel(3, 7), 0)
-            assert browser.value(rows) == ["11111...", "111111..", ".111111.", "1111111."], browser.value(rows)
+            assert browser.value(PIXELS) == ["...11...", "..1111..", ".111111.", "11111111"], browser.value(PIXELS)
+            for row, column in ((0, 0), (3, 7)):
+                browser.click(pixel(row, column))
+            assert browser.value(PIXELS) == ["1..11...", "..1111..", ".111111.", "1111111."], browser.value(PIXELS)
             browser.click("#sprite-write")
-            drawn = text.replace("$...11..., $..1111.. ; the top", "$11111..., $111111..  ; the top").replace("$11111111", "$1111111.")
+            drawn = SPRITE.replace("$...11..., $..1111.. ; the top", "$1..11..., $..1111..  ; the top").replace("$11111111", "$1111111.")
             assert browser.value("chipbenchPage.model.text") == drawn, browser.value("chipbenchPage.model.text")
+
+    def test_drawing_by_dragging(self) -> None:
+        """Each pixel that the pointer comes to becomes as the first one; the keyboard turns one pixel."""
+        with self.page(SPRITE) as browser:
+            self.tab("sprite")
+            browser.value("chipbenchPage.editor.goToLine(3)")
+            browser.click("#sprite-line")
+            browser.mouse("mouseMoved", *browser.center(pixel(0, 0)), 0)
+            browser.mouse("mousePressed", *browser.center(pixel(0, 0)))
+            for place in ((0, 1), (0, 2), (1, 1), (1, 0)):
+                browser.mouse("mouseMoved", *browser.center(pixel(*place)))
+            browser.mouse("mouseReleased", *browser.center(pixel(1, 0)), 0)
+            assert browser.value(PIXELS)[:2] == ["11111...", "111111.."], browser.value(PIXELS)
             browser.value("document.querySelector('#sprite button').focus()")
             browser.press("Enter", text="\r")
-            assert browser.value(rows)[0].startswith(".111"), browser.value(rows)
+            assert browser.value(PIXELS)[0] == ".1111...", browser.value(PIXELS)

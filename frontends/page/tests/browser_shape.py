@@ -77,6 +77,18 @@ class ShapeTests(PageTests):
                 self.tab(tab)
                 assert browser.nameless() == [], (tab, browser.nameless())
 
+    def test_its_words_are_plain(self) -> None:
+        """What is read and what is heard, in the page and in its dialogs; the title of a source that is in no file."""
+        odd = "/by the signal|Fewer are faster|Keys of the keyboard|a step back, on\\b|without a file|Key of key/gi"
+        words = "[document.title, document.body.textContent, ...[...document.querySelectorAll('[aria-label], [title]')].flatMap((one) => [one.ariaLabel, one.title])].join('\\n')"
+        with self.page_on([str(self.folder / "nothing.asm")] if self.is_one_file else [], ()) as browser:
+            browser.value("chipbenchPage.model.setKeys(chipbenchPage.model.keys.with(1770, 9, true))")
+            self.tab("keys")
+            self.step(1770)
+            browser.wait("document.querySelector('#event-rows [aria-label]') !== null")
+            found = browser.value(f"[...new Set({words}.match({odd}))]")
+            assert found == [], found
+
     def test_themes_and_widths(self) -> None:
         text = self.example("scroller")
         with self.page(text, "scroller.asm") as browser:

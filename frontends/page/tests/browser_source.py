@@ -255,13 +255,72 @@ class SourceTests(PageTests):
             assert browser.value("document.activeElement.id") == "source-text"
             browser.press("z", "KeyZ", CONTROL)
             assert browser.value("chipbenchPage.editor.text") == text
+
+    def test_go_to_a_line(self) -> None:
+        """By its number, and by pages."""
+        text = "".join(f"L{number}: LD V{number % 16:X}, {number % 200}\n" for number in range(600))
+        with self.page(text) as browser:
+            browser.value("chipbenchPage.editor.goToLine(5)")
             browser.press("g", "KeyG", CONTROL)
             browser.wait("document.activeElement.name === 'line'")
             browser.type("432")
             browser.press("Enter", text="\r")
-            assert browser.value(cursor) == [432, 0]
+            assert browser.value("chipbenchPage.editor.line") == 432
             browser.wait("[...document.querySelectorAll('#gutter .number')].some((one) => one.textContent === '432')")
             assert browser.value("document.getElementById('find').hidden && document.activeElement.id === 'source-text'")
+
+    def test_page_down(self) -> None:
+        """The cursor goes along: what is typed then stands in sight."""
+        text = "".join(f"L{number}: LD V{number % 16:X}, {number % 200}\n" for number in range(600))
+        with self.page(text) as browser:
+            browser.value("chipbenchPage.editor.goToLine(5); document.getElementById('source-text').focus()")
+            for _ in range(3):
+                browser.press("PageDown")
+            line = browser.value("chipbenchPage.editor.line")
+            assert 60 < line < 200, line
+            browser.press("PageUp")
+            assert 30 < browser.value("chipbenchPage.editor.line") < line
+            browser.press("x", text="x")
+            browser.wait("document.getElementById('source-text').value.includes('xL')")
+
+    def test_the_text_of_a_fault_is_whole(self) -> None:
+        """At each width the sentence on the cursor's line, and what helps, are seen from their first letter to their last."""
+        text = "; a long line of the game that goes on and on\nA_NAME_THAT_IS_LONG:    LD A_NAME_THAT_IS_LONG, ANOTHER_NAME  ; that goes on\n"
+        seen = """((sentence) => {
+            const walker = document.createTreeWalker(document.body, NodeFilter.SHOW_TEXT);
+            while (walker.nextNode()) {
+                const { currentNode: node } = walker;
+                const place = node.data.indexOf(sentence);
+                if (place < 0 || !node.parentElement.checkVisibility()) continue;
+                const range = document.createRange();
+                range.setStart(node, place);
+                range.setEnd(node, place + sentence.length);
+                const box = range.getBoundingClientRect();
+                let isWhole = box.left >= 0 && box.right <= innerWidth && box.bottom <= innerHeight;
+                for (let at = node.parentElement; at !== null; at = at.parentElement) {
+                    const clip = at.getBoundingClientRect();
+                    if (getComputedStyle(at).overflow !== 'visible' && (box.left < clip.left - 1 || box.right > clip.right + 1 || box.bottom > clip.bottom + 1)) isWhole = false;
+                }
+                if (isWhole) return true;
+            }
+            return false;
+        })"""
+        said = subprocess.run([self.program, "check", self.saved(text)], capture_output=True, text=True).stdout.splitlines()
+        sentences = [said[0].split(": ", 2)[2], *(line.removeprefix("help: ") for line in said[1:] if line.startswith("help: "))]
+        assert len(sentences) >= 2, said
+        with self.page(text) as browser:
+            for width, height in ((1440, 900), (1024, 768), (720, 450), (390, 844)):
+                browser.size(width, height)
+                browser.wait(f"innerWidth === {width}")
+                self.tab("source")
+                browser.value("chipbenchPage.editor.goToLine(1); chipbenchPage.editor.goToLine(2)")
+                for sentence in sentences:
+                    browser.wait(f"{seen}({json.dumps(sentence)})")
+
+    def saved(self, text: str) -> str:
+        place = self.folder / "checked.asm"
+        place.write_text(text)
+        return str(place)
 
     def test_the_form_of_the_line(self) -> None:
         """On an instruction the line's own form is told, and not all that its word has."""

@@ -50,8 +50,25 @@ class TypingTests(PageTests):
                 assert key < max(16, 2.5 * plain) * browser.patience, tries
                 assert gap < 50 * browser.patience, tries
                 assert layouts is None or layouts <= 1.1, layouts
-                assert browser.value("document.getElementById('source-text').value.length") < 20_000
                 assert browser.value("chipbenchPage.model.text").split("\n")[line - 1].endswith("x" * 3 * KEYS)
+
+    def test_layouts_of_a_key(self) -> None:
+        """One, at any length, where the browser counts them."""
+        for text, line in ((self.example("bounce"), 1), (LONG, 2000)):
+            with self.page(text) as browser:
+                browser.value(f"chipbenchPage.editor.goToLine({line})")
+                browser.press("End")
+                layouts = self.layouts_of_keys()
+                assert layouts is None or layouts <= 1.1, layouts
+
+    def test_lines_in_sight_alone(self) -> None:
+        """The page holds these, and the text area those around the cursor: at the start, in the middle and at the end."""
+        with self.page(LONG) as browser:
+            for line in (1, 2000, 4000):
+                browser.value(f"chipbenchPage.editor.goToLine({line})")
+                browser.wait(f"[...document.querySelectorAll('#gutter .number')].some((one) => one.textContent === '{line}')")
+                assert browser.value("document.getElementById('source-text').value.length") < 20_000
+                assert browser.value("document.querySelectorAll('#editor *').length") < 1500, browser.value("document.querySelectorAll('#editor *').length")
 
     def plain_key(self) -> float:
         """How long a key takes in a text area of 30 lines and nothing else."""
