@@ -183,10 +183,14 @@ export class Editor extends LineFacts {
     this.#reveal(line);
   }
 
-  /** Puts a card below a line, as near to its left edge as it stays in sight. */
-  placeBelow(card, line) {
-    card.style.transform = `translate(${this.#sight.left}px, ${line * ROW + 2}px)`;
-    card.style.maxWidth = `${this.#sight.width - 2 * ROW}px`;
+  /** Puts a card below a line; above it where it would end out of sight, and there is room above. */
+  placeCard(card, line) {
+    const { top, left, height, width } = this.#sight;
+    card.style.maxWidth = `${width - 2 * ROW}px`;
+    const tall = card.offsetHeight;
+    const [below, above] = [line * ROW + 2, (line - 1) * ROW - tall - 2];
+    const isCut = below + tall > top + height && above >= top;
+    card.style.transform = `translate(${left}px, ${isCut ? above : below}px)`;
   }
 
   /** To the next fault after the cursor's line, or the one before; round the end. */

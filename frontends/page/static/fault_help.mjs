@@ -1,4 +1,4 @@
-// The card under a faulty line: what the program says of it, its help, and buttons that put it right.
+// The card beside a faulty line: what the program says of it, its help, and buttons that put it right.
 
 import { request } from './bridge.mjs';
 import { byId, element } from './dom.mjs';
@@ -88,7 +88,7 @@ export class FaultHelp {
     const told = [element('strong', { textContent: code }), ` ${sentence}`, ...all.map((one) => element('span', { textContent: one }))];
     this.#place.replaceChildren(element('p', {}, ...told), element('div', { className: 'buttons' }, ...buttons));
     this.#place.hidden = false;
-    this.#editor.placeBelow(this.#place, line);
+    this.#editor.placeCard(this.#place, line);
   }
 
   #button(title, key, action) {

@@ -9,6 +9,8 @@ const RULER_FONT = '11px system-ui, sans-serif';
 const BOLD_FONT = `600 ${RULER_FONT}`;
 const SIGNS = '0123456789,';
 const LABEL_HEIGHT = 16;
+/** From a mark of the ruler to its number. */
+const MARK_GAP = 4;
 /** At most so wide is a digit of the ruler. */
 const DIGIT_PIXELS = 7;
 const TALLEST_LANE = 20;
@@ -52,7 +54,9 @@ export function drawCloseUp({ model, range: [from, to], played, track }) {
   if (played < to) hatch(pen, Math.max(LABEL_PIXELS, x(played)), RULER_PIXELS, width, height);
   drawLanes({ pen, x, from, to, width, height, model });
   if (model.flag !== null && model.flag.step >= from && model.flag.step <= to) drawFlag(pen, x(model.flag.step), model.flag.text, height);
-  drawStep(track, x(model.step), model.step);
+  const box = stepBox(width, x(model.step), model.step);
+  clearCut(pen, marksOf(x, from, to), box);
+  drawStep(track, x(model.step), box);
 }
 
 /** What stays while the run plays: the ruler, and the names of the lanes. */
@@ -62,7 +66,7 @@ function groundOf(track, { x, from, to, lanes }) {
   return kept(track, 'ground', key, { width, height }, (pen) => {
     pen.fillStyle = colour('--sunken');
     pen.fillRect(LABEL_PIXELS, RULER_PIXELS, width - LABEL_PIXELS, height - RULER_PIXELS);
-    drawRuler(pen, x, from, to, height);
+    drawRuler(pen, marksOf(x, from, to), height);
     nameLanes(pen, lanes, height);
   });
 }
@@ -133,16 +137,33 @@ function hatch(pen, from, top, width, height) {
   pen.restore();
 }
 
-/** A mark at round steps, with numbers as far apart as they have room. */
-function drawRuler(pen, x, from, to, height) {
+/** The marks at round steps: each with its place, and its number where there is room for one. */
+function marksOf(x, from, to) {
   const unit = niceUnit((to - from) / Math.max(2, (x(to) - x(from)) / 90));
-  pen.font = RULER_FONT;
+  const marks = [];
   for (let step = Math.ceil(from / unit) * unit; step <= to; step += unit) {
+    const [place, label] = [x(step), grouped(step)];
+    const wide = DIGIT_PIXELS * label.length + MARK_GAP;
+    marks.push({ place, wide, label: x(to) - place > wide ? label : '' });
+  }
+  return marks;
+}
+
+function drawRuler(pen, marks, height) {
+  pen.font = RULER_FONT;
+  for (const { place, label } of marks) {
     pen.fillStyle = colour('--line');
-    pen.fillRect(x(step), 2, 1, height - 2);
+    pen.fillRect(place, 2, 1, height - 2);
     pen.fillStyle = colour('--faint');
-    const label = grouped(step);
-    if (x(to) - x(step) > DIGIT_PIXELS * label.length + 4) pen.fillText(label, x(step) + 4, 12);
+    if (label !== '') pen.fillText(label, place + MARK_GAP, 12);
+  }
+}
+
+/** Takes away the numbers of the ruler that the number of the step would cover in part. */
+function clearCut(pen, marks, { left, wide }) {
+  for (const mark of marks) {
+    const from = mark.place + 1;
+    if (mark.label !== '' && from < left + wide && left < mark.place + mark.wide) pen.clearRect(from, 0, mark.wide, LABEL_HEIGHT);
   }
 }
 
@@ -167,12 +188,16 @@ function nameLanes(pen, lanes, height) {
   lanes.forEach((key, lane) => pen.fillText(key.toString(16).toUpperCase(), 6, RULER_PIXELS + (lane + 1) * tall - (tall - 8) / 2));
 }
 
-/** The step, as a line with its number above it. */
-function drawStep(track, place, step) {
-  const { width, height, pen, scale } = track;
+/** Where the number of the step stands, in a track of that width. */
+function stepBox(width, place, step) {
   const label = grouped(step);
   const wide = DIGIT_PIXELS * label.length + 8;
-  const left = Math.round(Math.max(0, Math.min(width - wide, place - wide / 2)));
+  return { label, wide, left: Math.round(Math.max(0, Math.min(width - wide, place - wide / 2))) };
+}
+
+/** The step, as a line with its number above it. */
+function drawStep(track, place, { label, wide, left }) {
+  const { width, height, pen, scale } = track;
   pen.fillStyle = colour('--accent');
   pen.fillRect(Math.min(width - 2, place - 1), 0, 2, height);
   pen.fillRect(left, 0, wide, LABEL_HEIGHT);

@@ -200,6 +200,76 @@ class LayoutTests(PageTests):
                 tall = min(one["box"][3], other["box"][3]) - max(one["box"][1], other["box"][1])
                 assert wide < 2 or tall < 5, (where, one, other)
 
+    def test_menus_are_whole(self) -> None:
+        """At each size an open menu lies in the window, with all that stands in its rows; what is too long for its height scrolls."""
+        with self.page(self.example("breaker")) as browser:
+            for width, height in SIZES:
+                browser.size(width, height)
+                browser.wait(f"innerWidth === {width}")
+                for menu in ("#file-menu", "#more-menu"):
+                    browser.value(f"document.querySelector('{menu}').open = true")
+                    left, top, right, bottom = browser.value(f"(({{ left, top, right, bottom }}) => [left, top, right, bottom])(document.querySelector('{menu} > div').getBoundingClientRect())")
+                    assert left >= 0 and top >= 0 and right <= width and bottom <= height, (menu, width, height, left, top, right, bottom)
+                    cut = browser.value(
+                        f"[...document.querySelectorAll('{menu} > div :is(button, kbd)')].filter((one) => one.checkVisibility())"
+                        f".filter((one) => {{ const b = one.getBoundingClientRect(); return b.left < {left} || b.right > {right} || one.scrollWidth > one.clientWidth + 1 && one.localName === 'button'; }})"
+                        ".map((one) => one.textContent)"
+                    )
+                    assert cut == [], (menu, width, cut)
+                    self.picture(f"menu-{menu[1:]}-{width}")
+                    browser.value(f"document.querySelector('{menu}').open = false")
+
+    def test_the_card_of_a_fault_is_in_sight(self) -> None:
+        """Also where its line is the last one in sight: there it stands above the line."""
+        boxes = "['#fault-help', '#editor', '#gutter .faulty'].map((name) => { const b = document.querySelector(name).getBoundingClientRect(); return [b.top, b.bottom]; })"
+        text = "".join(f"L{number}: LD V0, {number}\n" for number in range(100)).replace("LD V0, 60", "DRV V0, V1, 4")
+        with self.page(text) as browser:
+            for width, height in ((1440, 900), (720, 450)):
+                browser.size(width, height)
+                browser.wait(f"innerWidth === {width}")
+                for place in ("first", "last"):
+                    lines = browser.value("Math.floor(document.getElementById('editor').clientHeight / 20)")
+                    browser.value("chipbenchPage.editor.goToLine(1)")
+                    browser.wait("document.getElementById('fault-help').hidden")
+                    browser.value(f"document.getElementById('editor').scrollTop = {20 * (60 if place == 'first' else 62 - lines)}; chipbenchPage.editor.select(chipbenchPage.editor.placeOf(61, 0), chipbenchPage.editor.placeOf(61, 0))")
+                    browser.wait("!document.getElementById('fault-help').hidden && document.querySelectorAll('#fault-help button').length === 2")
+                    card, editor, line = browser.value(boxes)
+                    assert editor[0] <= card[0] and card[1] <= editor[1], (width, place, card, editor)
+                    assert card[0] >= line[1] if place == "first" else card[1] <= line[0], (width, place, card, line)
+
+    def test_numbers_of_the_ruler(self) -> None:
+        """None of them shows beside the number of the step, which covers a part of it."""
+        ink = (
+            "(() => { const canvas = document.querySelector('#close-up canvas'); const copy = new OffscreenCanvas(canvas.width, 16).getContext('2d', { willReadFrequently: true });"
+            "copy.drawImage(canvas, 0, 0); const { data, width } = copy.getImageData(0, 3, canvas.width, 10);"
+            "return Array.from({ length: width }, (_, x) => Array.from({ length: 10 }, (_, y) => data[4 * (y * width + x) + 3]).filter((alpha) => alpha > 40).length); })()"
+        )
+        with self.page(self.example("bounce")) as browser:
+            browser.size(1440, 900)
+            browser.wait("innerWidth === 1440")
+            for step, after in ((0, 12), (1000, 24)):
+                self.step(step)
+                columns = browser.value(ink)
+                # the box of the step is the widest part without a gap
+                right = max((place for place in range(len(columns)) if columns[place] == 10 and columns[place - 6] == 10), default=0)
+                beside = [place for place in range(right + 1, min(len(columns), right + after)) if 0 < columns[place] < 10]
+                assert right > 20 and beside == [], (step, right, beside)
+
+    def test_notices_are_whole(self) -> None:
+        """A long one is read without scrolling, in the window."""
+        with self.page("CLS\n") as browser:
+            browser.value("chipbenchPage.model.setOptions({ rate: '2000' })")
+            browser.wait("document.querySelector('.notice') !== null")
+            for width, height in SIZES[:-2]:
+                browser.size(width, height)
+                browser.wait(f"innerWidth === {width}")
+                box = "(({ left, right }) => [left, right])(document.querySelector('.notice').getBoundingClientRect())"
+                left, right = browser.value(box)
+                cut = browser.value("(({ scrollHeight, clientHeight }) => scrollHeight - clientHeight)(document.querySelector('.notice p'))")
+                assert left >= 0 and right <= width and cut <= 1, (width, left, right, cut)
+            browser.value("chipbenchPage.model.setOptions({ rate: '10' })")
+            browser.wait("document.querySelector('.notice') === null")
+
     def test_pictures_of_the_sizes(self) -> None:
         """In a picture of the page the screen is where it is said to be, with as many lit pixels, and the other parts aren't blank."""
         with self.page(self.example("breaker")) as browser, tempfile.TemporaryDirectory() as folder:

@@ -623,6 +623,16 @@ class RunTests(PageTests):
             drawn = SPRITE.replace("$...11..., $..1111.. ; the top", "$1..11..., $..1111..  ; the top").replace("$11111111", "$1111111.")
             assert browser.value("chipbenchPage.model.text") == drawn, browser.value("chipbenchPage.model.text")
 
+    def test_the_text_of_a_sprite_is_in_sight(self) -> None:
+        """Beside its eight rows, in a window that isn't tall."""
+        with self.page(SPRITE) as browser:
+            browser.size(1440, 900)
+            browser.wait("innerWidth === 1440")
+            self.tab("sprite")
+            self.step(1)
+            bottoms = browser.value("['sprite-text', 'sprite-part'].map((name) => document.getElementById(name).getBoundingClientRect().bottom)")
+            assert bottoms[0] <= bottoms[1], bottoms
+
     def test_drawing_by_dragging(self) -> None:
         """Each pixel that the pointer comes to becomes as the first one; the keyboard turns one pixel."""
         with self.page(SPRITE) as browser:

@@ -63,11 +63,65 @@ class ShapeTests(PageTests):
                 if browser.value("document.activeElement.id") == "source-text":
                     browser.value("document.getElementById('split-source').focus()")
                 browser.press("Tab")
+                # what comes after the last part is the browser's own, which keeps the focus from the tests after this one
+                if browser.value("document.activeElement.id") == "overview":
+                    break
             missed = browser.value(
                 "[...document.querySelectorAll('button, input, select, textarea, summary, [tabindex=\"0\"]')]"
                 ".filter((one) => one.checkVisibility() && !one.disabled && one.tabIndex >= 0 && !one.closest('dialog, details:not([open]) > div') && !reached.has(one)).map((one) => one.outerHTML.slice(0, 80))"
             )
             assert missed == [], missed
+
+    def test_a_game_by_the_keyboard(self) -> None:
+        """From an example to a play, a change, a key and a saved file, without a pointer."""
+        focus = "document.activeElement"
+        with self.page_of_nothing() as browser:
+            browser.wait("document.querySelectorAll('.example').length === 4")
+
+            def tab_to(condition: str) -> None:
+                for _ in range(60):
+                    if browser.value(condition):
+                        return
+                    browser.press("Tab")
+                raise AssertionError(f"never reached: {condition}")
+
+            browser.value("document.querySelector('.skip').focus()")
+            tab_to(f"{focus}.classList.contains('example') && /breaker/.test({focus}.textContent)")
+            browser.press("Enter", text="\r")
+            browser.wait(f"chipbenchPage.model.text.length > 1000 && {focus}.id === 'play'")
+            browser.press(" ", "Space", text=" ")
+            browser.wait("chipbenchPage.model.step > 100")
+            browser.press(" ", "Space", text=" ")
+            browser.press("o", "KeyO")
+            browser.press("Home", modifiers=CONTROL)
+            for character in "; mine":
+                browser.press(character, "", 0, character)
+            browser.press("Enter", text="\r")
+            browser.press("Escape")
+            assert browser.value(f"{focus}.id") == "close-up"
+            browser.press("i", "KeyI")
+            for _ in range(4):
+                browser.press("ArrowRight")
+            assert browser.value(f"{focus}.dataset.tab") == "keys", browser.value(f"{focus}.outerHTML")
+            tab_to(f"{focus}.ariaLabel === 'Key 5'")
+            browser.press("Enter", text="\r")
+            browser.wait("chipbenchPage.model.keys.size === 1")
+            browser.value("document.querySelector('.skip').focus()")
+            tab_to(f"{focus}.localName === 'summary' && {focus}.parentElement.id === 'file-menu'")
+            browser.press("Enter", text="\r")
+            browser.wait("document.getElementById('file-menu').open")
+            browser.press("Tab")
+            assert browser.value(f"{focus}.id") == "save-as-button"
+            browser.press("Escape")
+            assert browser.value(f"!document.getElementById('file-menu').open && {focus}.localName === 'summary'")
+            browser.press("?", "Slash", SHIFT)
+            browser.wait("document.getElementById('help').open")
+            browser.press("Escape")
+            browser.wait(f"!document.getElementById('help').open && {focus}.localName === 'summary'")
+            if not self.is_one_file:
+                browser.press("s", "KeyS", CONTROL)
+                browser.wait("document.getElementById('file-state').textContent === 'saved'")
+                assert (self.folder / "nothing.asm").read_text() == "; mine\n" + self.example("breaker")
 
     def test_names_of_what_can_be_pressed(self) -> None:
         with self.page(self.example("guess")) as browser:

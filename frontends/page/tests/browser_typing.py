@@ -59,7 +59,10 @@ class TypingTests(PageTests):
                 browser.value(f"chipbenchPage.editor.goToLine({line})")
                 browser.press("End")
                 layouts = self.layouts_of_keys()
-                assert layouts is None or layouts <= 1.1, layouts
+                if layouts is None:
+                    print("    nothing is tried: this browser counts no layouts")
+                    return
+                assert layouts <= 1.1, layouts
 
     def test_lines_in_sight_alone(self) -> None:
         """The page holds these, and the text area those around the cursor: at the start, in the middle and at the end."""
