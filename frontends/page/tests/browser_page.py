@@ -23,21 +23,23 @@ EXAMPLES = ("bounce", "guess", "profiles", "scroller")
 SETTLED = "globalThis.chipbenchPage?.viewer.machine && document.getElementById('last-step').textContent !== ''"
 REGISTERS = """Object.fromEntries([...document.querySelectorAll('#registers dl > div')]
     .map((cell) => [cell.querySelector('dt').textContent, cell.querySelector('dd').textContent]))"""
-# which pixels of the canvas are lit, a text of 128 letters for each row with one
+# which pixels of the canvas are lit, a text of 32 digits for each row with one; those that an edit has changed have another colour for a while
 POINTS = """(() => {
     const canvas = document.getElementById('screen');
     const copy = new OffscreenCanvas(128, 64).getContext('2d', { willReadFrequently: true });
     copy.drawImage(canvas, 0, 0);
     const data = new Uint32Array(copy.getImageData(0, 0, 128, 64).data.buffer);
-    const colour = getComputedStyle(document.documentElement).getPropertyValue('--screen-lit').trim();
-    const [red, green, blue] = [1, 3, 5].map((place) => parseInt(colour.slice(place, place + 2), 16));
-    const lit = new Uint32Array(new Uint8Array([red, green, blue, 255]).buffer)[0];
+    const lit = ['--screen-lit', '--changed'].map((name) => {
+        const colour = getComputedStyle(document.documentElement).getPropertyValue(name).trim();
+        const [red, green, blue] = [1, 3, 5].map((place) => parseInt(colour.slice(place, place + 2), 16));
+        return new Uint32Array(new Uint8Array([red, green, blue, 255]).buffer)[0];
+    });
     const rows = {};
     for (let row = 0; row < 64; row += 1) {
         let digits = '';
         for (let at = 0; at < 128; at += 4) {
             let digit = 0;
-            for (let bit = 0; bit < 4; bit += 1) digit = 2 * digit + (data[row * 128 + at + bit] === lit ? 1 : 0);
+            for (let bit = 0; bit < 4; bit += 1) digit = 2 * digit + (lit.includes(data[row * 128 + at + bit]) ? 1 : 0);
             digits += digit.toString(16);
         }
         if (/[^0]/.test(digits)) rows[row] = digits;
