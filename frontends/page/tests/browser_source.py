@@ -221,6 +221,21 @@ class SourceTests(PageTests):
             browser.press("z", "KeyZ", CONTROL)
             assert browser.value("chipbenchPage.editor.lines[3]") == "        MOV V2, 1"
 
+    def test_fixes_of_other_languages(self) -> None:
+        """Comments, shifts, numbers and operands as other assemblers write them have a button each, as the language server has a fix for them."""
+        lines = {
+            "LD V0, 1 // note": "LD V0, 1 ; note", "LD V0, 1 << 2": "LD V0, 1 < 2", "LD V0, 8 >> 1": "LD V0, 8 > 1", "LD V0, 0x1f": "LD V0, #1f",
+            "DRW V0 V1 5": "DRW V0, V1, 5", "DA 'ab": "DA 'ab'", "START": "START:",
+        }  # fmt: skip
+        with self.page("".join(f"{line}\n" for line in lines)) as browser:
+            for number, (line, fixed) in enumerate(lines.items(), 1):
+                browser.value(f"chipbenchPage.editor.goToLine({number})")
+                browser.wait("[...document.querySelectorAll('#fault-help:not([hidden]) button')].length === 2")
+                browser.press("Enter", "Enter", ALT)
+                assert browser.value(f"chipbenchPage.editor.lines[{number - 1}]") == fixed, (line, browser.value(f"chipbenchPage.editor.lines[{number - 1}]"))
+            self.rest()
+            assert self.text_of("#fault-count") == "no faults", self.text_of("#fault-count")
+
     def test_documents_of_an_explanation(self) -> None:
         """A document that the page of a code names opens in the dialog, at the row of the code."""
         with self.page("MOV V2, 1\n") as browser:

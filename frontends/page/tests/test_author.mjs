@@ -219,6 +219,12 @@ test('faults: what may be written in their place', () => {
   assert.deepEqual(made(' MOV V0, 1', 1, 4, 'F3', 'MOV is written LD here'), [['Write LD', ' LD V0, 1']]);
   assert.deepEqual(made(' LD V0, 0x12', 8, 12, 'F1', 'a hexadecimal number begins with `#`: #12'), [['Write #12', ' LD V0, #12']]);
   assert.deepEqual(made('A: LD V0 5', 6, 8, 'F4', 'a comma is missing between two operands'), [['Put a comma', 'A: LD V0, 5']]);
+  assert.deepEqual(made(' drw v0 V1 5 ; x y', 5, 7, 'F4', 'a comma is missing between two operands'), [
+    ['Put a comma', ' drw v0, V1 5 ; x y'], ['Put commas', ' drw v0, V1, 5 ; x y'],
+  ]);
+  assert.deepEqual(made(' LD V0, 1 // note', 8, 9, 'F4', 'a comment begins with `;`'), [['Write ;', ' LD V0, 1 ; note']]);
+  assert.deepEqual(made(' LD V0, 1 << 2', 8, 9, 'F4', 'a shift is one sign, `<` or `>`'), [['Write <', ' LD V0, 1 < 2']]);
+  assert.deepEqual(made(' DB ">>", 8>>1', 4, 8, 'F4', 'a shift is one sign, `<` or `>`'), [['Write >', ' DB ">>", 8>1']]);
   assert.deepEqual(made(' DA "abc ', 4, 8, 'F2', 'a text ends with the quote that it begins with'), [['Close the text', ' DA "abc"']]);
   assert.deepEqual(made('LOOPS', 0, 5, 'F3'), [['Make LOOPS a label', 'LOOPS:']]);
   assert.deepEqual(made(' LD V0, 300', 8, 11, 'F10', 'the value is 300, and has to lie from -128 to 255'), []);
