@@ -134,7 +134,11 @@ class ShapeTests(PageTests):
     def test_its_words_are_plain(self) -> None:
         """What is read and what is heard, in the page and in its dialogs; the title of a source that is in no file."""
         odd = "/by the signal|Fewer are faster|Keys of the keyboard|a step back, on\\b|without a file|Key of key/gi"
-        words = "[document.title, document.body.textContent, ...[...document.querySelectorAll('[aria-label], [title]')].flatMap((one) => [one.ariaLabel, one.title])].join('\\n')"
+        words = (
+            "(() => { const body = document.body.cloneNode(true); body.querySelectorAll('script').forEach((one) => one.remove());"
+            "const names = [...document.querySelectorAll('[aria-label], [title]')].flatMap((one) => [one.ariaLabel, one.title]);"
+            "return [document.title, body.textContent, ...names].join('\\n'); })()"
+        )
         with self.page_on([str(self.folder / "nothing.asm")] if self.is_one_file else [], ()) as browser:
             browser.value("chipbenchPage.model.setKeys(chipbenchPage.model.keys.with(1770, 9, true))")
             self.tab("keys")
