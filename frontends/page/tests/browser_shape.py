@@ -72,21 +72,22 @@ class ShapeTests(PageTests):
             )
             assert missed == [], missed
 
+    def tab_to(self, condition: str) -> None:
+        """Tab goes from the focus on, or from the start of the page where there is none, to where this holds."""
+        self.browser.value("if (document.activeElement === document.body) document.querySelector('.skip').focus()")
+        for _ in range(60):
+            if self.browser.value(condition):
+                return
+            self.browser.press("Tab")
+        raise AssertionError(f"never reached: {condition}")
+
     def test_a_game_by_the_keyboard(self) -> None:
         """From an example to a play, a change, a key and a saved file, without a pointer."""
         focus = "document.activeElement"
         with self.page_of_nothing() as browser:
             browser.wait("document.querySelectorAll('.example').length === 4")
-
-            def tab_to(condition: str) -> None:
-                for _ in range(60):
-                    if browser.value(condition):
-                        return
-                    browser.press("Tab")
-                raise AssertionError(f"never reached: {condition}")
-
-            browser.value("document.querySelector('.skip').focus()")
-            tab_to(f"{focus}.classList.contains('example') && /breaker/.test({focus}.textContent)")
+            browser.value("document.activeElement.blur()")
+            self.tab_to(f"{focus}.classList.contains('example') && /breaker/.test({focus}.textContent)")
             browser.press("Enter", text="\r")
             browser.wait(f"chipbenchPage.model.text.length > 1000 && {focus}.id === 'play'")
             browser.press(" ", "Space", text=" ")
@@ -103,25 +104,32 @@ class ShapeTests(PageTests):
             for _ in range(4):
                 browser.press("ArrowRight")
             assert browser.value(f"{focus}.dataset.tab") == "keys", browser.value(f"{focus}.outerHTML")
-            tab_to(f"{focus}.ariaLabel === 'Key 5'")
+            self.tab_to(f"{focus}.ariaLabel === 'Key 5'")
             browser.press("Enter", text="\r")
             browser.wait("chipbenchPage.model.keys.size === 1")
-            browser.value("document.querySelector('.skip').focus()")
-            tab_to(f"{focus}.localName === 'summary' && {focus}.parentElement.id === 'file-menu'")
+            if not self.is_one_file:
+                browser.press("s", "KeyS", CONTROL)
+                browser.wait("document.getElementById('file-state').textContent === 'saved'")
+                assert (self.folder / "nothing.asm").read_text() == "; mine\n" + self.example("breaker")
+
+    def test_menus_and_dialogs_by_the_keyboard(self) -> None:
+        """Enter opens them, Escape closes them, and the focus is then where it was."""
+        focus = "document.activeElement"
+        with self.page("CLS\n") as browser:
+            browser.value("document.activeElement.blur()")
+            self.tab_to(f"{focus}.localName === 'summary' && {focus}.parentElement.id === 'file-menu'")
             browser.press("Enter", text="\r")
             browser.wait("document.getElementById('file-menu').open")
             browser.press("Tab")
             assert browser.value(f"{focus}.id") == "save-as-button"
             browser.press("Escape")
             assert browser.value(f"!document.getElementById('file-menu').open && {focus}.localName === 'summary'")
-            browser.press("?", "Slash", SHIFT)
-            browser.wait("document.getElementById('help').open")
-            browser.press("Escape")
-            browser.wait(f"!document.getElementById('help').open && {focus}.localName === 'summary'")
-            if not self.is_one_file:
-                browser.press("s", "KeyS", CONTROL)
-                browser.wait("document.getElementById('file-state').textContent === 'saved'")
-                assert (self.folder / "nothing.asm").read_text() == "; mine\n" + self.example("breaker")
+            for button, dialog in (("show-settings", "settings"), ("show-help", "help")):
+                self.tab_to(f"{focus}.id === '{button}'")
+                browser.press("Enter", text="\r")
+                browser.wait(f"document.getElementById('{dialog}').open")
+                browser.press("Escape")
+                browser.wait(f"!document.getElementById('{dialog}').open && {focus}.id === '{button}'")
 
     def test_names_of_what_can_be_pressed(self) -> None:
         with self.page(self.example("guess")) as browser:
