@@ -374,7 +374,7 @@ class FileTests(PageTests):
             browser.value("chipbenchPage.model.setKeys(chipbenchPage.model.keys.with(20, 3, true).with(44, 3, false)); chipbenchPage.model.setStep(77)")
             options = {"rate": "20", "seed": "7", "profile": "vip", "every": "5000"}
             browser.value(f"chipbenchPage.model.setOptions({json.dumps(options)})")
-            browser.value("chipbenchPage.model.setLook({ screen: 'amber', arrows: '2486' }); chipbenchPage.editor.breakpoints.set([3, 5]); document.getElementById('download-game').click()")
+            browser.value("document.getElementById('download-game').click()")
             wait_for(lambda: has_arrived(place / "guess.game.asm"), "the game")
             assert self.said((place / "guess.game.asm").read_text(), ["image"]) == self.said(text, ["image"])
             browser.value("chipbenchPage.model.setKeys(chipbenchPage.model.keys.without(20, 3).with(5, 5, true)); chipbenchPage.model.setStep(3); chipbenchPage.model.setOptions({ rate: '10' })")
@@ -383,9 +383,25 @@ class FileTests(PageTests):
             assert self.source() == text
             self.rest()
             assert browser.value("chipbenchPage.model.step") == 77
-            assert browser.value("[chipbenchPage.model.look.screen, chipbenchPage.model.look.arrows, chipbenchPage.model.breakLines]") == ["amber", "2486", [3, 5]]
             assert {name: browser.value(f"chipbenchPage.model.options.{name}") for name in options} == options, browser.value("chipbenchPage.model.options")
             self.check_step(text, 77, ["kins 20 3 down", "kins 44 3 up"], ("--rate", "20", "--seed", "7", "--profile", "vip"))
+
+    def test_breakpoints_and_colours_go_with_the_game(self) -> None:
+        """Where the source is saved with its keys, and opened again."""
+        place = self.folder / "games"
+        place.mkdir(exist_ok=True)
+        with self.page(self.example("guess"), "guess.asm") as browser:
+            browser.downloads(place)
+            browser.value("chipbenchPage.editor.breakpoints.set([3, 5]); document.getElementById('download-game').click()")
+            wait_for(lambda: has_arrived(place / "guess.game.asm"), "the game")
+            self.upload(place / "guess.game.asm")
+            browser.wait("document.getElementById('file-name').textContent === 'guess.game.asm'")
+            assert browser.value("chipbenchPage.editor.breakpoints.lines") == [3, 5], browser.value("chipbenchPage.editor.breakpoints.lines")
+            browser.value("chipbenchPage.model.setLook({ screen: 'amber', arrows: '2486' }); document.getElementById('download-game').click()")
+            wait_for(lambda: has_arrived(place / "guess.game.game.asm"), "the game")
+            self.upload(place / "guess.game.game.asm")
+            browser.wait("document.getElementById('file-name').textContent === 'guess.game.game.asm'")
+            assert browser.value("[chipbenchPage.model.look.screen, chipbenchPage.model.look.arrows]") == ["amber", "2486"]
 
     def test_pictures_and_scripts(self) -> None:
         text = self.example("bounce")

@@ -239,7 +239,9 @@ class SourceTests(PageTests):
     def test_documents_of_an_explanation(self) -> None:
         """A document that the page of a code names opens in the dialog, at the row of the code."""
         with self.page("MOV V2, 1\n") as browser:
-            browser.value("chipbenchPage.editor.goToLine(1); chipbenchPage.explain('F3')")
+            browser.value("chipbenchPage.editor.goToLine(1); chipbenchPage.editor.focus()")
+            browser.press("F1")
+            browser.wait("document.getElementById('explanation').open && document.getElementById('explanation-text').textContent.includes('docs/LANGUAGE.md')")
             browser.wait("document.querySelector('#explanation-text button')?.textContent === 'docs/LANGUAGE.md'")
             assert self.text_of("#explanation-title") == "F3"
             browser.click("#explanation-text button")
