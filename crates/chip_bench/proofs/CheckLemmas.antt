@@ -1,8 +1,8 @@
 -- What `check` did with sources, one after another.
-use Rattle.std.proofs.Common.{◌≡◌, ◌⊎◌, inl, inr, ℕ, suc, ◌+◌, ◌<◌, ◌≤◌, ◌==◌, Bool, List, ◌∷◌, drop, length, get_or, Option, Some, None, Ok, Err, refl, sym, ◌∙◌, ap, subst, add-one, drop-cons}
+use Rattle.std.proofs.Common.{◌≡◌, ◌⊎◌, inl, inr, ℕ, suc, ◌+◌, ◌<◌, ◌≤◌, ◌==◌, Bool, List, ◌∷◌, drop, length, get_or, Option, Some, None, Result, Ok, Err, IfErr, IfOk, refl, sym, ◌∙◌, ap, subst, add-one, drop-cons}
 use Rattle.std.proofs.lemmas.List.{drop_all}
 use Rattle.std.specs.Borrow.{Bor}
-use Rattle.std.specs.Prelude.{option_copied}
+use Rattle.std.specs.Prelude.{IsErr, option_copied}
 use Rattle.chip_asm.specs.Lines.{lines_of, open_fault}
 use Rattle.chip_asm.specs.declared.refusal.OpenError.{OpenError}
 use Rattle.chip_asm.specs.declared.refusal.OpenError.TheVariants as unopened
@@ -10,12 +10,15 @@ use Rattle.chip_session.specs.Tally.{Tally}
 use Rattle.chip_arguments.specs.declared.command_line.CheckArguments.{CheckArguments}
 use Rattle.chip_bench.specs.Exploring.{AsksSet, warning_named}
 use Rattle.chip_bench.specs.Doing.{Checks, ChecksEach, ChecksOne, GivesSource, IsBadSet, IsSourceUnread, Outcome, paints, with_ending, worse}
-use Rattle.chip_bench.specs.Printing.{IsPrintedCheck, IsPrintedCheckOf, Prints, PrintsSuch, printed, unopened_check}
+use Rattle.chip_bench.specs.Printing.{IsPrintedCheck, IsPrintedCheckOf, Printed, Prints, PrintsSuch, printed, unopened_check}
+use Rattle.chip_bench.specs.inner.Reads.{printed_by}
+use Rattle.chip_bench.specs.declared.output.Answer.{Answer}
 use Rattle.chip_bench.specs.declared.ending.Ending.{Ending}
 use Rattle.chip_bench.specs.declared.ending.Ending.TheVariants.{Done, Faulty, Short}
 use Rattle.chip_bench.specs.declared.ending.Failure.{Failure}
 use Rattle.chip_bench.specs.declared.ending.Failure.TheVariants as failure
 use Rattle.chip_bench.proofs.DoingLemmas.{declines, source_unread}
+use Rattle.chip_bench.proofs.OpenedLemmas.{delivers_such, false_is_true}
 
 done_first : (later : Outcome) → with_ending Done later ≡ later
 done_first (Ok ending) = refl
@@ -32,6 +35,20 @@ one_after_another Faulty second (Ok later) = refl
 one_after_another Faulty second (Err why) = refl
 one_after_another Short second (Ok later) = refl
 one_after_another Short second (Err why) = refl
+
+module _ (is_json is_painted is_alone : Bool) (name bytes : List ℕ) where
+  -- what is found in a source that opens
+  pub found_opened : (lines : List (List ℕ)) (wanted : Printed) → open_fault bytes ≡ None → lines ≡ lines_of bytes →
+      IsPrintedCheck is_json is_painted name lines wanted → IsPrintedCheckOf is_json is_painted is_alone name (open_fault bytes) (lines_of bytes) wanted
+  found_opened lines wanted opens are is = rw (opens, sym are) is
+
+  -- or why it doesn't
+  pub found_unopened : {E : Type 0} (error : OpenError) (answer : Result Answer E) → (error ≡ unopened.OutOfMemory) ⊎ (open_fault bytes ≡ Some error) →
+      IfOk answer (λ given. printed_by given ≡ printed (unopened_check is_json is_alone name error) Faulty) → (error ≡ unopened.OutOfMemory → IsErr answer) →
+      IfOk answer (λ given. IsPrintedCheckOf is_json is_painted is_alone name (open_fault bytes) (lines_of bytes) (printed_by given))
+  found_unopened error (Ok given) (inl memory) told short = absurd (false_is_true (short memory))
+  found_unopened error (Ok given) (inr fault) told short = rw fault told
+  found_unopened error (Err e) why told short = tt
 
 module _ {R W : Type 0} (remaining : R → Option (List ℕ)) (contents : W → Option (List ℕ)) (is_json is_painted is_alone : Bool) where
   abbrev Each : List (Bor (List ℕ)) → Tally R → Tally R → Tally W → Tally W → Outcome → Type 0
@@ -50,19 +67,16 @@ module _ {R W : Type 0} (remaining : R → Option (List ℕ)) (contents : W → 
       subst (λ (t : List ℕ). PrintsSuch contents out_old out_new (IsPrintedCheckOf is_json is_painted is_alone name.now (open_fault t) (lines_of t)) ended) same such,
     )
 
-    -- a source that opens
-    pub one_opened : (shown : List ℕ) (lines : List (List ℕ)) → shown ≡ name.now → open_fault text ≡ None → lines ≡ lines_of text →
-        PrintsSuch contents out_old out_new (IsPrintedCheck is_json is_painted shown lines) ended → One name in_old in_new out_old out_new ended
-    one_opened shown lines called opens are such =
-        of_text (rw (opens, sym are) (subst (λ n. PrintsSuch contents out_old out_new (IsPrintedCheck is_json is_painted n lines) ended) called such))
-
-    -- or doesn't
-    pub one_unopened : (shown : List ℕ) (error : OpenError) → shown ≡ name.now → (error ≡ unopened.OutOfMemory) ⊎ (open_fault text ≡ Some error) →
-        Prints contents out_old out_new (printed (unopened_check is_json is_alone shown error) Faulty) ended →
-        (error ≡ unopened.OutOfMemory → (ended ≡ Err failure.OutOfMemory) × (out_new ≡ out_old)) → One name in_old in_new out_old out_new ended
-    one_unopened shown error called (inl memory) prints short = of_text (inr (short memory))
-    one_unopened shown error called (inr fault) prints short =
-        of_text (rw fault (inl (printed (unopened_check is_json is_alone shown error) Faulty, ap (λ n. printed (unopened_check is_json is_alone n error) Faulty) called, prints)))
+    -- what is found in it is printed; what reading it came to gives its name
+    pub one_found : {T E : Type 0} (read : Result T Failure) (shown : List ℕ) (answer : Result Answer E) → IfErr read (IsSourceUnread in_old in_new name) → shown ≡ name.now →
+        IfOk answer (λ given. IsPrintedCheckOf is_json is_painted is_alone shown (open_fault text) (lines_of text) (printed_by given)) →
+        ((wanted : Printed) → IfOk answer (λ given. printed_by given ≡ wanted) → Prints contents out_old out_new wanted ended) →
+        IfErr answer (λ e. (ended ≡ Err failure.OutOfMemory) × (out_new ≡ out_old)) → One name in_old in_new out_old out_new ended
+    one_found {T} {E} read shown answer unread called found prints short =
+        of_text
+        (delivers_such contents out_old out_new answer (IsPrintedCheckOf is_json is_painted is_alone name.now (open_fault text) (lines_of text)) ended
+        (subst (λ (n : List ℕ). IfOk answer (λ given. IsPrintedCheckOf is_json is_painted is_alone n (open_fault text) (lines_of text) (printed_by given))) called found)
+        prints short)
 
   -- a source that can't be read
   pub one_unread : (in_old in_new : Tally R) (output : Tally W) (name : Bor (List ℕ)) (ended : Outcome) (why : Failure) → ended ≡ Err why →

@@ -6,7 +6,7 @@ use Rattle.chip_asm.specs.Lines.{lines_of, open_fault}
 use Rattle.chip_asm.specs.Program.{image_of}
 use Rattle.chip_lang.specs.declared.limits.TheConstants.{IMAGE_BYTES}
 use Rattle.chip_views.specs.Dis.{source_of_image}
-use Rattle.chip_bench.specs.Doing.{AsSource, Assembles, AssemblesBy, Debugs, Declined, Does, Explains, FromGiven, FromKeys, FromSource, GivesSource, IfSettled, IsImageRefused, IsShort, IsSourceUnread, IsUnsettled, Outcome, Pictures, PicturesBy, PrintsPage, Runs, Tells, Traces, TracesBy, WithAsked}
+use Rattle.chip_bench.specs.Doing.{AsSource, Assembles, AssemblesBy, Debugs, Declined, Does, FromGiven, FromKeys, FromSource, GivesSource, IfSettled, IsExplanation, IsImageRefused, IsShort, IsSourceUnread, IsUnexplained, IsUnsettled, Outcome, Pictures, PicturesBy, Runs, Tells, Traces, TracesBy, WithAsked}
 use Rattle.chip_bench.specs.inner.Reads.{IsAsked, IsGiven, IsKeysUnread, IsNotGiven, IsNotTaken, IsTaken, IsUnasked}
 use Rattle.chip_pages.specs.Pages.{IsExplained}
 use Rattle.chip_bench.specs.Printing.{IfOpens, Printed, Prints, WithSession, printed, printed_run}
@@ -23,7 +23,7 @@ use Rattle.chip_arguments.specs.declared.command_line.TraceArguments.{TraceArgum
 use Rattle.chip_bench.specs.declared.ending.Ending.TheVariants.{Done}
 use Rattle.chip_bench.specs.declared.ending.Failure.{Failure}
 use Rattle.chip_bench.specs.declared.ending.Failure.TheVariants as failure
-use Rattle.chip_bench.specs.declared.reading.Asked.{Asked}
+use Rattle.chip_bench.specs.declared.reading.AskedRun.{AskedRun}
 use Rattle.chip_bench.proofs.RunningLemmas.{unsettled}
 
 -- settings that there are not, or no memory for them
@@ -138,7 +138,7 @@ module _ {R : Type 0} (remaining : R → Option (List ℕ)) (in_old in_new : Tal
 module _ {R : Type 0} (remaining : R → Option (List ℕ)) (in_old in_new : Tally R) (V : Type 0) (arguments : RunArguments)
     (Did : SessionSettings → List ℕ → List ℕ → Outcome → Type 0) (ended : Outcome) where
   -- a run's arguments were read, and then this was done
-  pub asked_then : (asked : Asked) → IsAsked remaining in_old in_new arguments asked →
+  pub asked_then : (asked : AskedRun) → IsAsked remaining in_old in_new arguments asked →
       Did asked.settings asked.keys.bytes.items asked.source.items ended → WithAsked remaining in_old in_new V arguments Did ended
   asked_then asked is did =
       asked_next remaining in_old in_new (Unit {0}) V (Ok Done) ended (λ Why h. absurd h) arguments
@@ -240,12 +240,14 @@ module _ {R W : Type 0} (remaining : R → Option (List ℕ)) (contents : W → 
       by_kind true (inl (short, is)) = absurd is
       by_kind true (inr (is, _)) = inr (fails (IsImageRefused name bytes) ended why e is, (refl, refl))
 
-module _ {W : Type 0} (contents : W → Option (List ℕ)) (old new : Tally W) where
-  -- a page is printed, or there is none
-  pub explained : (code : Option (Bor (List ℕ))) (name : Bor (List ℕ)) (page : Option (List ℕ)) (ended : Outcome) → code ≡ Some name →
-      IsExplained name.now page → PrintsPage contents old new name page ended → Explains contents old new code ended
-  explained code name page ended is found prints =
-      subst (λ (c : Option (Bor (List ℕ))). Explains contents old new c ended) (sym is) (inl (page, found, prints))
+-- there is a page, or none
+pub explained : (code : Option (Bor (List ℕ))) (name : Bor (List ℕ)) (text : List ℕ) → code ≡ Some name → IsExplained name.now (Some text) →
+    IsExplanation code (printed text Done)
+explained code name text is found = rw is (found, refl)
+
+pub unexplained : (code : Option (Bor (List ℕ))) (name : Bor (List ℕ)) → code ≡ Some name → IsExplained name.now None →
+    IsUnexplained code (failure.NoPage name)
+unexplained code name is found = rw is (inr (found, refl))
 
 pub three_parts : (t₀ t₁ t₂ t₃ a b c d : List ℕ) → t₀ ≡ [] → t₁ ≡ t₀ ++ a → t₂ ≡ t₁ ++ b → b ≡ d → t₃ ≡ t₂ ++ c → t₃ ≡ a ++ (d ++ c)
 three_parts t₀ t₁ t₂ t₃ a b c d e₀ e₁ e₂ e e₃ =
@@ -276,7 +278,7 @@ module _ {R W : Type 0} (remaining : R → Option (List ℕ)) (contents : W → 
       (λ settings keys source. WithSession contents output output settings source keys (λ session. Prints contents output output (printed_run session arguments.steps))) ended refl why e is
 
 module _ {R W : Type 0} (remaining : R → Option (List ℕ)) (contents : W → Option (List ℕ)) (in_old in_new : Tally R) (old new : Tally W) where
-  pub runs : (arguments : RunArguments) (asked : Asked) (ended : Outcome) → IsAsked remaining in_old in_new arguments asked →
+  pub runs : (arguments : RunArguments) (asked : AskedRun) (ended : Outcome) → IsAsked remaining in_old in_new arguments asked →
       WithSession contents old new asked.settings asked.source.items asked.keys.bytes.items (λ session. Prints contents old new (printed_run session arguments.steps)) ended →
       Runs remaining contents in_old in_new old new arguments ended
   runs arguments asked ended is did =
@@ -284,7 +286,7 @@ module _ {R W : Type 0} (remaining : R → Option (List ℕ)) (contents : W → 
       (λ settings keys source. WithSession contents old new settings source keys (λ session. Prints contents old new (printed_run session arguments.steps))) ended asked is did
 
 module _ {R W : Type 0} (remaining : R → Option (List ℕ)) (contents : W → Option (List ℕ)) (in_old in_new : Tally R) (old new : Tally W) where
-  pub traces : (arguments : TraceArguments) (asked : Asked) (ended : Outcome) → IsAsked remaining in_old in_new arguments.run asked →
+  pub traces : (arguments : TraceArguments) (asked : AskedRun) (ended : Outcome) → IsAsked remaining in_old in_new arguments.run asked →
       TracesBy contents old new arguments arguments.against asked.settings asked.keys.bytes.items asked.source.items ended →
       Traces remaining contents in_old in_new old new arguments ended
   traces arguments asked ended is did =
@@ -297,7 +299,7 @@ module _ {R W : Type 0} (remaining : R → Option (List ℕ)) (contents : W → 
 
 module _ {R : Type 0} (remaining : R → Option (List ℕ)) (in_old in_new : Tally R) (arguments : RunArguments) where
   -- what a run's arguments ask for was read
-  pub asked_is : (asked : Asked) → settings_asked arguments.settings ≡ Some asked.settings → (arguments.keys ≡ None → asked.keys.bytes.items ≡ []) →
+  pub asked_is : (asked : AskedRun) → settings_asked arguments.settings ≡ Some asked.settings → (arguments.keys ≡ None → asked.keys.bytes.items ≡ []) →
       length asked.keys.bytes.items ≤ KEY_FILE_BYTES → IsGiven remaining in_old in_new arguments.is_image arguments.source asked.source.items → IsAsked remaining in_old in_new arguments asked
   asked_is asked settled keys fits given = (
     settles remaining in_old in_new (Unit {0}) tt (settings_asked arguments.settings) asked.settings
@@ -332,7 +334,7 @@ module _ {R W : Type 0} (remaining : R → Option (List ℕ)) (contents : W → 
   Pictured settings keys source = WithSession contents old new settings source keys (PicturesBy contents old new arguments arguments.bitmap arguments.png)
 
   -- a picture's arguments were read, and then this was done
-  pub pictures : (asked : Asked) → IsAsked remaining in_old in_new arguments.run asked →
+  pub pictures : (asked : AskedRun) → IsAsked remaining in_old in_new arguments.run asked →
       WithSession contents old new asked.settings asked.source.items asked.keys.bytes.items (PicturesBy contents old new arguments arguments.bitmap arguments.png) ended →
       Pictures remaining contents in_old in_new old new arguments ended
   pictures asked is did = asked_then remaining in_old in_new (new ≡ old) arguments.run Pictured ended asked is did

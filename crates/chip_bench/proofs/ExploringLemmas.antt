@@ -16,7 +16,7 @@ use Rattle.chip_machine.specs.Start.{start_of}
 use Rattle.chip_machine.specs.State.{State}
 use Rattle.chip_session.specs.Settings.{SessionSettings}
 use Rattle.chip_session.specs.Tally.{Tally}
-use Rattle.chip_bench.specs.Doing.{Declined, Explores, Fails, FromGiven, IfSets, IfSettled, IsBadPlace, IsBadProperty, IsBadSet, Outcome, Searches, SearchesFrom, WithSets}
+use Rattle.chip_bench.specs.Doing.{Declined, Explores, Fails, FromGiven, IfSet, IfSettled, IsBadPlace, IsBadProperty, IsBadSet, Outcome, Searches, SearchesFrom, WithSets}
 use Rattle.chip_bench.specs.Exploring.{AsksCauses, AsksKeys, AsksProperty, answer_lines, covering_text, search_ending, target_asked}
 use Rattle.chip_bench.specs.Printing.{IfOpens, Prints, printed, printed_faults}
 use Rattle.chip_bench.specs.SettingArguments.{settings_asked}
@@ -94,7 +94,7 @@ module _ {R W : Type 0} (remaining : R → Option (List ℕ)) (contents : W → 
       refuses : Declined remaining in_old in_new (out_new ≡ out_old) IsBadSet ended
       refuses = declines remaining in_old in_new (out_new ≡ out_old) quiet IsBadSet ended why e bad.bad same
 
-      by_sets : (causes keys : Option ℕ) → (causes ≡ None) ⊎ (keys ≡ None) → IfSets remaining in_old in_new (out_new ≡ out_old) causes keys (Did settings) ended
+      by_sets : (causes keys : Option ℕ) → (causes ≡ None) ⊎ (keys ≡ None) → IfSet remaining in_old in_new (out_new ≡ out_old) causes (λ causes. IfSet remaining in_old in_new (out_new ≡ out_old) keys (Did settings causes)) ended
       by_sets None keys none = refuses
       by_sets (Some causes) None none = refuses
       by_sets (Some causes) (Some keys) (inl none) = absurd (some_is_none none)

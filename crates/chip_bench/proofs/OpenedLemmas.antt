@@ -1,5 +1,5 @@
 -- What is printed of a source that opens.
-use Rattle.std.proofs.Common.{◌≡◌, ◌∙◌, ◌⊎◌, inl, inr, ap, ℕ, Bool, false, true, List, Option, None, Some, Result, Ok, Err, IfOk, refl, subst, sym}
+use Rattle.std.proofs.Common.{◌≡◌, ◌∙◌, ◌⊎◌, inl, inr, ap, ℕ, Bool, false, true, List, Option, None, Some, Result, Ok, Err, IfErr, IfOk, refl, subst, sym}
 use Rattle.std.specs.Prelude.{IsErr, IsOkAnd}
 use Rattle.chip_asm.specs.Lines.{lines_of, open_fault}
 use Rattle.chip_asm.specs.Program.{image_of}
@@ -17,7 +17,7 @@ use Rattle.chip_session.specs.Tally.{Tally}
 use Rattle.chip_session.specs.declared.refusal.Refusal.{Refusal}
 use Rattle.chip_session.specs.declared.refusal.Refusal.TheVariants.{AnswerMemory}
 use Rattle.chip_bench.specs.Doing.{AssemblesBy, FromSource, GivesSource, Outcome}
-use Rattle.chip_bench.specs.Printing.{IfOpens, Printed, Prints, Refuses, UnlessRefused, WithSession, answer_or_why, both_answers, keys_failure, printed, unanswered, unopened_text}
+use Rattle.chip_bench.specs.Printing.{IfOpens, Printed, Prints, PrintsSuch, Refuses, UnlessRefused, WithSession, answer_or_why, both_answers, keys_failure, printed, unanswered, unopened_text}
 use Rattle.chip_bench.specs.inner.Written.{IsFoundWritten, IsImageWritten}
 use Rattle.chip_bench.specs.inner.Reads.{IsRefused, IsSessionOf, IsUnmade, IsUnopened, printed_by}
 use Rattle.chip_bench.specs.declared.output.Answer.{Answer}
@@ -52,6 +52,13 @@ module _ {W : Type 0} (contents : W → Option (List ℕ)) (old new : Tally W) w
             UnlessRefused contents old new fault (Did (session_under (session_of settings source) keys)) ended
         by_line fault (failure.BadKeys name number code) e is = rw (is, e) (refl, same)
         by_line fault _ e is = absurd is
+
+  -- an answer of which something is known is printed, unless memory ran out for it
+  pub delivers_such : {E : Type 0} (answer : Result Answer E) (Such : Printed → Type 0) (ended : Outcome) → IfOk answer (λ given. Such (printed_by given)) →
+      ((wanted : Printed) → IfOk answer (λ given. printed_by given ≡ wanted) → Prints contents old new wanted ended) →
+      IfErr answer (λ e. (ended ≡ Err failure.OutOfMemory) × (new ≡ old)) → PrintsSuch contents old new Such ended
+  delivers_such (Ok given) Such ended such prints short = inl (printed_by given, such, prints (printed_by given) refl)
+  delivers_such (Err e) Such ended such prints short = inr short
 
   -- a source that doesn't open isn't done with
   pub not_done : (e : OpenError) (ended : Outcome) → Refuses contents old new e ended → ended ≡ Ok Done → ⊥
@@ -135,7 +142,7 @@ pub unmade_is : (settings : SessionSettings) (source keys file : List ℕ) (open
 unmade_is settings source keys file opened name (Line number code) opens is same fault = inr (opens, rw (is, same) at fault)
 unmade_is settings source keys file opened name OutOfMemory opens is same fault = inl refl
 
-false_is_true : ◌≡◌ {A = Bool} false true → ⊥
+pub false_is_true : ◌≡◌ {A = Bool} false true → ⊥
 false_is_true h = cc
 
 -- why a question isn't answered, unless memory ran out
@@ -162,3 +169,8 @@ told_second (Ok registers) second P why result faults ok (inl is) told short = r
 told_second (Ok registers) second P why (Ok given) faults ok (inr m) told short = absurd (false_is_true (short m.0))
 told_second (Ok registers) second P why (Err e) faults ok (inr m) told short = tt
 told_second (Err e) second P why result faults ok is told short = absurd ok
+
+-- memory ran out for an answer
+pub short_of : {T E : Type 0} {P : Type 0} (answer : Result T E) → IsErr answer → IfErr answer (λ e. P) → P
+short_of (Ok given) is short = absurd (false_is_true is)
+short_of (Err e) is short = short

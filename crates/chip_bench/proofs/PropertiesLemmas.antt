@@ -16,7 +16,7 @@ use Rattle.chip_machine.specs.State.{State}
 use Rattle.chip_properties.specs.declared.properties.Properties.{Properties}
 use Rattle.chip_properties.specs.declared.stated.Stated.{Stated}
 use Rattle.chip_session.specs.Tally.{Tally}
-use Rattle.chip_bench.specs.Doing.{Fails, IsNoProperty, Outcome, ProvesFrom, ProvesUnless, ProvesWith}
+use Rattle.chip_bench.specs.Doing.{Fails, IsNoProperty, Outcome, ProvesFrom, ProvesWith, UnlessMissing}
 use Rattle.chip_bench.specs.Proving.{asked_of, has_faults, is_missing}
 use Rattle.chip_bench.specs.declared.proving.Head.{Head}
 use Rattle.chip_bench.specs.declared.proving.Left.{Left}
@@ -82,11 +82,11 @@ module _ {W : Type 0} (contents : W → Option (List ℕ)) (old new : Tally W) (
 
   pub with_none : is_missing arguments.only asked faulty ≡ true → Fails contents old new IsNoProperty ended →
       ProvesWith contents old new arguments lines rate keys start properties ended
-  with_none e fails = subst (λ (b : Bool). ProvesUnless contents old new b arguments lines rate keys start asked faulty ended) (sym e) fails
+  with_none e fails = subst (λ (b : Bool). UnlessMissing contents old new b (ProvesFrom contents old new arguments lines rate keys start asked faulty) ended) (sym e) fails
 
   pub with_some : (is_faulty : Bool) → is_faulty ≡ faulty → is_missing arguments.only asked faulty ≡ false →
       ProvesFrom contents old new arguments lines rate keys start asked is_faulty ended →
       ProvesWith contents old new arguments lines rate keys start properties ended
   with_some is_faulty same e did =
-      subst (λ (b : Bool). ProvesUnless contents old new b arguments lines rate keys start asked faulty ended) (sym e)
+      subst (λ (b : Bool). UnlessMissing contents old new b (ProvesFrom contents old new arguments lines rate keys start asked faulty) ended) (sym e)
       (subst (λ (b : Bool). ProvesFrom contents old new arguments lines rate keys start asked b ended) same did)

@@ -6,11 +6,12 @@ use Rattle.chip_asm.specs.Lines.{lines_of, open_fault}
 use Rattle.chip_asm.specs.Program.{image_of}
 use Rattle.chip_asm.specs.declared.refusal.OpenError.{OpenError}
 use Rattle.chip_asm.specs.declared.refusal.OpenError.TheVariants as unopened
+use Rattle.chip_machine.specs.Start.{start_of}
 use Rattle.chip_properties.specs.Properties.{AreProperties}
 use Rattle.chip_properties.specs.declared.properties.Properties.{Properties}
 use Rattle.chip_session.specs.Settings.{SessionSettings}
 use Rattle.chip_session.specs.Tally.{Tally}
-use Rattle.chip_bench.specs.Doing.{Fails, FromSource, GivesSource, IfSet, IfSettled, IsBadSet, IsShort, IsSourceUnread, Outcome, Proves, ProvesAsked, ProvesBy, image_if_opened, image_in}
+use Rattle.chip_bench.specs.Doing.{Fails, FromSource, GivesSource, IfSet, IfSettled, IsBadSet, IsShort, IsSourceUnread, Outcome, Proves, ProvesBy, ProvesWith, image_if_opened, image_in}
 use Rattle.chip_bench.specs.Exploring.{AsksSet, key_named, usual_keys}
 use Rattle.chip_bench.specs.Printing.{IsCheckText, IsPrintedCheckOf, Prints, PrintsSuch, ending_with, printed, unopened_check}
 use Rattle.chip_bench.specs.SettingArguments.{settings_asked}
@@ -57,13 +58,13 @@ module _ {W : Type 0} (contents : W → Option (List ℕ)) (out_old out_new : Ta
 
   -- it opens, and has one
   pub by_machine : (lines : List (List ℕ)) (image : List ℕ) → open_fault bytes ≡ None → lines ≡ lines_of bytes → Some image ≡ image_of lines →
-      ((properties : Properties) × AreProperties lines properties × ProvesAsked contents out_old out_new arguments settings keys image lines properties ended)
+      ((properties : Properties) × AreProperties lines properties × ProvesWith contents out_old out_new arguments lines settings.rate keys (start_of image settings.tape settings.quirks) properties ended)
       ⊎ Fails contents out_old out_new IsShort ended → By (image_in bytes)
   by_machine lines image opens same some did =
       let there : image_of (lines_of bytes) ≡ Some image = sym (subst (λ (l : List (List ℕ)). Some image ≡ image_of l) same some) in
       rw (opens, there)
       (subst (λ (l : List (List ℕ)).
-      ((properties : Properties) × AreProperties l properties × ProvesAsked contents out_old out_new arguments settings keys image l properties ended)
+      ((properties : Properties) × AreProperties l properties × ProvesWith contents out_old out_new arguments l settings.rate keys (start_of image settings.tape settings.quirks) properties ended)
       ⊎ Fails contents out_old out_new IsShort ended) same did)
 
 module _ {R W : Type 0} (remaining : R → Option (List ℕ)) (contents : W → Option (List ℕ)) (in_old in_new : Tally R) (out_old out_new : Tally W)

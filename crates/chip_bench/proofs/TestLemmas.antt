@@ -91,18 +91,11 @@ pub passes_case_if_ok : {E : Type 0} (settings : SessionSettings) (source keys :
 passes_case_if_ok settings source keys steps session (Ok verdict) opens is same = passes_case settings source keys steps session (has_passed verdict) opens is same
 passes_case_if_ok settings source keys steps session (Err e) opens is same = tt
 
-not_case : (settings : SessionSettings) (source keys : List ℕ) (steps : List Expectation) (fault : OpenError) → fault ≢ unopened.OutOfMemory
+pub not_case : (settings : SessionSettings) (source keys : List ℕ) (steps : List Expectation) (fault : OpenError) → fault ≢ unopened.OutOfMemory
     → (fault ≡ unopened.OutOfMemory) ⊎ (open_fault source ≡ Some fault) → (false ≡ true) ↔ CasePasses settings source keys steps
 not_case settings source keys steps fault other (inl memory) = absurd (other memory)
 not_case settings source keys steps fault other (inr is) =
     (λ no. absurd (let n : false ≡ true = no in cc), λ p. absurd (let n : Some fault ≡ None = sym is ∙ p.opens in cc))
-
-pub passes_not_case : {E : Type 0} (settings : SessionSettings) (source keys : List ℕ) (steps : List Expectation) (fault : OpenError) (result : Result Verdict E)
-    → IfOk result (λ verdict. (has_passed verdict ≡ false) × (fault ≢ unopened.OutOfMemory)) → (fault ≡ unopened.OutOfMemory) ⊎ (open_fault source ≡ Some fault)
-    → IfOk result (λ verdict. IsTrue (has_passed verdict) ↔ CasePasses settings source keys steps)
-passes_not_case settings source keys steps fault (Ok verdict) given opens =
-    subst (λ b. (b ≡ true) ↔ CasePasses settings source keys steps) (sym given.0) (not_case settings source keys steps fault given.1 opens)
-passes_not_case settings source keys steps fault (Err e) given opens = tt
 
 module _ {A : Type 0} (Judges : A → Bool → Type 0) (xs : List A) where
   -- whether all of them pass, by whether those do that are left

@@ -2,7 +2,8 @@
 use Rattle.std.proofs.Common.{◌≡◌, ◌⊎◌, inl, inr, ℕ, ◌<◌, Bool, true, false, List, [], ◌∷◌, ◌++◌, append_assoc, append-nil, Option, Some, None, Result, Ok, Err, refl, sym, ◌∙◌, ap, take, drop, length, arith}
 use Rattle.chip_asm.specs.Program.{image_of}
 use Rattle.chip_asm.specs.declared.refusal.OpenError.TheVariants as unopened
-use Rattle.chip_bench.specs.Printing.{Printed, Prints, Streams, WritesFront, printed}
+use Rattle.chip_bench.specs.Doing.{ShowsTrace}
+use Rattle.chip_bench.specs.Printing.{Printed, Prints, Streams, WritesFront, printed, printed_faults, unanswered}
 use Rattle.chip_session.specs.Session.{Session}
 use Rattle.chip_session.specs.Tally.{Tally}
 use Rattle.chip_session.specs.Writing.{Breaks, Writes}
@@ -12,6 +13,7 @@ use Rattle.chip_bench.specs.declared.ending.Ending.{Ending}
 use Rattle.chip_bench.specs.declared.ending.Ending.TheVariants.{Done}
 use Rattle.chip_bench.specs.declared.ending.Failure.{Failure}
 use Rattle.chip_bench.specs.declared.ending.Failure.TheVariants as failure
+use Rattle.chip_session.specs.declared.refusal.Refusal.{Refusal}
 use Rattle.chip_session.specs.declared.refusal.Refusal.TheVariants.{NoImage}
 use Rattle.chip_bench.specs.declared.tracing.Shown.{Shown}
 use Rattle.chip_lang.specs.Meter.{one_more}
@@ -37,6 +39,15 @@ module _ {W : Type 0} (contents : W → Option (List ℕ)) (old new : Tally W) w
   -- memory ran out before anything was printed
   pub short : (wanted : Printed) (result : Result Ending Failure) → result ≡ Err failure.OutOfMemory → new ≡ old → Streams contents old new wanted result
   short wanted result e same = rw e (nothing_written wanted.text same)
+
+  -- why there is no trace, whether it is alone or beside another
+  pub refused_trace : (shown : Shown) (theirs : Option (List (List ℕ))) (session : Session) (why : Refusal) (result : Result Ending Failure) →
+      trace_refusal session shown ≡ Some why → Prints contents old new (unanswered why (printed_faults session.lines)) result →
+      ShowsTrace contents old new shown theirs session result
+  refused_trace shown None session why result refused prints =
+      rw refused (streams_prints (unanswered why (printed_faults session.lines)) result prints)
+  refused_trace shown (Some theirs) session why result refused prints =
+      rw refused (inl (unanswered why (printed_faults session.lines), refl, prints))
 
 -- there is an image where there is a trace
 pub has_image : (session : Session) (shown : Shown) → trace_refusal session shown ≡ None → is_none (image_of session.lines) ≡ false

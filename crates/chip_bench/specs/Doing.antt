@@ -174,20 +174,13 @@ module _ {R : Type 0} (in_old in_new : Tally R) where
       ((name.now ≡ standard_input) × IsInputUnread why)
       ⊎ ((name.now ≢ standard_input) × (in_new ≡ in_old) × IsUnread name why)
 
--- how the lines of a trace show their columns
-abbrev pub form_of : (is_json : Bool) → Form
-form_of is_json = if is_json then Json else Fields
-
--- the first step that a trace shows: its last one, where the arguments name a later one
-abbrev pub first_shown : TraceArguments → ℕ
-first_shown arguments = min arguments.from arguments.run.steps
-
--- the part of a run that a trace with these columns shows
+-- the part of a run that a trace with these columns shows; its first step is the last one, where the
+-- arguments name a later one
 abbrev pub shown_by : TraceArguments → List Column → Shown
 shown_by arguments columns = record {
   columns = columns;
-  form = form_of arguments.is_json;
-  from = first_shown arguments;
+  form = if arguments.is_json then Json else Fields;
+  from = min arguments.from arguments.run.steps;
   to = arguments.run.steps;
 }
 
@@ -209,6 +202,16 @@ AsSource false name Quiet Did bytes ended = Did bytes ended
 AsSource true name Quiet Did image ended =
     ((length image ≤ IMAGE_BYTES) × Did (source_of_image image) ended)
     ⊎ (IsErrAnd ended (IsImageRefused name image) × Quiet)
+
+-- the page on a code, or all codes
+abbrev pub IsExplanation : Option (Bor (List ℕ)) → Printed → Type 0
+IsExplanation None wanted = IsContents wanted.text × (wanted.ending ≡ Done)
+IsExplanation (Some code) wanted = IsExplained code.now (Some wanted.text) × (wanted.ending ≡ Done)
+
+-- there is no page on it, or memory ran out
+abbrev pub IsUnexplained : Option (Bor (List ℕ)) → Failure → Type 0
+IsUnexplained None why = IsShort why
+IsUnexplained (Some code) why = IsShort why ⊎ (IsExplained code.now None × (why ≡ failure.NoPage code))
 
 -- which characters stand for the points of a picture
 abbrev pub letters_of : Bool → Letters
@@ -267,15 +270,10 @@ module _ {R : Type 0} (remaining : R → Option (List ℕ)) (in_old in_new : Tal
   IfSet None Did ended = Declined IsBadSet ended
 
   -- with the sets that an argument for stop causes and one for keys ask for
-  abbrev pub IfSets : (causes keys : Option ℕ) → (ℕ → ℕ → Outcome → Type 0) → Outcome → Type 0
-  IfSets (Some causes) (Some keys) Did ended = Did causes keys ended
-  IfSets (Some causes) None Did ended = Declined IsBadSet ended
-  IfSets None keys Did ended = Declined IsBadSet ended
-
   abbrev pub WithSets : ExploreArguments → (ℕ → ℕ → Outcome → Type 0) → Outcome → Type 0
   WithSets arguments Did ended =
       (causes : Option ℕ) × AsksCauses arguments causes × (keys : Option ℕ) × AsksKeys arguments keys
-      × IfSets causes keys Did ended
+      × IfSet causes (λ causes. IfSet keys (Did causes)) ended
 
 -- What is written.
 module _ {W : Type 0} (contents : W → Option (List ℕ)) (out_old out_new : Tally W) where
@@ -312,12 +310,12 @@ module _ {W : Type 0} (contents : W → Option (List ℕ)) (out_old out_new : Ta
       × (ended ≢ Ok Done))
       ⊎ WritesPicture (printed_picture session arguments.run.steps form.Png) png ended
 
-  -- `trace` without another trace: the lines of the run
-  abbrev pub TracesAlone : TraceArguments → SessionSettings → (keys source : List ℕ) → Outcome → Type 0
-  TracesAlone arguments settings keys source ended =
-      WithSession contents out_old out_new settings source keys
-      (λ session. Streams contents out_old out_new
-      (printed_trace session (shown_by arguments (usual_columns arguments.sums)))) ended
+  -- the lines of a session's run, or where they differ first from those of another trace
+  abbrev pub ShowsTrace : Shown → (theirs : Option (List (List ℕ))) → Session → Outcome → Type 0
+  ShowsTrace shown None session ended =
+      Streams contents out_old out_new (printed_trace session shown) ended
+  ShowsTrace shown (Some theirs) session ended =
+      PrintsSuch contents out_old out_new (IsCompared session shown theirs) ended
 
   -- beside the lines of another trace, whose header names the columns
   abbrev pub TracesBeside : TraceArguments → SessionSettings → (keys source : List ℕ)
@@ -326,8 +324,7 @@ module _ {W : Type 0} (contents : W → Option (List ℕ)) (out_old out_new : Ta
       let columned = below_machine theirs in
       ((columns : List Column) × (header_line columns ≡ str_to_ascii_lowercase (header_of columned))
       × WithSession contents out_old out_new settings source keys
-      (λ session. PrintsSuch contents out_old out_new
-      (IsCompared session (shown_beside arguments columns) (lines_after columned))) ended)
+      (ShowsTrace (shown_beside arguments columns) (Some (lines_after columned))) ended)
       ⊎ ((fault : HeaderError) × (header_fault (header_of columned) ≡ Some fault)
       × Fails (λ why. why ≡ failure.BadTrace name fault) ended)
       ⊎ Fails IsShort ended
@@ -335,7 +332,9 @@ module _ {W : Type 0} (contents : W → Option (List ℕ)) (out_old out_new : Ta
   -- `trace`
   abbrev pub TracesBy : TraceArguments → (against : Option (Bor (List ℕ))) → SessionSettings
       → (keys source : List ℕ) → Outcome → Type 0
-  TracesBy arguments None settings keys source ended = TracesAlone arguments settings keys source ended
+  TracesBy arguments None settings keys source ended =
+      WithSession contents out_old out_new settings source keys
+      (ShowsTrace (shown_by arguments (usual_columns arguments.sums)) None) ended
   TracesBy arguments (Some name) settings keys source ended =
       ((bytes : List ℕ) × (length bytes ≤ TRACE_FILE_BYTES)
       × TracesBeside arguments settings keys source name (lines bytes) ended)
@@ -386,29 +385,18 @@ module _ {W : Type 0} (contents : W → Option (List ℕ)) (out_old out_new : Ta
       × StreamsUpTo (IsScriptUnwritten arguments.search.keys_to) wanted ended
 
   -- unless there is none in the line that the arguments name
-  abbrev pub ProvesUnless : (is_missing : Bool) → ProveArguments → (lines : List (List ℕ))
-      → (rate keys : ℕ) → State → (asked : List Stated) → (is_faulty : Bool) → Outcome → Type 0
-  ProvesUnless true arguments lines rate keys start asked is_faulty ended =
-      Fails IsNoProperty ended
-  ProvesUnless false arguments lines rate keys start asked is_faulty ended =
-      ProvesFrom arguments lines rate keys start asked is_faulty ended
+  abbrev pub UnlessMissing : (is_missing : Bool) → (Outcome → Type 0) → Outcome → Type 0
+  UnlessMissing true Did ended = Fails IsNoProperty ended
+  UnlessMissing false Did ended = Did ended
 
   -- those of a source's properties that are asked for
   abbrev pub ProvesWith : ProveArguments → (lines : List (List ℕ)) → (rate keys : ℕ) → State
       → Properties → Outcome → Type 0
-  ProvesWith arguments lines rate keys start properties ended =
-      ProvesUnless
-      (is_missing arguments.only (asked_of arguments.only properties.stated.items)
-      (has_faults arguments.only properties.faults.items))
-      arguments lines rate keys start (asked_of arguments.only properties.stated.items)
-      (has_faults arguments.only properties.faults.items) ended
-
-  -- of the machine of an image
-  abbrev pub ProvesAsked : ProveArguments → SessionSettings → (keys : ℕ) → (image : List ℕ)
-      → (lines : List (List ℕ)) → Properties → Outcome → Type 0
-  ProvesAsked arguments settings keys image lines properties ended =
-      ProvesWith arguments lines settings.rate keys
-      (start_of image settings.tape settings.quirks) properties ended
+  ProvesWith arguments lines rate keys start properties =
+      let asked = asked_of arguments.only properties.stated.items in
+      let is_faulty = has_faults arguments.only properties.faults.items in
+      UnlessMissing (is_missing arguments.only asked is_faulty)
+      (ProvesFrom arguments lines rate keys start asked is_faulty)
 
   -- `prove`: where the source has an image, its properties are answered of its machine; else its faults
   -- are printed as `check` prints them
@@ -416,7 +404,8 @@ module _ {W : Type 0} (contents : W → Option (List ℕ)) (out_old out_new : Ta
       → (source : List ℕ) → Outcome → Type 0
   ProvesBy arguments settings keys (Some image) source ended =
       ((properties : Properties) × AreProperties (lines_of source) properties
-      × ProvesAsked arguments settings keys image (lines_of source) properties ended)
+      × ProvesWith arguments (lines_of source) settings.rate keys
+      (start_of image settings.tape settings.quirks) properties ended)
       ⊎ Fails IsShort ended
   ProvesBy arguments settings keys None source ended =
       PrintsSuch contents out_old out_new (IsPrintedCheckOf arguments.is_json false true
@@ -426,23 +415,10 @@ module _ {W : Type 0} (contents : W → Option (List ℕ)) (out_old out_new : Ta
   abbrev pub PrintsText : Outcome → Type 0
   PrintsText ended = (text : List ℕ) × Prints contents out_old out_new (printed text Done) ended
 
-  -- a page, where there is one
-  abbrev pub PrintsPage : Bor (List ℕ) → Option (List ℕ) → Outcome → Type 0
-  PrintsPage code None ended = Fails (λ why. why ≡ failure.NoPage code) ended
-  PrintsPage code (Some page) ended = Prints contents out_old out_new (printed page Done) ended
-
-  -- `explain`: the page on the code
-  abbrev pub ExplainsCode : Bor (List ℕ) → Outcome → Type 0
-  ExplainsCode code ended =
-      ((page : Option (List ℕ)) × IsExplained code.now page × PrintsPage code page ended)
-      ⊎ Fails IsShort ended
-
-  -- or all codes
+  -- `explain`
   abbrev pub Explains : Option (Bor (List ℕ)) → Outcome → Type 0
-  Explains None ended =
-      ((text : List ℕ) × IsContents text
-      × Prints contents out_old out_new (printed text Done) ended) ⊎ Fails IsShort ended
-  Explains (Some code) ended = ExplainsCode code ended
+  Explains code ended =
+      PrintsSuch contents out_old out_new (IsExplanation code) ended ⊎ Fails (IsUnexplained code) ended
 
 -- `check`, source by source. No contract speaks of the warnings.
 module _ {R W : Type 0} (remaining : R → Option (List ℕ)) (contents : W → Option (List ℕ))

@@ -6,7 +6,6 @@ use Rattle.chip_asm.specs.Program.{image_of, faults_of, symbols_of}
 use Rattle.chip_asm.specs.Listing.{listing_of}
 use Rattle.chip_asm.specs.declared.refusal.OpenError.{OpenError}
 use Rattle.chip_asm.specs.declared.refusal.OpenError.TheVariants as unopened
-use Rattle.chip_asm.specs.declared.table.Symbol.{Symbol}
 use Rattle.chip_check.specs.Check.{IsChecked}
 use Rattle.chip_check.specs.Json.{IsCheckJson, unopened_object}
 use Rattle.chip_session.specs.Answers.{answer_to, faults_text, listing_text, symbols_text}
@@ -57,20 +56,14 @@ abbrev pub ending_with : Option (List ℕ) → Ending
 ending_with (Some image) = Done
 ending_with None = Faulty
 
--- the answer of `list`, with values in decimal or in hexadecimal
-abbrev pub listing_shown : (is_hex : Bool) → List (List ℕ) → List ℕ
-listing_shown false lines = listing_text (listing_of lines)
-listing_shown true lines = listing_text (hex_listing lines)
-
--- the answer of `syms`, likewise
-abbrev pub symbols_shown : (is_hex : Bool) → List (List ℕ × Symbol) → List ℕ
-symbols_shown false symbols = symbols_text symbols
-symbols_shown true symbols = hex_symbols symbols ++ full_stop
-
--- `list` and `syms`: a source without an image has faults in the place of its names
+-- `list` and `syms`, with values in decimal or in hexadecimal: a source without an image has faults
+-- in the place of its names
 abbrev pub table_with : Option (List ℕ) → Table → (is_hex : Bool) → List (List ℕ) → Printed
-table_with image Listing is_hex lines = printed (listing_shown is_hex lines) (ending_with image)
-table_with (Some image) Symbols is_hex lines = printed (symbols_shown is_hex (symbols_of lines)) Done
+table_with image Listing false lines = printed (listing_text (listing_of lines)) (ending_with image)
+table_with image Listing true lines = printed (listing_text (hex_listing lines)) (ending_with image)
+table_with (Some image) Symbols false lines = printed (symbols_text (symbols_of lines)) Done
+table_with (Some image) Symbols true lines =
+    printed (hex_symbols (symbols_of lines) ++ full_stop) Done
 table_with None Symbols is_hex lines = printed_faults lines
 
 abbrev pub printed_table : Table → (is_hex : Bool) → List (List ℕ) → Printed

@@ -32,19 +32,9 @@ ending_status Done = 0
 ending_status Faulty = 1
 ending_status Short = 4
 
--- the status after what hindered the program
+-- the status after what hindered the program: 3 for a file, input or output, 4 where memory ran out,
+-- and else 2, since the arguments, or a file of key events or a trace that they name, are at fault
 abbrev pub failure_status : Failure → ℕ
-failure_status (failure.Usage error) = 2
-failure_status failure.BadTape = 2
-failure_status (failure.BadCauses text) = 2
-failure_status (failure.BadPlayerKeys text) = 2
-failure_status (failure.BadWarnings text) = 2
-failure_status (failure.BadPlace text) = 2
-failure_status (failure.BadProperty report) = 2
-failure_status (failure.NoProperty line) = 2
-failure_status (failure.BadKeys name number code) = 2
-failure_status (failure.BadTrace name fault) = 2
-failure_status (failure.NoPage code) = 2
 failure_status (failure.CannotRead name error) = 3
 failure_status (failure.TooLong name most) = 3
 failure_status (failure.CannotWrite name error) = 3
@@ -54,6 +44,7 @@ failure_status failure.Input = 3
 failure_status failure.Output = 3
 failure_status failure.TooMuchInput = 3
 failure_status failure.OutOfMemory = 4
+failure_status _ = 2
 
 -- the status after a way to end and a flush: a flush that failed takes the place of a good ending
 -- alone
@@ -128,10 +119,8 @@ module _ {R W : Type 0} (remaining : R → Option (List ℕ)) (contents : W → 
     pub status_is : status ≡ status_of (result_after served) flushed
 
 abbrev pub settings_failure : SetError → Failure
-settings_failure set.RateOutOfRange = failure.BadTape
-settings_failure set.TapeLength = failure.BadTape
-settings_failure set.SpacingOutOfRange = failure.BadTape
 settings_failure set.OutOfMemory = failure.OutOfMemory
+settings_failure _ = failure.BadTape
 
 abbrev pub no_memory : Failure
 no_memory = failure.OutOfMemory

@@ -12,7 +12,7 @@ use std::alloc::{AllocError, Global};
 
 /// What a search says of a property of this kind.
 #[derive(Clone, Copy)]
-pub(crate) struct Answer<'a> {
+pub(crate) struct Finding<'a> {
     pub(crate) kind: Kind,
     pub(crate) outcome: &'a Outcome,
     /// It says so whenever the timers tick, and that is asked for.
@@ -27,7 +27,7 @@ pub(crate) struct Place<'a> {
     pub(crate) text: &'a [u8],
 }
 
-impl Answer<'_> {
+impl Finding<'_> {
     /// Adds what is printed of the answer: a line, or a JSON object.
     pub(crate) fn push(
         &self,
@@ -230,16 +230,10 @@ fn push_further_events(text: &mut Vec<u8>, events: &[KeyEvent]) -> Result<(), Al
     ensures { OnOk result (text.new.items ≡ text.old.items ++ flat_map further_event events.now) }
 {
     for event in events {
-        push_further_event(text, event)?;
+        text.extend_from_slice(b",")?;
+        push_key_event(text, event)?;
     }
     Ok(())
-}
-
-fn push_further_event(text: &mut Vec<u8>, event: &KeyEvent) -> Result<(), AllocError>
-    ensures { OnOk result (text.new.items ≡ text.old.items ++ further_event event.now) }
-{
-    text.extend_from_slice(b",")?;
-    push_key_event(text, event)
 }
 
 fn push_key_event(text: &mut Vec<u8>, event: &KeyEvent) -> Result<(), AllocError>

@@ -11,7 +11,8 @@ use std::fmt::Write;
 /// The outcomes of cases, as text.
 #[derive(Drop)]
 pub(crate) struct Report {
-    text: Vec<u8>,
+    /// What is to be printed.
+    pub(crate) text: Vec<u8>,
     is_tap: bool,
     passed: u64,
     failed: u64,
@@ -26,16 +27,6 @@ impl Report {
             passed: 0,
             failed: 0,
         }
-    }
-
-    /// What is to be printed.
-    pub(crate) fn text(&self) -> &[u8] {
-        &self.text
-    }
-
-    /// Forgets what was printed.
-    pub(crate) fn clear(&mut self) {
-        self.text.clear();
     }
 
     /// Adds the outcome of a case of a file.
@@ -152,42 +143,26 @@ fn push_failure(
         }
         Verdict::BadKeys(number, code) => {
             push_place(text, file, case.line, case.name)?;
-            push_refused_line(text, *number, code.0)
+            let mut digits = Buffer::new();
+            let number = digits.format(*number as u64).as_bytes();
+            push_parts(
+                text,
+                &[b"line ", number, b" of the key events: no ", code.0],
+            )?;
+            push_title(text, code.0)?;
+            text.push(b'\n')?;
+            Ok(())
         }
-        Verdict::Answered(others) => push_other_answers(alloc, text, file, case, others),
-    }
-}
-
-// Adds which line of the key events is refused, and why.
-fn push_refused_line(text: &mut Vec<u8>, line: usize, code: &[u8]) -> Result<(), AllocError> {
-    let mut digits = Buffer::new();
-    let number = digits.format(line as u64).as_bytes();
-    push_parts(text, &[b"line ", number, b" of the key events: no ", code])?;
-    push_title(text, code)?;
-    text.push(b'\n')?;
-    Ok(())
-}
-
-// Adds the answers that were not as expected, each after its place.
-fn push_other_answers(
-    alloc: Global,
-    text: &mut Vec<u8>,
-    file: &str,
-    case: &Case<'_>,
-    others: &[Given],
-) -> Result<(), AllocError> {
-    for step in &case.steps {
-        if let Some(given) = answer_at(others, step.line) {
-            push_place(text, file, step.line, case.name)?;
-            push_other_answer(alloc, text, step, given)?;
+        Verdict::Answered(others) => {
+            for step in &case.steps {
+                if let Some(given) = others.iter().find(|given| given.line == step.line) {
+                    push_place(text, file, step.line, case.name)?;
+                    push_other_answer(alloc, text, step, given)?;
+                }
+            }
+            Ok(())
         }
     }
-    Ok(())
-}
-
-// The answer to the command of that line.
-fn answer_at(others: &[Given], line: usize) -> Option<&Given> {
-    others.iter().find(|given| given.line == line)
 }
 
 // Adds the place of a failure: the file, the line and the case.

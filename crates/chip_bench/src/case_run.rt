@@ -1,5 +1,5 @@
 //! A case that is carried out: the answers of its session, beside those that are expected.
-ghost use Rattle.std.specs.Prelude.{◌≡◌, ◌≢◌, ◌↔◌, false, [], IsTrue, IfOk, OnOk, map};
+ghost use Rattle.std.specs.Prelude.{◌≡◌, ◌↔◌, false, [], IsTrue, IfOk, OnOk, map};
 ghost use Rattle.chip_cases.specs.Steps.{expectation_of};
 ghost use Rattle.chip_bench.specs.Testing.{CasePasses, Passes, PassesUnder, has_passed};
 
@@ -54,18 +54,10 @@ pub(crate) fn run_case(
             drop(bench);
             verdict
         }
-        Err(error) => unopened(error),
-    }
-}
-
-// Why a source doesn't open, unless memory ran out.
-fn unopened(error: OpenError) -> Result<Verdict, AllocError>
-    ensures { IfOk result (λ verdict. (has_passed verdict ≡ false)
-        × (error ≢ OpenError.OutOfMemory)) }
-{
-    match error {
-        OpenError::OutOfMemory => Err(AllocError),
-        _ => Ok(Verdict::Unopened(error)),
+        Err(error) => match error {
+            OpenError::OutOfMemory => Err(AllocError),
+            _ => Ok(Verdict::Unopened(error)),
+        },
     }
 }
 

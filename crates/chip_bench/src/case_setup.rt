@@ -3,7 +3,7 @@ ghost use Rattle.std.specs.Prelude.{◌≡◌, ◌≤◌, IfOk, IfErr, Some, len
 ghost use Rattle.chip_arguments.specs.CommandArguments.{ReadsNumber, ReadsOr};
 ghost use Rattle.chip_machine.specs.QuirkList.{quirks_asked};
 ghost use Rattle.chip_bench.specs.SettingArguments.{settings_asked};
-ghost use Rattle.chip_bench.specs.Testing.{IsCaseKeys, IsCaseSource, IsHindrance, IsSourceOfImage, SetBy, text_of};
+ghost use Rattle.chip_bench.specs.Testing.{IsCaseKeys, IsCaseSource, IsHindrance, SetBy, text_of};
 
 use crate::ending::{Failure, TestFault};
 use crate::file_access::FileAccess;
@@ -150,22 +150,13 @@ pub(crate) fn case_source<'a, F: FileAccess>(
         CaseSource::Empty => Ok(Vec::new(system.alloc)),
         CaseSource::Lines(lines) => Ok(Vec::from_slice(system.alloc, lines)?),
         CaseSource::File(placed) => read_named(system, name, placed, MOST_SOURCE),
-        CaseSource::Image(placed) => read_image(system, name, placed),
+        // What `dis` prints of the image.
+        CaseSource::Image(placed) => {
+            let most = IMAGE_BYTES as u32;
+            let image = read_within(system, name, placed, most, "it has over 3584 bytes")?;
+            Ok(source_of_image(system.alloc, &image)?)
+        }
     }
-}
-
-// What `dis` prints of the image in a file, unless it is too long.
-fn read_image<'a, F: FileAccess>(
-    system: &System<'_, F>,
-    name: &'a str,
-    placed: Placed<'_>,
-) -> Result<Vec<u8>, Failure<'a>>
-    ensures ok { IfOk result (λ source. IsSourceOfImage source.items) }
-    ensures err { IfErr result IsHindrance }
-{
-    let most = IMAGE_BYTES as u32;
-    let image = read_within(system, name, placed, most, "it has over 3584 bytes")?;
-    Ok(source_of_image(system.alloc, &image)?)
 }
 
 /// The bytes of a case's file of key events, or none without one.

@@ -1,14 +1,16 @@
 //! `check`: the faults of sources with their places, and their warnings.
-ghost use Rattle.std.specs.Prelude.{◌≡◌, Err, IfOk, false, true};
+ghost use Rattle.std.specs.Prelude.{◌≡◌, IfOk, IsErr, false, true};
+ghost use Rattle.chip_asm.specs.Lines.{lines_of, open_fault};
 ghost use Rattle.chip_asm.specs.Program.{image_of};
-ghost use Rattle.chip_bench.specs.Doing.{Checks, ChecksEach, ChecksOne, paints, worse};
+ghost use Rattle.chip_bench.specs.Doing.{Checks, ChecksEach, paints, worse};
 ghost use Rattle.chip_bench.specs.inner.Covering.{IsCovered};
-ghost use Rattle.chip_bench.specs.Printing.{IsCheckText, IsPrintedCheck, Prints, PrintsSuch, printed, unopened_check};
+ghost use Rattle.chip_bench.specs.inner.Reads.{printed_by};
+ghost use Rattle.chip_bench.specs.Printing.{IsCheckText, IsPrintedCheckOf, printed, unopened_check};
 
 use crate::covering::Covered;
 use crate::ending::{Ending, Failure};
 use crate::file_access::FileAccess;
-use crate::output::{print, unopened_text};
+use crate::output::{Answer, deliver, unopened_text};
 use crate::progress::Progress;
 use crate::reading::read_source;
 use crate::sets::warnings_of;
@@ -117,59 +119,32 @@ impl Checker {
     {
         let mut ending = Ending::Done;
         for name in names {
-            let one = self.check_one(system, name, input, output, watcher)?;
+            let bytes = read_source(system, name, input)?;
+            let answer = self.answer_on(system.alloc, name.as_bytes(), &bytes, watcher);
+            let one = deliver(answer, output)?;
             ending = worse(ending, one);
         }
         Ok(ending)
     }
 
-    fn check_one<'a, F: FileAccess, I: Read, O: Write, W: Watcher>(
-        self,
-        system: &System<'_, F>,
-        name: &'a str,
-        input: &mut Counted<I>,
-        output: &mut Counted<O>,
-        watcher: &mut W,
-    ) -> Result<Ending, Failure<'a>>
-        ensures { ChecksOne I.remaining O.contents self.is_json self.is_painted self.is_alone
-            name.entry input.old input.new output.old output.new result }
-    {
-        let bytes = read_source(system, name, input)?;
-        match Source::open(system.alloc, &bytes) {
-            Ok(source) => {
-                let ended = self.print_found(
-                    system.alloc,
-                    name.as_bytes(),
-                    &source,
-                    output,
-                    watcher,
-                );
-                // A source goes before the next one is read.
-                drop(source);
-                ended
-            }
-            Err(error) => self.refuse(system.alloc, name.as_bytes(), error, output),
-        }
-    }
-
-    // Prints what is found in a source.
-    fn print_found<'a, O: Write, W: Watcher>(
+    // What is found in a source, or why it doesn't open.
+    fn answer_on<W: Watcher>(
         self,
         alloc: Global,
         name: &[u8],
-        source: &Source,
-        output: &mut Counted<O>,
+        bytes: &[u8],
         watcher: &mut W,
-    ) -> Result<Ending, Failure<'a>>
-        ensures { PrintsSuch O.contents output.old output.new
-            (IsPrintedCheck self.is_json self.is_painted name.now source.now.lines) result }
+    ) -> Result<Answer, AllocError>
+        ensures { IfOk result (λ answer. IsPrintedCheckOf self.is_json self.is_painted self.is_alone
+            name.now (open_fault bytes.now) (lines_of bytes.now) (printed_by answer)) }
     {
-        let warnings = self.warnings(alloc, source, watcher)?;
-        let text = self.text_of(alloc, name, source, &warnings)?;
-        match source.image() {
-            Some(_) => print(&text, Ending::Done, output),
-            None => print(&text, Ending::Faulty, output),
-        }
+        let source = match Source::open(alloc, bytes) {
+            Ok(source) => source,
+            Err(error) => return self.unopened(alloc, name, error),
+        };
+        let warnings = self.warnings(alloc, &source, watcher)?;
+        let text = self.text_of(alloc, name, &source, &warnings)?;
+        Ok(Answer::on(&source, text))
     }
 
     // The warnings of a source.
@@ -225,34 +200,24 @@ impl Checker {
         }
     }
 
-    // Prints why a source doesn't open.
-    pub(crate) fn refuse<'a, O: Write>(
+    // Why a source doesn't open: an object, or its code, after its name where there are others.
+    pub(crate) fn unopened(
         self,
         alloc: Global,
         name: &[u8],
         error: OpenError,
-        output: &mut Counted<O>,
-    ) -> Result<Ending, Failure<'a>>
-        ensures why { Prints O.contents output.old output.new
-            (printed (unopened_check self.is_json self.is_alone name.now error) Ending.Faulty)
-            result }
-        ensures memory { error ≡ OpenError.OutOfMemory
-            → (result ≡ Err Failure.OutOfMemory) × (output.new ≡ output.old) }
+    ) -> Result<Answer, AllocError>
+        ensures answer { IfOk result (λ answer. printed_by answer ≡ printed
+            (unopened_check self.is_json self.is_alone name.now error) Ending.Faulty) }
+        ensures memory { error ≡ OpenError.OutOfMemory → IsErr result }
     {
         if error == OpenError::OutOfMemory {
-            return Err(Failure::OutOfMemory);
+            return Err(AllocError);
         }
-        let text = self.unopened(alloc, name, error)?;
-        print(&text, Ending::Faulty, output)
-    }
-
-    // Why a source doesn't open: an object, or its code, after its name where there are others.
-    fn unopened(self, alloc: Global, name: &[u8], error: OpenError) -> Result<Vec<u8>, AllocError>
-        ensures { IfOk result (λ text.
-            text.items ≡ unopened_check self.is_json self.is_alone name.now error) }
-    {
+        let ending = Ending::Faulty;
         if self.is_json {
-            return unopened_json(alloc, name, error);
+            let text = unopened_json(alloc, name, error)?;
+            return Ok(Answer { text, ending });
         }
         let mut text = Vec::new(alloc);
         if !self.is_alone {
@@ -260,6 +225,6 @@ impl Checker {
             text.extend_from_slice(b": ")?;
         }
         text.extend_from_slice(unopened_text(error))?;
-        Ok(text)
+        Ok(Answer { text, ending })
     }
 }

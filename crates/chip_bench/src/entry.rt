@@ -1,16 +1,14 @@
 //! The program behind `main`.
-ghost use Rattle.std.specs.Prelude.{◌≡◌, [], ◌∷◌, ◌⊎◌, map, Ok, OnOk};
-ghost use Rattle.std.specs.Str.Lines.{lines};
+ghost use Rattle.std.specs.Prelude.{◌≡◌, [], ◌∷◌, ◌⊎◌, map, Ok};
 ghost use Rattle.clap.specs.Words.{kind_of};
 ghost use Rattle.chip_asm.specs.Program.{image_of};
 ghost use Rattle.chip_arguments.specs.Version.{version_text};
 ghost use Rattle.chip_bench.specs.Printing.{Prints, printed, printed_table};
 ghost use Rattle.chip_session.specs.Settings.{default_settings};
-ghost use Rattle.chip_bench.specs.Tracing.{below_machine, header_of, lines_after};
 ghost use Rattle.chip_bench.specs.Running.{AnswersScript, RunsSession, status_of, failure_status, AreFaulty, IsWithoutArguments};
 ghost use Rattle.chip_bench.specs.inner.Reads.{IsUsage};
 ghost use Rattle.chip_bench.specs.inner.Written.{IsFoundWritten, IsImageWritten};
-ghost use Rattle.chip_bench.specs.Doing.{Assembles, AssemblesBy, Debugs, Disassembles, Does, Ends, Performs, PrintsText, Runs, ShowsHelp, ShowsVersion, Tells, Traces, TracesAlone, TracesBeside, first_shown, form_of};
+ghost use Rattle.chip_bench.specs.Doing.{Assembles, AssemblesBy, Debugs, Disassembles, Does, Ends, Performs, PrintsText, Runs, ShowsHelp, ShowsVersion, Tells};
 ghost use Rattle.chip_arguments.specs.CommandArguments.{argument_faults};
 ghost use Rattle.std.specs.Io.KnownBytes.{Keeps};
 ghost use Rattle.std.specs.IoError.{error_kind};
@@ -19,27 +17,22 @@ use crate::checking::check;
 use crate::ending::{Ending, Failure};
 use crate::exploring::explore;
 use crate::file_access::FileAccess;
-use crate::limits::TRACE_FILE_BYTES;
 use crate::opening::open_under;
 use crate::output::{
-    Table, deliver, explain, faults, print, print_version, refuse_source, run_at, tabulate,
+    Table, deliver, explain, faults, print, refuse_source, run_at, tabulate, version,
 };
 use crate::picturing::picture;
 use crate::proving::prove;
 use crate::reading::{
-    Asked, MOST_SOURCE, as_source, file_name, read_asked, read_given, read_source, settings_of,
+    AskedRun, MOST_SOURCE, as_source, file_name, read_asked, read_given, read_source, settings_of,
 };
 use crate::system::System;
 use crate::terminal::{Begun, answer_begun};
 use crate::testing::test_files;
-use crate::tracing::{Beside, Shown, compare_source, trace_source};
-use chip_arguments::{
-    CommandLine, RunArguments, SettingArguments, TraceArguments, not_text, parse_arguments,
-};
+use crate::tracing::trace;
+use chip_arguments::{CommandLine, RunArguments, SettingArguments, not_text, parse_arguments};
 use chip_asm::Source;
-use chip_files::first_line;
 use chip_session::Counted;
-use chip_trace::{Columns, Form, HeaderError, names_machine};
 use clap::error::ErrorKind;
 use std::alloc::Global;
 use std::convert::AsStr;
@@ -197,7 +190,10 @@ fn perform<'a, F: FileAccess + Clock, I: Read, O: Write, E: Write>(
         CommandLine::Test(arguments) => test_files(system, arguments, output),
         CommandLine::Explore(arguments) => explore(system, arguments, input, output, errors),
         CommandLine::Prove(arguments) => prove(system, arguments, input, output, errors),
-        CommandLine::Explain { code } => explain(system.alloc, *code, output),
+        CommandLine::Explain { code } => {
+            let answer = explain(system.alloc, *code)?;
+            deliver(Ok(answer), output)
+        }
     }
 }
 
@@ -213,7 +209,7 @@ fn show_help<'a, O: Write>(
         → PrintsText O.contents output.old output.new result }
 {
     match help.kind() {
-        ErrorKind::DisplayVersion => print_version(alloc, output),
+        ErrorKind::DisplayVersion => deliver(version(alloc), output),
         _ => {
             let text = format!(in alloc; "{help}")?;
             print(text.as_bytes(), Ending::Done, output)
@@ -355,7 +351,7 @@ fn run<'a, F: FileAccess, I: Read, O: Write, E: Write>(
     ensures { Runs I.remaining O.contents input.old input.new output.old output.new
         arguments.entry.now result }
 {
-    let Asked {
+    let AskedRun {
         source,
         keys,
         settings,
@@ -370,110 +366,4 @@ fn run<'a, F: FileAccess, I: Read, O: Write, E: Write>(
         }
         Err(error) => refuse_source(error, output),
     }
-}
-
-fn trace<'a, F: FileAccess, I: Read, O: Write, E: Write>(
-    system: &System<'_, F>,
-    arguments: &TraceArguments<'a>,
-    input: &mut Counted<I>,
-    output: &mut Counted<O>,
-    errors: &mut E,
-) -> Result<Ending, Failure<'a>>
-    ensures { Traces I.remaining O.contents input.old input.new output.old output.new
-        arguments.entry.now result }
-{
-    let asked = read_asked(system, &arguments.run, input, errors)?;
-    match arguments.against {
-        None => trace_alone(system.alloc, arguments, asked, output),
-        Some(name) => {
-            let theirs = system.read_within(name, TRACE_FILE_BYTES)?;
-            trace_beside(system.alloc, arguments, asked, name, &theirs, output)
-        }
-    }
-}
-
-fn trace_alone<'a, O: Write>(
-    alloc: Global,
-    arguments: &TraceArguments<'a>,
-    asked: Asked<'a>,
-    output: &mut Counted<O>,
-) -> Result<Ending, Failure<'a>>
-    ensures { TracesAlone O.contents output.old output.new arguments.entry.now asked.entry.settings
-        asked.entry.keys.bytes.items asked.entry.source.items result }
-{
-    let shown = Shown {
-        columns: Columns::usual(alloc, arguments.sums)?,
-        form: form_of(arguments.is_json),
-        from: first_shown(arguments),
-        to: arguments.run.steps,
-    };
-    trace_source(alloc, asked, &shown, output)
-}
-
-// The first step that a trace shows: its last one, where the arguments name a later one.
-fn first_shown(arguments: &TraceArguments<'_>) -> u32
-    ensures { result ≡ first_shown arguments.now }
-{
-    arguments.from.min(arguments.run.steps)
-}
-
-// How the lines of a trace show their columns.
-fn form_of(is_json: bool) -> Form
-    ensures { result ≡ form_of is_json }
-{
-    if is_json { Form::Json } else { Form::Fields }
-}
-
-// The line of a trace that names its columns, and what follows it. The line above it may name the
-// machine.
-fn split_header(trace: &[u8]) -> (&[u8], &[u8])
-    ensures header { result.0.now ≡ header_of (below_machine (lines trace.now)) }
-    ensures rest { lines result.1.now ≡ lines_after (below_machine (lines trace.now)) }
-{
-    let (first, rest) = split_line(trace);
-    if names_machine(first) {
-        return split_line(rest);
-    }
-    (first, rest)
-}
-
-// The first line of a text, and what follows it.
-fn split_line(text: &[u8]) -> (&[u8], &[u8])
-    ensures first { result.0.now ≡ header_of (lines text.now) }
-    ensures rest { lines result.1.now ≡ lines_after (lines text.now) }
-{
-    if text.is_empty() {
-        return (text, text);
-    }
-    first_line(text)
-}
-
-// The first line of a trace names its columns.
-fn trace_beside<'a, O: Write>(
-    alloc: Global,
-    arguments: &TraceArguments<'a>,
-    asked: Asked<'a>,
-    name: &'a str,
-    trace: &[u8],
-    output: &mut Counted<O>,
-) -> Result<Ending, Failure<'a>>
-    ensures { TracesBeside O.contents output.old output.new arguments.entry.now asked.entry.settings
-        asked.entry.keys.bytes.items asked.entry.source.items name.entry (lines trace.now) result }
-{
-    let (header, theirs) = split_header(trace);
-    let columns = match Columns::read_header(alloc, header) {
-        Ok(columns) => columns,
-        Err(HeaderError::OutOfMemory) => return Err(Failure::OutOfMemory),
-        Err(fault) => return Err(Failure::BadTrace(name, fault)),
-    };
-    let beside = Beside {
-        shown: Shown {
-            columns,
-            form: Form::Fields,
-            from: first_shown(arguments),
-            to: arguments.run.steps,
-        },
-        theirs,
-    };
-    compare_source(alloc, asked, &beside, output)
 }

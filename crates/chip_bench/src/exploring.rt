@@ -1,13 +1,10 @@
 //! `explore`: what a search over all key scripts answers of a source's image.
-ghost use Rattle.std.specs.Prelude.{◌≡◌, ◌⊎◌, ◌<◌, ◌∷◌, [], ◌++◌, ℕ, List, Ok, IfOk, IfErr, MatchOption, OnOk, option_copied};
-ghost use Rattle.std.specs.Borrow.{Bor};
-ghost use Rattle.chip_asm.specs.Lines.{lines_of, open_fault};
+ghost use Rattle.std.specs.Prelude.{◌≡◌, ◌<◌, ◌∷◌, [], ◌++◌, ℕ, List, Ok, IfOk, IfErr, OnOk, option_copied};
 ghost use Rattle.chip_asm.specs.Program.{symbols_of};
 ghost use Rattle.chip_machine.specs.Start.{start_of};
 ghost use Rattle.chip_bench.specs.Doing.{Explores, IsBadProperty, IsScriptUnwritten, Searches, SearchesFrom};
 ghost use Rattle.chip_bench.specs.inner.Written.{IsNamedWritten, IsScriptWritten};
-ghost use Rattle.chip_bench.specs.Printing.{IfOpens};
-ghost use Rattle.chip_bench.specs.Exploring.{AsksProperty, StatesOne, address_of, answer_lines, cause_word, covering_text, first_lines, in_memory, met_line, met_word, number_line, search_ending, target_asked};
+ghost use Rattle.chip_bench.specs.Exploring.{AsksProperty, StatesOne, address_of, answer_lines, cause_word, covering_text, in_memory, met_line, met_word, number_line, search_ending, target_asked};
 
 use crate::ending::{Ending, Failure, Report};
 use crate::file_access::FileAccess;
@@ -52,37 +49,14 @@ pub(crate) fn explore<'a, F: FileAccess + Clock, I: Read, O: Write, E: Write>(
     let source = read_given(system, name, arguments.is_image, input, errors)?;
     let is_shown = system.host.has_reader || arguments.search.is_progress_shown;
     let mut progress = Progress::new(errors, is_shown, system.files, None);
-    let wanted = Wanted {
+    let wanted = AskedSearch {
         arguments,
         settings: &settings,
         sets,
     };
-    search_source(system, &wanted, source, output, &mut progress)
-}
-
-/// What is asked of a source.
-#[derive(Clone, Copy)]
-struct Wanted<'p, 'a> {
-    arguments: &'p ExploreArguments<'a>,
-    settings: &'p Settings,
-    sets: Sets,
-}
-
-fn search_source<'a, F: FileAccess, O: Write, T: Teller>(
-    system: &System<'_, F>,
-    wanted: &Wanted<'_, 'a>,
-    source: Vec<u8>,
-    output: &mut Counted<O>,
-    teller: &mut T,
-) -> Result<Ending, Failure<'a>>
-    ensures { IfOpens O.contents output.old output.new (open_fault source.items)
-        (Searches O.contents output.old output.new wanted.now.arguments.now
-        wanted.now.settings.now wanted.now.sets.causes wanted.now.sets.keys
-        (lines_of source.items)) result }
-{
     match Source::open_bytes(system.alloc, source) {
         Ok(opened) => {
-            let ended = search_opened(system, wanted, &opened, output, teller);
+            let ended = search_opened(system, &wanted, &opened, output, &mut progress);
             // The program ends here, and its memory goes back at once.
             mem::forget(opened);
             ended
@@ -91,9 +65,17 @@ fn search_source<'a, F: FileAccess, O: Write, T: Teller>(
     }
 }
 
+/// What is asked of a source.
+#[derive(Clone, Copy)]
+struct AskedSearch<'p, 'a> {
+    arguments: &'p ExploreArguments<'a>,
+    settings: &'p Settings,
+    sets: Sets,
+}
+
 fn search_opened<'a, F: FileAccess, O: Write, T: Teller>(
     system: &System<'_, F>,
-    wanted: &Wanted<'_, 'a>,
+    wanted: &AskedSearch<'_, 'a>,
     source: &Source,
     output: &mut Counted<O>,
     teller: &mut T,
@@ -101,7 +83,7 @@ fn search_opened<'a, F: FileAccess, O: Write, T: Teller>(
     ensures { Searches O.contents output.old output.new wanted.now.arguments.now
         wanted.now.settings.now wanted.now.sets.causes wanted.now.sets.keys source.now.lines result }
 {
-    let Wanted {
+    let AskedSearch {
         arguments,
         settings,
         sets,
@@ -358,7 +340,7 @@ fn search_text(
         ++ covering_text arguments.now.is_covering explored.now.executed source.now.lines)) }
 {
     let mut text = Vec::new(alloc);
-    push_answer(&mut text, arguments.search.is_any_speed, explored, place)?;
+    push_first_lines(&mut text, arguments.search.is_any_speed, explored, place)?;
     text.extend_from_slice(&lines_below(alloc, explored)?)?;
     if arguments.is_covering {
         text.extend_from_slice(&marked_listing(alloc, source, &explored.executed)?)?;
@@ -378,7 +360,7 @@ fn search_ending(explored: &Explored) -> Ending
 }
 
 // What is printed first of what a search found, where an answer at any speed may be asked for.
-fn push_answer(
+fn push_first_lines(
     text: &mut Vec<u8>,
     is_any_speed: bool,
     explored: &Explored,
@@ -388,18 +370,9 @@ fn push_answer(
         ≡ text.old.items ++ answer_lines is_any_speed place.now explored.now) }
 {
     if is_any_speed && explored.is_at_any_speed {
-        text.extend_from_slice(b"never at any speed\n")
-    } else {
-        push_first_lines(text, &explored.outcome, place)
+        return text.extend_from_slice(b"never at any speed\n");
     }
-}
-
-// What is printed first of what a search found.
-fn push_first_lines(text: &mut Vec<u8>, outcome: &Outcome, place: &[u8]) -> Result<(), AllocError>
-    ensures { OnOk result (text.new.items
-        ≡ text.old.items ++ first_lines place.now outcome.now) }
-{
-    match outcome {
+    match &explored.outcome {
         Outcome::Found { events, step, met } => {
             push_met(text, *met, *step, place)?;
             push_line(text, b"keys ", events.len() as u64)

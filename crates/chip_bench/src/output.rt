@@ -1,11 +1,10 @@
 //! What each command reads and prints, from the bytes of a source.
-ghost use Rattle.std.specs.Prelude.{◌≡◌, IfOk, IsErr};
-ghost use Rattle.chip_asm.specs.Lines.{lines_of, open_fault};
-ghost use Rattle.chip_asm.specs.Program.{image_of, symbols_of};
-ghost use Rattle.chip_session.specs.Transcript.{refused};
-ghost use Rattle.chip_bench.specs.Printing.{Prints, Refuses, printed, printed_faults, printed_run, printed_picture, printed_table, listing_shown, symbols_shown, unanswered, unopened_text, Printed};
+ghost use Rattle.std.specs.Prelude.{◌≡◌, ◌++◌, Err, IfErr, IfOk, IsErr};
+ghost use Rattle.chip_session.specs.Text.{full_stop};
+ghost use Rattle.chip_asm.specs.Program.{image_of};
+ghost use Rattle.chip_bench.specs.Printing.{Prints, ending_with, Refuses, printed, printed_faults, printed_run, printed_picture, printed_table, unanswered, unopened_text, Printed};
 ghost use Rattle.chip_bench.specs.Running.{AnswersScript};
-ghost use Rattle.chip_bench.specs.Doing.{Explains, IsShort};
+ghost use Rattle.chip_bench.specs.Doing.{IsExplanation, IsUnexplained};
 ghost use Rattle.chip_bench.specs.inner.Reads.{printed_by};
 ghost use Rattle.chip_arguments.specs.Version.{version_text};
 
@@ -62,65 +61,63 @@ pub(crate) fn tabulate(
 ) -> Result<Answer, AllocError>
     ensures { IfOk result (λ answer. printed_by answer ≡ printed_table table is_hex source.now.lines) }
 {
-    match (table, source.image()) {
-        (Table::Listing, Some(_)) => Ok(Answer {
-            text: listing_shown(alloc, source, is_hex)?,
-            ending: Ending::Done,
-        }),
-        (Table::Listing, None) => Ok(Answer {
-            text: listing_shown(alloc, source, is_hex)?,
-            ending: Ending::Faulty,
-        }),
-        (Table::Symbols, Some(_)) => Ok(Answer {
-            text: symbols_shown(alloc, source, is_hex)?,
-            ending: Ending::Done,
-        }),
-        (Table::Symbols, None) => faults(alloc, source),
+    match (table, is_hex, source.image()) {
+        (Table::Symbols, _, None) => faults(alloc, source),
+        (Table::Symbols, false, Some(_)) => Ok(Answer::on(source, symbols_answer(alloc, source)?)),
+        (Table::Symbols, true, Some(_)) => {
+            let table = hex_symbols(alloc, source)?;
+            Ok(Answer::on(source, with_stop(table)?))
+        }
+        (Table::Listing, false, _) => Ok(Answer::on(source, listing_answer(alloc, source)?)),
+        (Table::Listing, true, _) => {
+            let table = hex_listing(alloc, source)?;
+            Ok(Answer::on(source, with_stop(table)?))
+        }
     }
 }
 
-// The answer of `syms`, with values in decimal or in hexadecimal.
-fn symbols_shown(alloc: Global, source: &Source, is_hex: bool) -> Result<Vec<u8>, AllocError>
-    ensures { IfOk result (λ table.
-        table.items ≡ symbols_shown is_hex (symbols_of source.now.lines)) }
+// A table and the full stop below it.
+fn with_stop(mut table: Vec<u8>) -> Result<Vec<u8>, AllocError>
+    ensures { IfOk result (λ ended. ended.items ≡ table.items ++ full_stop) }
 {
-    if is_hex {
-        let mut table = hex_symbols(alloc, source)?;
-        table.extend_from_slice(b".\n")?;
-        return Ok(table);
-    }
-    symbols_answer(alloc, source)
+    table.extend_from_slice(b".\n")?;
+    Ok(table)
 }
 
 /// `explain`: the page on a code, or all codes.
-pub(crate) fn explain<'a, O: Write>(
-    alloc: Global,
-    code: Option<&'a str>,
-    output: &mut Counted<O>,
-) -> Result<Ending, Failure<'a>>
-    ensures { Explains O.contents output.old output.new code.entry result }
+pub(crate) fn explain<'a>(alloc: Global, code: Option<&'a str>) -> Result<Answer, Failure<'a>>
+    ensures ok { IfOk result (λ answer. IsExplanation code.entry (printed_by answer)) }
+    ensures err { IfErr result (IsUnexplained code.entry) }
 {
     let Some(code) = code else {
-        return print(&contents(alloc)?, Ending::Done, output);
+        let text = contents(alloc)?;
+        return Ok(Answer {
+            text,
+            ending: Ending::Done,
+        });
     };
-    match page_text(alloc, code)? {
-        Some(page) => print(&page, Ending::Done, output),
+    let page = page_text(alloc, code)?;
+    match page {
+        Some(text) => Ok(Answer {
+            text,
+            ending: Ending::Done,
+        }),
         None => Err(Failure::NoPage(code)),
     }
 }
 
 /// `--version`: the program's name and version.
-pub(crate) fn print_version<'a, O: Write>(
-    alloc: Global,
-    output: &mut Counted<O>,
-) -> Result<Ending, Failure<'a>>
-    ensures { Prints O.contents output.old output.new (printed version_text Ending.Done) result }
+pub(crate) fn version(alloc: Global) -> Result<Answer, AllocError>
+    ensures { IfOk result (λ answer. printed_by answer ≡ printed version_text Ending.Done) }
 {
     let mut text = Vec::new(alloc);
     text.extend_from_slice(b"chipbench ")?;
     text.extend_from_slice(VERSION.as_bytes())?;
     text.extend_from_slice(b"\n")?;
-    print(&text, Ending::Done, output)
+    Ok(Answer {
+        text,
+        ending: Ending::Done,
+    })
 }
 
 /// What a command prints on standard output, and how it ends then.
@@ -130,13 +127,33 @@ pub(crate) struct Answer {
     pub(crate) ending: Ending,
 }
 
+impl Answer {
+    /// A text on a source, which is faulty where it has no image.
+    pub(crate) fn on(source: &Source, text: Vec<u8>) -> Answer
+        ensures { printed_by result ≡ printed text.items (ending_with (image_of source.now.lines)) }
+    {
+        match source.image() {
+            Some(_) => Answer {
+                text,
+                ending: Ending::Done,
+            },
+            None => Answer {
+                text,
+                ending: Ending::Faulty,
+            },
+        }
+    }
+}
+
 /// Prints an answer, unless memory ran out for it.
 pub(crate) fn deliver<'a, O: Write>(
     answer: Result<Answer, AllocError>,
     output: &mut Counted<O>,
 ) -> Result<Ending, Failure<'a>>
-    ensures { (wanted : Printed) → IfOk answer (λ given. printed_by given ≡ wanted)
+    ensures wanted { (wanted : Printed) → IfOk answer (λ given. printed_by given ≡ wanted)
         → Prints O.contents output.old output.new wanted result }
+    ensures short { IfErr answer (λ e. (result ≡ Err Failure.OutOfMemory)
+        × (output.new ≡ output.old)) }
 {
     match answer {
         Ok(answer) => print(&answer.text, answer.ending, output),
@@ -190,20 +207,15 @@ pub(crate) fn unanswered(alloc: Global, bench: &Bench, why: Refusal) -> Result<A
     match why {
         Refusal::NoImage => faults(alloc, bench.source()),
         Refusal::AnswerMemory => Err(AllocError),
-        _ => refusal(alloc, why.code()),
+        _ => {
+            let mut text = Vec::new(alloc);
+            refuse(&mut text, why.code())?;
+            Ok(Answer {
+                text,
+                ending: Ending::Faulty,
+            })
+        }
     }
-}
-
-fn refusal(alloc: Global, code: &[u8]) -> Result<Answer, AllocError>
-    ensures { IfOk result (λ answer.
-        printed_by answer ≡ printed (refused code.now) Ending.Faulty) }
-{
-    let mut text = Vec::new(alloc);
-    refuse(&mut text, code)?;
-    Ok(Answer {
-        text,
-        ending: Ending::Faulty,
-    })
 }
 
 pub(crate) fn faults(alloc: Global, source: &Source) -> Result<Answer, AllocError>
@@ -213,18 +225,6 @@ pub(crate) fn faults(alloc: Global, source: &Source) -> Result<Answer, AllocErro
         text: faults_answer(alloc, source)?,
         ending: Ending::Faulty,
     })
-}
-
-// The answer of `list`, with values in decimal or in hexadecimal.
-fn listing_shown(alloc: Global, source: &Source, is_hex: bool) -> Result<Vec<u8>, AllocError>
-    ensures { IfOk result (λ listing. listing.items ≡ listing_shown is_hex source.now.lines) }
-{
-    if !is_hex {
-        return listing_answer(alloc, source);
-    }
-    let mut listing = hex_listing(alloc, source)?;
-    listing.extend_from_slice(b".\n")?;
-    Ok(listing)
 }
 
 // Prints why a source doesn't open.

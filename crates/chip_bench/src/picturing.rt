@@ -8,7 +8,7 @@ use crate::ending::{Ending, Failure};
 use crate::file_access::FileAccess;
 use crate::opening::open_under;
 use crate::output::{deliver, picture_at, refuse_source};
-use crate::reading::{Asked, file_name, read_asked};
+use crate::reading::{AskedRun, file_name, read_asked};
 use crate::system::System;
 use chip_arguments::PictureArguments;
 use chip_session::{Bench, Counted, PictureForm};
@@ -27,7 +27,7 @@ pub(crate) fn picture<'a, F: FileAccess, I: Read, O: Write, E: Write>(
     ensures { Pictures I.remaining O.contents input.old input.new output.old output.new
         arguments.now result }
 {
-    let Asked {
+    let AskedRun {
         source,
         keys,
         settings,

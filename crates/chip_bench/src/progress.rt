@@ -39,21 +39,19 @@ impl<'e, E: Write, C: Clock> Progress<'e, E, C> {
         clock: &'e C,
         seconds: Option<u32>,
     ) -> Progress<'e, E, C> {
+        let end = match seconds {
+            Some(seconds) => match Instant::now(clock) {
+                Ok(now) => now.checked_add(Duration::from_secs(u64::from(seconds))),
+                Err(_) => None,
+            },
+            None => None,
+        };
         Progress {
             errors,
             is_shown,
             clock,
-            end: end_after(clock, seconds),
+            end,
         }
-    }
-}
-
-// The time in so many seconds.
-fn end_after<C: Clock>(clock: &C, seconds: Option<u32>) -> Option<Instant> {
-    let seconds = u64::from(seconds?);
-    match Instant::now(clock) {
-        Ok(now) => now.checked_add(Duration::from_secs(seconds)),
-        Err(_) => None,
     }
 }
 

@@ -1,25 +1,23 @@
 //! `prove`: what searches over all key scripts answer of the properties that a source states.
-ghost use Rattle.std.specs.Prelude.{◌≡◌, ◌⊎◌, ◌<◌, ◌||◌, ◌∷◌, [], ℕ, List, Ok, Some, None, true, IfOk, IfErr, IfSome, MatchOption, OnOk, ◌++◌, filter, length, slice_get, option_copied};
+ghost use Rattle.std.specs.Prelude.{◌≡◌, ◌⊎◌, ◌<◌, ◌||◌, [], ℕ, List, Ok, Some, None, true, IfOk, IfErr, IfSome, OnOk, ◌++◌, filter, length, slice_get};
 ghost use Rattle.std.specs.List.{flat_map, list_any, remove};
-ghost use Rattle.chip_asm.specs.Lines.{lines_of};
 ghost use Rattle.chip_explore.specs.Answers.{Answers};
 ghost use Rattle.chip_explore.specs.OneOf.{told_of};
 ghost use Rattle.chip_explore.specs.Speeds.{NeverAtAnySpeed};
 ghost use Rattle.chip_explore.specs.declared.property.Property.{Property};
-ghost use Rattle.chip_machine.specs.Start.{start_of};
 ghost use Rattle.chip_properties.specs.Properties.{AreProperties};
 ghost use Rattle.chip_properties.specs.declared.properties.Properties.{Properties};
 ghost use Rattle.chip_properties.specs.declared.stated.Stated.{Stated};
-ghost use Rattle.chip_bench.specs.Doing.{Fails, IsScriptUnwritten, IsShort, IsUnwritten, Proves, ProvesAsked, ProvesBy, ProvesFrom, ProvesWith, image_in};
-ghost use Rattle.chip_bench.specs.Proving.{asked_of, has_faults, is_asked, is_bad, looks_for, proof_ending, text_at};
+ghost use Rattle.chip_bench.specs.Doing.{Fails, IsScriptUnwritten, IsShort, IsUnwritten, Proves, ProvesBy, ProvesFrom, ProvesWith, image_in};
+ghost use Rattle.chip_bench.specs.Proving.{has_faults, is_asked, is_bad, looks_for, proof_ending, text_at};
 ghost use Rattle.chip_bench.specs.inner.Proofs.{IsAnswering, IsLeft, IsUnmet, WritesAll, met_property, missing_line, printed_head};
 
-use crate::answer::{Answer, Place, is_bad};
+use crate::answer::{Finding, Place, is_bad};
 use crate::checking::Checker;
 use crate::ending::{Ending, Failure};
 use crate::exploring::{bounds_of, machine_of, script_text};
 use crate::file_access::FileAccess;
-use crate::output::print;
+use crate::output::{deliver, print};
 use crate::progress::{News, Progress, Teller};
 use crate::reading::{file_name, read_source, settings_of};
 use crate::sets::keys_of;
@@ -55,7 +53,7 @@ pub(crate) fn prove<'a, F: FileAccess + Clock, I: Read, O: Write, E: Write>(
     let settings = settings_of(system.alloc, &arguments.search.settings)?;
     let keys = keys_of(arguments.search.allowed_keys)?;
     let bytes = read_source(system, arguments.search.source, input)?;
-    let asked = Asked {
+    let asked = AskedProof {
         arguments,
         settings: &settings,
         keys,
@@ -65,7 +63,7 @@ pub(crate) fn prove<'a, F: FileAccess + Clock, I: Read, O: Write, E: Write>(
 
 /// What is asked of a source.
 #[derive(Clone, Copy)]
-struct Asked<'p, 'a> {
+struct AskedProof<'p, 'a> {
     arguments: &'p ProveArguments<'a>,
     settings: &'p Settings,
     /// The keys that a player has, key k at bit k.
@@ -74,7 +72,7 @@ struct Asked<'p, 'a> {
 
 fn prove_source<'a, F: FileAccess, O: Write, T: Teller>(
     system: &System<'_, F>,
-    asked: &Asked<'_, 'a>,
+    asked: &AskedProof<'_, 'a>,
     bytes: &[u8],
     output: &mut Counted<O>,
     teller: &mut T,
@@ -91,36 +89,20 @@ fn prove_source<'a, F: FileAccess, O: Write, T: Teller>(
                 let text = checker.text_of(system.alloc, name, &source, &[])?;
                 return print(&text, Ending::Faulty, output);
             };
-            prove_image(system, asked, &source, image, output, teller)
+            let settings = asked.settings;
+            let start = machine_of(system.alloc, image, settings.tape(), settings.quirks())?;
+            let prover = Prover {
+                system,
+                arguments,
+                source: &source,
+                start: &start,
+                rate: settings.rate(),
+                keys: asked.keys,
+            };
+            prover.prove(output, teller)
         }
-        Err(error) => checker.refuse(system.alloc, name, error, output),
+        Err(error) => deliver(checker.unopened(system.alloc, name, error), output),
     }
-}
-
-fn prove_image<'a, F: FileAccess, O: Write, T: Teller>(
-    system: &System<'_, F>,
-    asked: &Asked<'_, 'a>,
-    source: &Source,
-    image: &[u8],
-    output: &mut Counted<O>,
-    teller: &mut T,
-) -> Result<Ending, Failure<'a>>
-    ensures { ((properties : Properties) × AreProperties source.now.lines properties
-        × ProvesAsked O.contents output.old output.new asked.now.arguments.now asked.now.settings.now
-        asked.now.keys image.now source.now.lines properties result)
-        ⊎ Fails O.contents output.old output.new IsShort result }
-{
-    let settings = asked.settings;
-    let start = machine_of(system.alloc, image, settings.tape(), settings.quirks())?;
-    let prover = Prover {
-        system,
-        arguments: asked.arguments,
-        source,
-        start: &start,
-        rate: settings.rate(),
-        keys: asked.keys,
-    };
-    prover.prove(output, teller)
 }
 
 /// What properties are answered by, and how the answers are told.
@@ -164,7 +146,7 @@ pub(crate) struct Told {
 }
 
 /// Which script a file has.
-#[derive(Clone, Copy, PartialEq, Eq)]
+#[derive(Clone, Copy)]
 pub(crate) enum Written {
     Nothing,
     /// That of an `ever`.
@@ -307,21 +289,22 @@ impl<'p, 'a, F: FileAccess> Prover<'p, 'a, F> {
         let arguments = self.arguments;
         let mut text = Vec::new(self.system.alloc);
         for fault in faults {
-            if is_asked(arguments.only, fault.line) {
-                self.push_report(&mut text, fault)?;
+            if is_asked(arguments.only, fault.line)
+                && let Some(line) = self.source.line(fault.line)
+            {
+                let name = arguments.search.source.as_bytes();
+                let is_json = arguments.is_json;
+                push_property_fault(
+                    self.system.alloc,
+                    &mut text,
+                    is_json,
+                    name,
+                    line.text(),
+                    fault,
+                )?;
             }
         }
         Ok(text)
-    }
-
-    fn push_report(&self, text: &mut Vec<u8>, fault: &PropertyFault) -> Result<(), AllocError> {
-        let Some(line) = self.source.line(fault.line) else {
-            return Ok(());
-        };
-        let arguments = self.arguments;
-        let name = arguments.search.source.as_bytes();
-        let is_json = arguments.is_json;
-        push_property_fault(self.system.alloc, text, is_json, name, line.text(), fault)
     }
 
     /// Answers properties, search by search: one that is met is told at once, and left out of the next
@@ -445,7 +428,7 @@ impl<'p, 'a, F: FileAccess> Prover<'p, 'a, F> {
             ++ printed_head self.now.arguments.now self.now.source.now.lines explored.now head) }
     {
         let arguments = self.arguments;
-        let answer = Answer {
+        let answer = Finding {
             kind: head.kind,
             outcome: &explored.outcome,
             is_at_any_speed: arguments.search.is_any_speed && explored.is_at_any_speed,
@@ -494,11 +477,14 @@ impl<'p, 'a, F: FileAccess> Prover<'p, 'a, F> {
             self.write(path, name.as_str(), &text, teller)?;
             return Ok(written);
         }
-        let this = Written::of(head.kind);
-        if written.gives_way_to(this) {
-            self.write(path, path, &text, teller)?;
-            return Ok(this);
-        }
+        let written = match (head.kind, written) {
+            (Kind::Ever, Written::Nothing) => Written::Reached,
+            (Kind::Always | Kind::Never | Kind::Can, Written::Nothing | Written::Reached) => {
+                Written::Broken
+            }
+            _ => return Ok(written),
+        };
+        self.write(path, path, &text, teller)?;
         Ok(written)
     }
 
@@ -590,24 +576,6 @@ impl Told {
             is_short: explored.is_short,
             is_late: explored.is_stopped,
             ..self
-        }
-    }
-}
-
-impl Written {
-    fn of(kind: Kind) -> Written {
-        match kind {
-            Kind::Ever => Written::Reached,
-            Kind::Always | Kind::Never | Kind::Can => Written::Broken,
-        }
-    }
-
-    /// Whether another script is written in its place.
-    fn gives_way_to(self, other: Written) -> bool {
-        match self {
-            Written::Nothing => true,
-            Written::Reached => other == Written::Broken,
-            Written::Broken => false,
         }
     }
 }

@@ -1,13 +1,11 @@
 //! What the commands read: settings, sources, images and files of key events.
-ghost use Rattle.std.specs.Prelude.{◌≡◌, ◌<◌, ◌≤◌, ◌⊎◌, [], Ok, None, Some, length, take, IfOk, IfErr, IsErr, IfSome};
-ghost use Rattle.hex.specs.Hex.{decode_of};
+ghost use Rattle.std.specs.Prelude.{◌≡◌, ◌<◌, ◌≤◌, ◌⊎◌, [], Ok, None, Some, length, take, IfOk, IfErr};
 ghost use Rattle.chip_lang.specs.declared.limits.TheConstants.{IMAGE_BYTES};
 ghost use Rattle.chip_views.specs.Dis.{source_of_image};
 ghost use Rattle.chip_bench.specs.SettingArguments.{settings_asked, tape_asked};
-ghost use Rattle.chip_bench.specs.Printing.{keys_failure};
-ghost use Rattle.chip_bench.specs.Running.{IsUnreadWithin, source_bytes_read};
 ghost use Rattle.chip_bench.specs.inner.Reads.{IsAsked, IsGiven, IsKeysUnread, IsNotGiven, IsNotTaken, IsTaken, IsUnasked};
-ghost use Rattle.chip_bench.specs.Doing.{GivesSource, IsImageRefused, IsInputUnread, IsSourceUnread};
+ghost use Rattle.chip_bench.specs.Printing.{keys_failure};
+ghost use Rattle.chip_bench.specs.Doing.{GivesSource, IsSourceUnread};
 
 use crate::ending::{Code, Failure};
 use crate::file_access::FileAccess;
@@ -59,21 +57,13 @@ fn tape_bytes<'a>(alloc: Global, arguments: &SettingArguments<'_>) -> Result<Vec
 {
     match (arguments.tape, arguments.seed) {
         (Some(_), Some(_)) => Err(Failure::BadTape),
-        (Some(digits), None) => tape_from_hex(alloc, digits),
+        (Some(digits), None) => match hex::decode(alloc, digits) {
+            Ok(tape) => Ok(tape),
+            Err(FromHexError::OutOfMemory) => Err(Failure::OutOfMemory),
+            Err(_) => Err(Failure::BadTape),
+        },
         (None, Some(seed)) => Ok(tape_of(alloc, seed)?),
         (None, None) => Ok(Vec::from_slice(alloc, &[0])?),
-    }
-}
-
-fn tape_from_hex<'a>(alloc: Global, digits: &str) -> Result<Vec<u8>, Failure<'a>>
-    ensures ok { IfOk result (λ tape. decode_of digits.now ≡ Ok tape.items) }
-    ensures err { IfErr result (λ failure. (failure ≡ Failure.OutOfMemory)
-        ⊎ ((failure ≡ Failure.BadTape) × IsErr (decode_of digits.now))) }
-{
-    match hex::decode(alloc, digits) {
-        Ok(tape) => Ok(tape),
-        Err(FromHexError::OutOfMemory) => Err(Failure::OutOfMemory),
-        Err(_) => Err(Failure::BadTape),
     }
 }
 
@@ -97,7 +87,7 @@ impl<'a> KeyFile<'a> {
 
 // What a run is asked on: a source, a file of key events and settings.
 #[derive(Drop)]
-pub(crate) struct Asked<'a> {
+pub(crate) struct AskedRun<'a> {
     pub(crate) source: Vec<u8>,
     pub(crate) keys: KeyFile<'a>,
     pub(crate) settings: Settings,
@@ -109,7 +99,7 @@ pub(crate) fn read_asked<'a, F: FileAccess, I: Read, E: Write>(
     arguments: &RunArguments<'a>,
     input: &mut Counted<I>,
     errors: &mut E,
-) -> Result<Asked<'a>, Failure<'a>>
+) -> Result<AskedRun<'a>, Failure<'a>>
     ensures ok { IfOk result (λ asked. IsAsked I.remaining input.old input.new arguments.entry.now
         asked) }
     ensures err { IfErr result (λ why. IsUnasked I.remaining input.old input.new arguments.entry.now
@@ -118,7 +108,7 @@ pub(crate) fn read_asked<'a, F: FileAccess, I: Read, E: Write>(
     let settings = settings_of(system.alloc, &arguments.settings)?;
     let keys = read_keys(system, arguments.keys)?;
     let source = read_given(system, arguments.source, arguments.is_image, input, errors)?;
-    Ok(Asked {
+    Ok(AskedRun {
         source,
         keys,
         settings,
@@ -135,24 +125,15 @@ fn read_keys<'a, F: FileAccess>(
     ensures err { IfErr result (IsKeysUnread name.entry) }
 {
     match name {
-        Some(name) => read_key_file(system, name),
+        Some(name) => Ok(KeyFile {
+            name,
+            bytes: system.read_within(name, KEY_FILE_BYTES)?,
+        }),
         None => Ok(KeyFile {
             name: "",
             bytes: Vec::new(system.alloc),
         }),
     }
-}
-
-// A file of key events, unless it is too long.
-fn read_key_file<'a, F: FileAccess>(
-    system: &System<'_, F>,
-    name: &'a str,
-) -> Result<KeyFile<'a>, Failure<'a>>
-    ensures ok { IfOk result (λ keys. length keys.bytes.items ≤ KEY_FILE_BYTES) }
-    ensures err { IfErr result (IsUnreadWithin KEY_FILE_BYTES name.entry) }
-{
-    let bytes = system.read_within(name, KEY_FILE_BYTES)?;
-    Ok(KeyFile { name, bytes })
 }
 
 // The source of that name, or where an image has the name, what `dis` prints of it.
@@ -184,7 +165,10 @@ pub(crate) fn as_source<'a, E: Write>(
     ensures err { IfErr result (IsNotTaken is_image name.entry bytes.items) }
 {
     if is_image {
-        return source_of(alloc, name, &bytes);
+        if bytes.len() > IMAGE_BYTES {
+            return Err(Failure::TooLong(name, IMAGE_BYTES as u32));
+        }
+        return Ok(source_of_image(alloc, &bytes)?);
     }
     if looks_like_image(&bytes) {
         let _ = write!(
@@ -202,18 +186,6 @@ fn looks_like_image(bytes: &[u8]) -> bool {
         && !matches!(*byte, b'\t' | b'\n' | b'\r' | 0x0c | 0x1a | 0x1b))
 }
 
-// The source that `dis` prints of an image.
-fn source_of<'a>(alloc: Global, name: &'a str, image: &[u8]) -> Result<Vec<u8>, Failure<'a>>
-    ensures ok { IfOk result (λ source. (length image.now ≤ IMAGE_BYTES)
-        × (source.items ≡ source_of_image image.now)) }
-    ensures err { IfErr result (IsImageRefused name.entry image.now) }
-{
-    if image.len() > IMAGE_BYTES {
-        return Err(Failure::TooLong(name, IMAGE_BYTES as u32));
-    }
-    Ok(source_of_image(alloc, image)?)
-}
-
 // The bytes of a file, or of the standard input where the name is `-`.
 pub(crate) fn read_source<'a, F: FileAccess, I: Read>(
     system: &System<'_, F>,
@@ -224,20 +196,11 @@ pub(crate) fn read_source<'a, F: FileAccess, I: Read>(
         name.entry.now bytes.items) }
     ensures err { IfErr result (IsSourceUnread input.old input.new name.entry) }
 {
-    if name == INPUT {
-        read_input(system.alloc, input)
-    } else {
-        system.read(name, MOST_SOURCE)
+    if name != INPUT {
+        return system.read(name, MOST_SOURCE);
     }
-}
-
-fn read_input<'a, I: Read>(alloc: Global, input: &mut Counted<I>) -> Result<Vec<u8>, Failure<'a>>
-    ensures ok { IfOk result (λ bytes. IfSome (I.remaining input.old.inner)
-        (λ all. bytes.items ≡ take source_bytes_read all)) }
-    ensures err { IfErr result (IsInputUnread input.old input.new) }
-{
     let failures = input.failures();
-    let mut bytes = Vec::new(alloc);
+    let mut bytes = Vec::new(system.alloc);
     match read_most(&mut *input, &mut bytes, MOST_SOURCE) {
         Ok(()) => Ok(bytes),
         // Where no read failed memory ran out for the bytes.

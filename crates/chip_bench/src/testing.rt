@@ -33,7 +33,7 @@ pub(crate) fn test_files<'a, F: FileAccess, O: Write>(
         output,
     )?;
     report.push_counts()?;
-    print(report.text(), Ending::Done, output)?;
+    print(&report.text, Ending::Done, output)?;
     Ok(if has_passed {
         Ending::Done
     } else {
@@ -56,8 +56,8 @@ fn report_files<'a, F: FileAccess, O: Write>(
     for name in names {
         let passes = test_file(system, name, is_update, report)?;
         has_passed = has_passed && passes;
-        print(report.text(), Ending::Done, output)?;
-        report.clear();
+        print(&report.text, Ending::Done, output)?;
+        report.text.clear();
     }
     Ok(has_passed)
 }

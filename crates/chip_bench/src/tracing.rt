@@ -1,23 +1,63 @@
 //! `trace`: the lines of a run, by themselves or beside those of another trace.
-ghost use Rattle.std.specs.Prelude.{◌≡◌, None};
+ghost use Rattle.std.specs.Prelude.{◌≡◌, None, IfOk, option_copied, option_map};
 ghost use Rattle.std.specs.Str.Lines.{lines};
-ghost use Rattle.chip_bench.specs.Printing.{PrintsSuch, Streams, WithSession, printed};
-ghost use Rattle.chip_bench.specs.Tracing.{IsCompared, is_past_last, printed_trace, trace_of, trace_refusal};
+ghost use Rattle.chip_bench.specs.Doing.{ShowsTrace, Traces, shown_by};
+ghost use Rattle.chip_bench.specs.Printing.{Streams, WithSession, printed};
+ghost use Rattle.chip_bench.specs.Tracing.{IsBeside, below_machine, header_of, lines_after, trace_of, trace_refusal};
 ghost use Rattle.chip_bench.specs.declared.ending.Ending.TheVariants.{Done};
+ghost use Rattle.chip_bench.specs.inner.Reads.{printed_by};
 
 use crate::ending::{Ending, Failure};
+use crate::file_access::FileAccess;
+use crate::limits::TRACE_FILE_BYTES;
 use crate::opening::open_under;
-use crate::output::{deliver, print, refuse_source, unanswered};
-use crate::reading::Asked;
+use crate::output::{Answer, deliver, print, refuse_source, unanswered};
+use crate::reading::{AskedRun, read_asked};
+use crate::system::System;
+use chip_arguments::TraceArguments;
+use chip_files::first_line;
 use chip_replay::LAST_STEP;
 use chip_session::{Bench, Counted, Refusal};
-use chip_trace::{Columns, Form, Trace, difference_text};
-use std::alloc::Global;
-use std::io::Write;
+use chip_trace::{Columns, Form, HeaderError, Trace, difference_text, names_machine};
+use std::alloc::{AllocError, Global};
+use std::io::{Read, Write};
 use std::mem;
 
 // How many lines are written at once.
 const BLOCK_LINES: usize = 256;
+
+/// `trace`: the lines of a run, or where they differ first from those of another trace. The first
+/// line of that one names its columns.
+pub(crate) fn trace<'a, F: FileAccess, I: Read, O: Write, E: Write>(
+    system: &System<'_, F>,
+    arguments: &TraceArguments<'a>,
+    input: &mut Counted<I>,
+    output: &mut Counted<O>,
+    errors: &mut E,
+) -> Result<Ending, Failure<'a>>
+    ensures { Traces I.remaining O.contents input.old input.new output.old output.new
+        arguments.entry.now result }
+{
+    let asked = read_asked(system, &arguments.run, input, errors)?;
+    let Some(name) = arguments.against else {
+        let columns = Columns::usual(system.alloc, arguments.sums)?;
+        let shown = shown_by(arguments, columns);
+        return trace_source(system.alloc, asked, &shown, None, output);
+    };
+    let trace = system.read_within(name, TRACE_FILE_BYTES)?;
+    let (header, theirs) = split_header(&trace);
+    match Columns::read_header(system.alloc, header) {
+        Ok(columns) => {
+            let shown = Shown {
+                form: Form::Fields,
+                ..shown_by(arguments, columns)
+            };
+            trace_source(system.alloc, asked, &shown, Some(theirs), output)
+        }
+        Err(HeaderError::OutOfMemory) => Err(Failure::OutOfMemory),
+        Err(fault) => Err(Failure::BadTrace(name, fault)),
+    }
+}
 
 /// What a trace shows of a run: its columns, the form of its lines, its first step, and the step at
 /// which it ends unless the machine stops before.
@@ -29,34 +69,62 @@ pub(crate) struct Shown {
     pub(crate) to: u32,
 }
 
-impl Shown {
-    fn is_past_last(&self) -> bool
-        ensures { result ≡ is_past_last self.now }
-    {
-        self.from > LAST_STEP || self.to > LAST_STEP
+// What the arguments ask for, with these columns. The first step is the last one, where they name a
+// later one.
+fn shown_by(arguments: &TraceArguments<'_>, columns: Columns) -> Shown
+    ensures { result ≡ shown_by arguments.now columns }
+{
+    let form = if arguments.is_json {
+        Form::Json
+    } else {
+        Form::Fields
+    };
+    Shown {
+        columns,
+        form,
+        from: arguments.from.min(arguments.run.steps),
+        to: arguments.run.steps,
     }
 }
 
-/// What a trace shows, and the lines of another trace, which follow its header.
-#[derive(Drop)]
-pub(crate) struct Beside<'t> {
-    pub(crate) shown: Shown,
-    pub(crate) theirs: &'t [u8],
+// The line of a trace that names its columns, and what follows it. The line above it may name the
+// machine.
+fn split_header(trace: &[u8]) -> (&[u8], &[u8])
+    ensures header { result.0.now ≡ header_of (below_machine (lines trace.now)) }
+    ensures rest { lines result.1.now ≡ lines_after (below_machine (lines trace.now)) }
+{
+    let (first, rest) = split_line(trace);
+    if names_machine(first) {
+        return split_line(rest);
+    }
+    (first, rest)
 }
 
-/// `trace`: the lines of the run of a source's image, or the faults where there is no image.
-pub(crate) fn trace_source<'a, O: Write>(
+// The first line of a text, and what follows it.
+fn split_line(text: &[u8]) -> (&[u8], &[u8])
+    ensures first { result.0.now ≡ header_of (lines text.now) }
+    ensures rest { lines result.1.now ≡ lines_after (lines text.now) }
+{
+    if text.is_empty() {
+        return (text, text);
+    }
+    first_line(text)
+}
+
+// Opens the session of a source, and shows the trace of its run.
+fn trace_source<'a, O: Write>(
     alloc: Global,
-    asked: Asked<'a>,
+    asked: AskedRun<'a>,
     shown: &Shown,
+    theirs: Option<&[u8]>,
     output: &mut Counted<O>,
 ) -> Result<Ending, Failure<'a>>
     ensures { WithSession O.contents output.old output.new asked.entry.settings
         asked.entry.source.items asked.entry.keys.bytes.items
-        (λ session. Streams O.contents output.old output.new (printed_trace session shown.now))
-        result }
+        (ShowsTrace O.contents output.old output.new shown.now
+        (option_map lines (option_copied theirs.entry))) result }
 {
-    let Asked {
+    let AskedRun {
         source,
         keys,
         settings,
@@ -64,7 +132,7 @@ pub(crate) fn trace_source<'a, O: Write>(
     let opened = open_under(alloc, &source, &keys, settings)?;
     match opened {
         Ok(mut bench) => {
-            let ended = print_trace(alloc, &mut bench, shown, output);
+            let ended = show(alloc, &mut bench, shown, theirs, output);
             // The program ends here, and its memory goes back at once.
             mem::forget(bench);
             ended
@@ -73,17 +141,23 @@ pub(crate) fn trace_source<'a, O: Write>(
     }
 }
 
-fn print_trace<'a, O: Write>(
+// Shows the lines of the run of a source's image, or where they differ first from those of another
+// trace; or the faults where there is no image.
+fn show<'a, O: Write>(
     alloc: Global,
     bench: &mut Bench,
     shown: &Shown,
+    theirs: Option<&[u8]>,
     output: &mut Counted<O>,
 ) -> Result<Ending, Failure<'a>>
-    ensures { Streams O.contents output.old output.new (printed_trace bench.old.session shown.now)
-        result }
+    ensures { ShowsTrace O.contents output.old output.new shown.now
+        (option_map lines (option_copied theirs.entry)) bench.old.session result }
 {
-    match refusal_of(bench, shown) {
-        Some(why) => deliver(unanswered(alloc, bench, why), output),
+    if let Some(why) = refusal_of(bench, shown) {
+        return deliver(unanswered(alloc, bench, why), output);
+    }
+    match theirs {
+        Some(theirs) => deliver(difference(alloc, bench, shown, theirs), output),
         None => stream(alloc, bench, shown, output),
     }
 }
@@ -94,7 +168,7 @@ fn refusal_of(bench: &Bench, shown: &Shown) -> Option<Refusal>
 {
     if bench.source().image().is_none() {
         Some(Refusal::NoImage)
-    } else if shown.is_past_last() {
+    } else if shown.from > LAST_STEP || shown.to > LAST_STEP {
         Some(Refusal::StepPastLast)
     } else {
         None
@@ -130,56 +204,30 @@ fn stream<'a, O: Write>(
     }
 }
 
-/// `trace --against`: where the lines of the run of a source's image and those of another trace
-/// differ first; or the faults where there is no image.
-pub(crate) fn compare_source<'a, O: Write>(
-    alloc: Global,
-    asked: Asked<'a>,
-    beside: &Beside<'_>,
-    output: &mut Counted<O>,
-) -> Result<Ending, Failure<'a>>
-    ensures { WithSession O.contents output.old output.new asked.entry.settings
-        asked.entry.source.items asked.entry.keys.bytes.items
-        (λ session. PrintsSuch O.contents output.old output.new
-        (IsCompared session beside.now.shown (lines beside.now.theirs.now))) result }
-{
-    let Asked {
-        source,
-        keys,
-        settings,
-    } = asked;
-    let opened = open_under(alloc, &source, &keys, settings)?;
-    match opened {
-        Ok(mut bench) => {
-            let ended = print_difference(alloc, &mut bench, beside, output);
-            // The program ends here, and its memory goes back at once.
-            mem::forget(bench);
-            ended
-        }
-        Err(error) => refuse_source(error, output),
-    }
-}
-
-fn print_difference<'a, O: Write>(
+// Where the lines of a run and those of another trace differ first.
+fn difference(
     alloc: Global,
     bench: &mut Bench,
-    beside: &Beside<'_>,
-    output: &mut Counted<O>,
-) -> Result<Ending, Failure<'a>>
-    ensures { PrintsSuch O.contents output.old output.new
-        (IsCompared bench.old.session beside.now.shown (lines beside.now.theirs.now)) result }
+    shown: &Shown,
+    theirs: &[u8],
+) -> Result<Answer, AllocError>
+    requires { trace_refusal bench.old.session shown.now ≡ None }
+    ensures { IfOk result (λ answer. IsBeside bench.old.session shown.now (lines theirs.now)
+        (printed_by answer)) }
 {
-    let shown = &beside.shown;
-    if let Some(why) = refusal_of(bench, shown) {
-        return deliver(unanswered(alloc, bench, why), output);
-    }
     let mut trace = Trace::new(alloc, &shown.columns, shown.form, shown.from, shown.to);
-    match bench.first_difference(alloc, &mut trace, beside.theirs) {
-        Ok(None) => Ok(Ending::Done),
+    match bench.first_difference(alloc, &mut trace, theirs) {
+        Ok(None) => Ok(Answer {
+            text: Vec::new(alloc),
+            ending: Ending::Done,
+        }),
         Ok(Some(found)) => {
             let text = difference_text(alloc, &shown.columns, shown.from, &found)?;
-            print(&text, Ending::Faulty, output)
+            Ok(Answer {
+                text,
+                ending: Ending::Faulty,
+            })
         }
-        Err(_) => Err(Failure::OutOfMemory),
+        Err(_) => Err(AllocError),
     }
 }

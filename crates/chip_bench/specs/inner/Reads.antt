@@ -19,7 +19,7 @@ use Rattle.chip_bench.specs.declared.ending.Ending.TheVariants.{Done}
 use Rattle.chip_bench.specs.declared.ending.Failure.{Failure}
 use Rattle.chip_bench.specs.declared.ending.Failure.TheVariants as failure
 use Rattle.chip_bench.specs.declared.output.Answer.{Answer}
-use Rattle.chip_bench.specs.declared.reading.Asked.{Asked}
+use Rattle.chip_bench.specs.declared.reading.AskedRun.{AskedRun}
 
 -- arguments that have a fault, or that memory ran out
 abbrev pub IsUsage : Outcome → Type 0
@@ -80,7 +80,7 @@ module _ {R : Type 0} (remaining : R → Option (List ℕ)) (in_old in_new : Tal
       FromGiven remaining in_old in_new (Unit {0}) is_image name (λ taken ended. ⊥) (Err why)
 
   -- what was read is what the arguments of a run ask for
-  abbrev pub IsAsked : RunArguments → Asked → Type 0
+  abbrev pub IsAsked : RunArguments → AskedRun → Type 0
   IsAsked arguments asked =
       WithAsked remaining in_old in_new (Unit {0}) arguments (λ settings keys source ended.
       (settings ≡ asked.settings) × (keys ≡ asked.keys.bytes.items)

@@ -1,12 +1,13 @@
 use Rattle.chip_check.proofs.Pieces.{no_more, one_more}
 use Rattle.chip_bench.specs.Proving.{further_event}
+use Rattle.chip_bench.proofs.AnswerLemmas.{then_piece}
 use Rattle.chip_bench.proofs.answer.push_further_events.Goals as goal
 
 pub loop-event-preserved : goal.loop-event-preserved
 loop-event-preserved c =
     one_more further_event c.args.text.now.items c.loop-event.text.items c.args.events.now c.loop-event.event-index _ _
     c.loop-event-test.true c.loop-event.invariant
-    c.in_ok-push_further_event.ensures
+    (then_piece c.loop-event.text.items _ _ _ _ c.in_ok-extend_from_slice.ensures.items c.in_ok-push_key_event.ensures)
 
 pub returns : goal.returns
 returns c =

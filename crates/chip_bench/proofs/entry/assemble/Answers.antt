@@ -12,11 +12,11 @@ returns-in-Some-clause-written g c = λ done.
     rw (sym c.in-Some.ensures.value) wrote
 
 pub returns-in-None-clause-did : goal.returns-in-None-clause-did
-returns-in-None-clause-did g c = rw (sym c.in-None.ensures.value) (c.deliver.ensures (printed_faults c.args.source.now.lines) c.faults.ensures)
+returns-in-None-clause-did g c = rw (sym c.in-None.ensures.value) (c.deliver.ensures.wanted (printed_faults c.args.source.now.lines) c.faults.ensures)
 
 pub returns-in-None-clause-written : goal.returns-in-None-clause-written
 returns-in-None-clause-written g c = λ done.
-    let told = c.deliver.ensures (printed_faults c.args.source.now.lines) c.faults.ensures in
+    let told = c.deliver.ensures.wanted (printed_faults c.args.source.now.lines) c.faults.ensures in
     let printed = rw done at told in
     absurd (other printed.0)
   where

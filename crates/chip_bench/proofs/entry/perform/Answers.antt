@@ -1,5 +1,8 @@
-use Rattle.std.proofs.Common.{refl}
-use Rattle.chip_bench.proofs.DoingLemmas.{does_it}
+use Rattle.std.proofs.lemmas.Result.{err_from_is_err_and}
+use Rattle.std.proofs.Common.{◌∙◌, ap, refl, inl, inr, Err}
+use Rattle.chip_bench.specs.Doing.{IsUnexplained}
+use Rattle.chip_bench.specs.inner.Reads.{printed_by}
+use Rattle.chip_bench.proofs.DoingLemmas.{does_it, fails}
 use Rattle.chip_bench.proofs.entry.perform.Goals as goal
 
 pub returns-in-Debug : goal.returns-in-Debug
@@ -52,10 +55,18 @@ returns-in-Test g c =
     does_it g.I.Read.remaining g.O.Write.contents c.args.input.now c.args.input.now c.args.output.now c.test_files.new.output c.args.system.now.host.takes_color c.args.line.now _ c.test_files.result
     c.in-Test.is (c.test_files.ensures, refl)
 
-pub returns-in-Explain : goal.returns-in-Explain
-returns-in-Explain g c =
-    does_it g.I.Read.remaining g.O.Write.contents c.args.input.now c.args.input.now c.args.output.now c.explain.new.output c.args.system.now.host.takes_color c.args.line.now _ c.explain.result
-    c.in-Explain.is (c.explain.ensures, refl)
+pub returns-in_err-answer-in-Explain : goal.returns-in_err-answer-in-Explain
+returns-in_err-answer-in-Explain g c =
+    let p = err_from_is_err_and c.from_residual.result c.from_residual.ensures.1 in
+    does_it g.I.Read.remaining g.O.Write.contents c.args.input.now c.args.input.now c.args.output.now c.args.output.now c.args.system.now.host.takes_color c.args.line.now _ c.from_residual.result
+    c.in-Explain.is
+    (inr (fails (IsUnexplained c.in-Explain.code) c.from_residual.result _ (p.1 ∙ ap (λ e. Err e) p.2) c.in_err-answer-in-Explain.ensures.err, refl), refl)
+
+pub returns-in_ok-answer-in-Explain : goal.returns-in_ok-answer-in-Explain
+returns-in_ok-answer-in-Explain g c =
+    does_it g.I.Read.remaining g.O.Write.contents c.args.input.now c.args.input.now c.args.output.now c.deliver.new.output c.args.system.now.host.takes_color c.args.line.now _ c.deliver.result
+    c.in-Explain.is
+    (inl (inl (printed_by c.in_ok-answer-in-Explain.answer, c.in_ok-answer-in-Explain.ensures.ok, c.deliver.ensures.wanted (printed_by c.in_ok-answer-in-Explain.answer) refl)), refl)
 
 pub returns-in-Explore : goal.returns-in-Explore
 returns-in-Explore g c =

@@ -28,7 +28,7 @@ returns-in-Ok g c =
     runs g.I.Read.remaining g.O.Write.contents c.args.input.now c.read_asked.new.input c.args.output.now c.deliver.new.output
     c.args.arguments.now asked c.deliver.result c.in_ok-source.ensures.ok
     (with_session g.O.Write.contents c.args.output.now c.deliver.new.output asked.settings asked.source.items asked.keys.bytes.items
-    (λ session. Prints g.O.Write.contents c.args.output.now c.deliver.new.output (printed_run session c.args.arguments.now.steps)) c.deliver.result c.in-Ok.bench.session is (c.deliver.ensures (printed_run c.in-Ok.bench.session c.args.arguments.now.steps) c.run_at-answer.ensures))
+    (λ session. Prints g.O.Write.contents c.args.output.now c.deliver.new.output (printed_run session c.args.arguments.now.steps)) c.deliver.result c.in-Ok.bench.session is (c.deliver.ensures.wanted (printed_run c.in-Ok.bench.session c.args.arguments.now.steps) c.run_at-answer.ensures))
 
 pub returns : goal.returns
 returns g c =

@@ -16,7 +16,7 @@ returns-in-Ok g c =
     of_opened g.I.Read.remaining g.O.Write.contents c.args.input.now c.read_source.new.input c.args.output.now c.deliver.new.output c.args.source
     c.in_ok-bytes.bytes.items c.deliver.result (λ lines. Prints g.O.Write.contents c.args.output.now c.deliver.new.output (printed_table c.args.table c.args.is_hex lines))
     c.in-Ok.opened.lines c.in_ok-bytes.ensures.ok c.in-Ok.ensures.ok.0 c.in-Ok.ensures.ok.1
-    (c.deliver.ensures (printed_table c.args.table c.args.is_hex c.in-Ok.opened.lines) c.tabulate-answer.ensures)
+    (c.deliver.ensures.wanted (printed_table c.args.table c.args.is_hex c.in-Ok.opened.lines) c.tabulate-answer.ensures)
 
 pub returns-in-Err : goal.returns-in-Err
 returns-in-Err g c =

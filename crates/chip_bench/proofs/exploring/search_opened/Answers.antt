@@ -3,7 +3,7 @@ use Rattle.chip_bench.specs.Printing.{printed_faults}
 use Rattle.chip_bench.proofs.exploring.search_opened.Goals as goal
 
 pub returns-in_default : goal.returns-in_default
-returns-in_default g c = rw (sym c.in_default.ensures.value) (c.deliver.ensures (printed_faults c.args.source.now.lines) c.faults.ensures)
+returns-in_default g c = rw (sym c.in_default.ensures.value) (c.deliver.ensures.wanted (printed_faults c.args.source.now.lines) c.faults.ensures)
 
 pub returns : goal.returns
 returns g c =

@@ -1,7 +1,8 @@
 use Rattle.std.proofs.lemmas.Result.{err_from_is_err_and}
 use Rattle.std.proofs.Common.{◌∙◌, ap, refl, Err}
-use Rattle.chip_bench.specs.Printing.{Streams}
-use Rattle.chip_bench.specs.Tracing.{printed_trace}
+use Rattle.std.specs.Prelude.{option_copied, option_map}
+use Rattle.std.specs.Str.Lines.{lines}
+use Rattle.chip_bench.specs.Doing.{ShowsTrace}
 use Rattle.chip_bench.proofs.OpenedLemmas.{unmade_session, with_session, without_session}
 use Rattle.chip_bench.proofs.tracing.trace_source.Goals as goal
 
@@ -10,19 +11,19 @@ returns-in_err-opened g c =
     let asked = c.args.asked in
     let p = err_from_is_err_and c.from_residual.result c.from_residual.ensures.1 in
     unmade_session g.O.Write.contents c.args.output.now c.args.output.now asked.settings asked.source.items asked.keys.bytes.items
-    (λ session. Streams g.O.Write.contents c.args.output.now c.args.output.now (printed_trace session c.args.shown.now)) c.from_residual.result _ (p.1 ∙ ap (λ e. Err e) p.2)
+    (ShowsTrace g.O.Write.contents c.args.output.now c.args.output.now c.args.shown.now (option_map lines (option_copied c.args.theirs))) c.from_residual.result _ (p.1 ∙ ap (λ e. Err e) p.2)
     (rw c.deref.ensures.value at c.in_err-opened.ensures.err) refl
 
 pub returns-in-Ok : goal.returns-in-Ok
 returns-in-Ok g c =
     let asked = c.args.asked in
     let is = rw (c.in-Ok.is, c.deref.ensures.value) at c.in_ok-opened.ensures.opened in
-    with_session g.O.Write.contents c.args.output.now c.print_trace-ended.new.output asked.settings asked.source.items asked.keys.bytes.items
-    (λ session. Streams g.O.Write.contents c.args.output.now c.print_trace-ended.new.output (printed_trace session c.args.shown.now)) c.print_trace-ended.result c.in-Ok.bench.session is c.print_trace-ended.ensures
+    with_session g.O.Write.contents c.args.output.now c.show-ended.new.output asked.settings asked.source.items asked.keys.bytes.items
+    (ShowsTrace g.O.Write.contents c.args.output.now c.show-ended.new.output c.args.shown.now (option_map lines (option_copied c.args.theirs))) c.show-ended.result c.in-Ok.bench.session is c.show-ended.ensures
 
 pub returns : goal.returns
 returns g c =
     let asked = c.args.asked in
     let is = rw (c.in-Err.is, c.deref.ensures.value) at c.in_ok-opened.ensures.unopened in
     without_session g.O.Write.contents c.args.output.now c.refuse_source.new.output asked.settings asked.source.items asked.keys.bytes.items
-    (λ session. Streams g.O.Write.contents c.args.output.now c.refuse_source.new.output (printed_trace session c.args.shown.now)) c.refuse_source.result c.in-Err.error is c.refuse_source.ensures
+    (ShowsTrace g.O.Write.contents c.args.output.now c.refuse_source.new.output c.args.shown.now (option_map lines (option_copied c.args.theirs))) c.refuse_source.result c.in-Err.error is c.refuse_source.ensures

@@ -1,14 +1,13 @@
-use Rattle.std.proofs.Common.{◌∙◌, List, ℕ, codes, subst}
-use Rattle.chip_bench.specs.Printing.{Prints, printed}
+use Rattle.std.proofs.Common.{◌∙◌, List, ℕ, codes, ap}
+use Rattle.chip_bench.specs.Printing.{printed}
 use Rattle.chip_arguments.specs.declared.commands.TheConstants.{VERSION}
 use Rattle.chip_bench.specs.declared.ending.Ending.TheVariants.{Done}
 use Rattle.chip_bench.proofs.DoingLemmas.{three_parts}
-use Rattle.chip_bench.proofs.output.print_version.Goals as goal
+use Rattle.chip_bench.proofs.output.version.Goals as goal
 
 pub returns : goal.returns
-returns g c =
-    subst (λ (t : List ℕ). Prints g.O.Write.contents c.args.output.now c.print.new.output (printed t Done) c.print.result)
-    (c.deref.ensures.value ∙ three_parts c.new-text.result.items c.extend_from_slice.new.self.items c.extend_from_slice-2.new.self.items
+returns c =
+    ap (λ (t : List ℕ). printed t Done)
+    (three_parts c.new-text.result.items c.extend_from_slice.new.self.items c.extend_from_slice-2.new.self.items
     c.extend_from_slice-3.new.self.items (codes "chipbench ") c.as_bytes.result.now (codes "\n") VERSION.now c.new-text.ensures.items
     c.in_ok-extend_from_slice.ensures.items c.in_ok-extend_from_slice-2.ensures.items c.as_bytes.ensures.value c.in_ok-extend_from_slice-3.ensures.items)
-    c.print.ensures

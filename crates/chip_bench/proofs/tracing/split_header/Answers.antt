@@ -3,7 +3,7 @@ use Rattle.std.specs.Str.Lines.{lines}
 use Rattle.chip_trace.specs.Machine.{names_machine}
 use Rattle.chip_bench.specs.Tracing.{header_of}
 use Rattle.chip_bench.proofs.TraceLemmas.{below_named, below_unnamed}
-use Rattle.chip_bench.proofs.entry.split_header.Goals as goal
+use Rattle.chip_bench.proofs.tracing.split_header.Goals as goal
 
 pub returns-then-names_machine-clause-header : goal.returns-then-names_machine-clause-header
 returns-then-names_machine-clause-header c =

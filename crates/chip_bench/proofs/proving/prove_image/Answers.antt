@@ -1,5 +1,0 @@
-use Rattle.std.proofs.Common.{sym}
-use Rattle.chip_bench.proofs.proving.prove_image.Goals as goal
-
-pub returns : goal.returns
-returns g c = rw (sym c.rate.ensures.value, sym c.tape.ensures.value, sym c.quirks.ensures, sym c.in_ok-start.ensures) c.prove.ensures
