@@ -11,6 +11,7 @@
 --                     agrees with them there meets the goals at a step from that one up to n
 --     Foresees        what each answer says: always up to each step below `FAR`; a dead end up to each
 --                     step below the end; within n: nothing
+--     outcome_of      an answer as the outcome of a search
 use Rattle.std.specs.Prelude.{◌≡◌, ℕ, ◌+◌, ◌<◌, ◌≤◌, Bool, true, false, List}
 use Rattle.std.specs.List.{list_all}
 use Rattle.chip_machine.specs.Choices.{IsWithin}
@@ -22,6 +23,9 @@ use Rattle.chip_explore.specs.Property.{is_met}
 use Rattle.chip_explore.specs.Scripts.{IsScript, keys_of}
 use Rattle.chip_explore.specs.declared.limits.TheConstants.{END, FAR}
 use Rattle.chip_explore.specs.declared.property.Property.{Property}
+use Rattle.chip_explore.specs.declared.question.Outcome.{Outcome}
+use Rattle.chip_explore.specs.declared.question.Outcome.TheVariants as outcome
+use Rattle.chip_explore.specs.declared.target.Met.TheVariants as met
 use Rattle.chip_explore.specs.declared.prospect.Prospect.{Prospect}
 use Rattle.chip_explore.specs.declared.prospect.Prospect.TheVariants.{Always, DeadEnd, Within}
 use Rattle.chip_explore.specs.declared.script.KeyEvent.{KeyEvent}
@@ -54,3 +58,8 @@ Foresees rate allowed goals start Always = (n : ℕ) → n < FAR → AlwaysCan r
 Foresees rate allowed goals start (DeadEnd events step) =
     (n : ℕ) → n < END → IsDeadEnd rate allowed goals start events.items step n
 Foresees rate allowed goals start (Within n) = Unit {0}
+
+abbrev pub outcome_of : Prospect → Outcome
+outcome_of Always = outcome.Never
+outcome_of (DeadEnd events step) = outcome.Found events step (met.Property 0)
+outcome_of (Within n) = outcome.Within n

@@ -4,21 +4,22 @@ ghost use Rattle.std.specs.Prelude.{◌≡◌, ◌<◌, ◌≤◌, ℕ, IfOk, Is
 ghost use Rattle.chip_machine.specs.State.{State};
 ghost use Rattle.chip_machine.specs.Step.{step_of};
 ghost use Rattle.chip_replay.specs.Run.{run};
-ghost use Rattle.chip_explore.specs.Prospects.{are_met, AlwaysCan, Foresees, IsDeadEnd};
+ghost use Rattle.chip_explore.specs.Prospects.{are_met, outcome_of, AlwaysCan, Foresees, IsDeadEnd};
 ghost use Rattle.chip_explore.specs.Scripts.{IsScript};
 ghost use Rattle.chip_explore.specs.inner.Cover.{IsSearched, IsWhole};
 
 use crate::causes::Causes;
 use crate::confirm::{keys_of, machine_under};
+use crate::executed::Executed;
 use crate::limits::{END, FAR};
 use crate::property::Property;
-use crate::question::Bounds;
+use crate::question::{Bounds, Explored, Outcome};
 use crate::script::{KeyEvent, script_to};
 use crate::search::Search;
 use crate::searching::{Beginning, search_anew};
 use crate::seen::Seen;
 use crate::setting::Setting;
-use crate::target::Target;
+use crate::target::{Met, Target};
 use crate::watcher::Watcher;
 use crate::ways_back::{Loss, WaysBack};
 use chip_machine::Machine;
@@ -61,7 +62,39 @@ pub struct Foreseen {
     pub is_stopped: bool,
 }
 
+impl Prospect {
+    /// It as the outcome of a search: a dead end is found, always is never, and nothing is known up to a step.
+    fn outcome(self) -> Outcome
+        ensures { result ≡ outcome_of self }
+    {
+        match self {
+            Prospect::Always => Outcome::Never,
+            Prospect::DeadEnd { events, step } => Outcome::Found {
+                events,
+                step,
+                met: Met::Property(0),
+            },
+            Prospect::Within(step) => Outcome::Within(step),
+        }
+    }
+}
+
 impl Foreseen {
+    /// It as what a search found.
+    pub fn explored(self) -> Explored
+        ensures outcome { result.outcome ≡ outcome_of self.prospect }
+        ensures speed { result.is_at_any_speed ≡ false }
+    {
+        let is_short = self.is_short;
+        let is_stopped = self.is_stopped;
+        let states = self.states;
+        Explored {
+            states,
+            is_stopped,
+            ..Explored::at_once(self.prospect.outcome(), Executed::none(), is_short)
+        }
+    }
+
     /// What a search found that came so far.
     fn of(search: &Search, is_short: bool, prospect: Prospect) -> Foreseen
         ensures { result.prospect ≡ prospect }

@@ -158,7 +158,7 @@ impl Outcome {
 
 impl Explored {
     /// What a search says that kept no state.
-    fn at_once(outcome: Outcome, executed: Executed, is_short: bool) -> Explored
+    pub(crate) fn at_once(outcome: Outcome, executed: Executed, is_short: bool) -> Explored
         ensures outcome { result.outcome ≡ outcome }
         ensures executed { result.executed ≡ executed }
         ensures states { result.states ≡ 0 }
