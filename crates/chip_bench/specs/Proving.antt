@@ -20,9 +20,7 @@ use Rattle.chip_arguments.specs.declared.command_line.ProveArguments.{ProveArgum
 use Rattle.chip_asm.specs.LineViews.{LineFacts, line_at}
 use Rattle.chip_check.specs.Json.{quoted}
 use Rattle.chip_explore.specs.Answers.{Answers}
-use Rattle.chip_explore.specs.Prospects.{Foresees, outcome_of}
 use Rattle.chip_explore.specs.Speeds.{NeverAtAnySpeed}
-use Rattle.chip_explore.specs.declared.prospect.Prospect.{Prospect}
 use Rattle.chip_explore.specs.declared.property.Property.{Property}
 use Rattle.chip_explore.specs.declared.target.Target.{Target}
 use Rattle.chip_machine.specs.State.{State}
@@ -40,16 +38,13 @@ use Rattle.chip_properties.specs.declared.stated.Kind.TheVariants as kind
 
 abbrev pub met_words : Kind → List ℕ
 met_words kind.Ever = codes "reached"
-met_words kind.Can = codes "dead end"
 met_words other = codes "broken"
 
 abbrev pub unmet_words : Kind → List ℕ
 unmet_words kind.Ever = codes "not reached"
-unmet_words kind.Can = codes "undecided"
 unmet_words other = codes "unbroken"
 
 abbrev pub never_words : Kind → (is_at_any_speed : Bool) → List ℕ
-never_words kind.Can is_at_any_speed = codes "always"
 never_words kind is_at_any_speed =
     codes "never " ++ met_words kind ++ (if is_at_any_speed then codes " at any speed" else [])
 
@@ -175,21 +170,9 @@ pub record Answered : Type 0 where
   pub outcome : Outcome
   pub is_at_any_speed : Bool
 
--- whether the property can be met from everywhere, as an outcome says
-pub record IsForeseen (rate keys : ℕ) (property : Property) (start : State) (outcome : Outcome) : Type 0 where
-  pub prospect : Prospect
-  pub is : outcome ≡ outcome_of prospect
-  pub foreseen : Foresees rate keys (property ∷ []) start prospect
-
--- the answer to a property of a kind
-abbrev pub AnswersKind : Kind → (rate keys : ℕ) → Property → State → Outcome → Type 0
-AnswersKind kind.Can rate keys property start outcome = IsForeseen rate keys property start outcome
-AnswersKind kind rate keys property start outcome =
-    Answers rate keys (looks_for property) start outcome
-
 -- the answer is that of a search for the property alone
 pub record IsRight (rate keys : ℕ) (start : State) (one : Answered) : Type 0 where
-  pub answers : AnswersKind one.stated.kind rate keys one.stated.property start one.outcome
+  pub answers : Answers rate keys (looks_for one.stated.property) start one.outcome
   pub any_speed : one.is_at_any_speed ≡ true
       → NeverAtAnySpeed keys (looks_for one.stated.property) start
 

@@ -141,8 +141,7 @@ fn met_words(kind: Kind) -> &'static [u8]
 {
     match kind {
         Kind::Ever => b"reached",
-        Kind::Can => b"dead end",
-        Kind::Always | Kind::Never => b"broken",
+        Kind::Always | Kind::Never | Kind::Can => b"broken",
     }
 }
 
@@ -152,8 +151,7 @@ fn unmet_words(kind: Kind) -> &'static [u8]
 {
     match kind {
         Kind::Ever => b"not reached",
-        Kind::Can => b"undecided",
-        Kind::Always | Kind::Never => b"unbroken",
+        Kind::Always | Kind::Never | Kind::Can => b"unbroken",
     }
 }
 
@@ -176,9 +174,6 @@ fn push_unmet(text: &mut Vec<u8>, kind: Kind, step: u64) -> Result<(), AllocErro
 fn push_never(text: &mut Vec<u8>, kind: Kind, is_at_any_speed: bool) -> Result<(), AllocError>
     ensures { OnOk result (text.new.items ≡ text.old.items ++ never_words kind is_at_any_speed) }
 {
-    if kind == Kind::Can {
-        return text.extend_from_slice(b"always");
-    }
     let speed: &[u8] = if is_at_any_speed {
         b" at any speed"
     } else {

@@ -1,5 +1,5 @@
 //! `prove`: what searches over all key scripts answer of the properties that a source states.
-ghost use Rattle.std.specs.Prelude.{◌≡◌, ◌⊎◌, ◌<◌, ◌||◌, ◌∷◌, [], ℕ, List, Ok, Some, None, true, IfOk, IfErr, IfSome, MatchOption, OnOk, ◌++◌, filter, length, slice_get, option_copied, false, position, ◌==◌, ◌+◌};
+ghost use Rattle.std.specs.Prelude.{◌≡◌, ◌⊎◌, ◌<◌, ◌||◌, [], ℕ, List, Ok, Some, None, true, IfOk, IfErr, IfSome, OnOk, ◌++◌, filter, length, slice_get};
 ghost use Rattle.std.specs.List.{flat_map, list_any, remove};
 ghost use Rattle.chip_explore.specs.Answers.{Answers};
 ghost use Rattle.chip_explore.specs.OneOf.{told_of};
@@ -9,8 +9,8 @@ ghost use Rattle.chip_properties.specs.Properties.{AreProperties};
 ghost use Rattle.chip_properties.specs.declared.properties.Properties.{Properties};
 ghost use Rattle.chip_properties.specs.declared.stated.Stated.{Stated};
 ghost use Rattle.chip_bench.specs.Doing.{Fails, IsScriptUnwritten, IsShort, IsUnwritten, Proves, ProvesBy, ProvesFrom, ProvesWith, image_in};
-ghost use Rattle.chip_bench.specs.Proving.{IsForeseen, asked_of, has_faults, is_asked, is_bad, looks_for, proof_ending, text_at};
-ghost use Rattle.chip_bench.specs.inner.Proofs.{is_can, IsAnswering, IsLeft, IsUnmet, WritesAll, met_property, missing_line, printed_head};
+ghost use Rattle.chip_bench.specs.Proving.{has_faults, is_asked, is_bad, looks_for, proof_ending, text_at};
+ghost use Rattle.chip_bench.specs.inner.Proofs.{IsAnswering, IsLeft, IsUnmet, WritesAll, met_property, missing_line, printed_head};
 
 use crate::answer::{Finding, Place, is_bad};
 use crate::checking::Checker;
@@ -26,9 +26,7 @@ use chip_arguments::ProveArguments;
 use chip_asm::Source;
 use chip_check::{push_property_fault, push_quoted};
 use chip_explore::laws::one_of_several;
-use chip_explore::{
-    Causes, Explored, Met, Outcome, Property, Pursuit, Question, Target, Ticks, explore, foresee,
-};
+use chip_explore::{Causes, Explored, Met, Outcome, Property, Question, Target, Ticks, explore};
 use chip_machine::Machine;
 use chip_properties::{Kind, Properties, PropertyFault, Stated, properties_of, property_text};
 use chip_session::{Counted, Settings};
@@ -177,13 +175,6 @@ impl Left {
         Ok(Left { heads, properties })
     }
 
-    /// The place of the first one that asks whether it can be met from everywhere, if there is one.
-    fn first_can(&self) -> Option<usize>
-        ensures { result ≡ position (λ head. is_can head.kind) self.now.heads.items }
-    {
-        self.heads.iter().position(|head| is_can(head.kind))
-    }
-
     /// Removes one, and gives its head.
     fn take(&mut self, place: usize) -> Head
         requires in_heads { place < length self.old.heads.items }
@@ -194,16 +185,6 @@ impl Left {
     {
         let _ = self.properties.remove(place);
         self.heads.remove(place)
-    }
-}
-
-/// Whether a property asks whether it can be met from everywhere.
-fn is_can(kind: Kind) -> bool
-    ensures { result ≡ is_can kind }
-{
-    match kind {
-        Kind::Can => true,
-        Kind::Always | Kind::Never | Kind::Ever => false,
     }
 }
 
@@ -344,15 +325,9 @@ impl<'p, 'a, F: FileAccess> Prover<'p, 'a, F> {
         if left.heads.is_empty() {
             return Ok(told);
         }
-        let (met, explored) = match left.first_can() {
-            Some(place) => (Some(place), self.foresee(&left.properties, place, teller)),
-            None => {
-                let explored = self.search(&left.properties, teller);
-                (met_property(&explored.outcome, left.heads.len()), explored)
-            }
-        };
+        let explored = self.search(&left.properties, teller);
         let told = told.after(&explored);
-        match met {
+        match met_property(&explored.outcome, left.heads.len()) {
             Some(place) => {
                 let head = left.take(place);
                 let is_bad = self.tell(&[head], &explored, output)?;
@@ -372,24 +347,6 @@ impl<'p, 'a, F: FileAccess> Prover<'p, 'a, F> {
                 })
             }
         }
-    }
-
-    /// Whether one of these properties can be met from everywhere.
-    fn foresee<T: Teller>(&self, properties: &[Property], place: usize, teller: &mut T) -> Explored
-        requires rate { 0 < self.now.rate }
-        requires fresh { self.now.start.now.core.draws ≡ 0 }
-        requires kept { place < length properties.now }
-        ensures foreseen { (property : Property) → slice_get properties.now place ≡ Some property
-            → IsForeseen self.now.rate self.now.keys property self.now.start.now result.outcome }
-        ensures speed { result.is_at_any_speed ≡ false }
-    {
-        let pursuit = Pursuit {
-            rate: self.rate,
-            allowed: self.keys,
-            goals: &properties[place..place + 1],
-        };
-        let bounds = bounds_of(&self.arguments.search, Ticks::Free);
-        foresee(self.system.alloc, self.start, &pursuit, &bounds, teller).explored()
     }
 
     /// What a search for these properties finds.

@@ -1,6 +1,5 @@
 -- What private contracts of `prove` say (own).
 --     head_of, IsLeft   the properties that aren't answered yet, as the code has them
---     is_can            whether a property asks whether it can be met from everywhere
 --     missing_line      the line that the arguments name, where no property is asked for
 --     met_property      which of so many properties a search met
 --     IsUnmet           a search met nothing
@@ -18,8 +17,6 @@ use Rattle.chip_explore.specs.declared.question.Outcome.TheVariants.{Found, Late
 use Rattle.chip_explore.specs.declared.target.Met.{Met}
 use Rattle.chip_explore.specs.declared.target.Met.TheVariants as met
 use Rattle.chip_machine.specs.State.{State}
-use Rattle.chip_properties.specs.declared.stated.Kind.{Kind}
-use Rattle.chip_properties.specs.declared.stated.Kind.TheVariants as kind
 use Rattle.chip_properties.specs.declared.stated.Stated.{Stated}
 use Rattle.chip_session.specs.Tally.{Tally}
 use Rattle.chip_session.specs.Writing.{Breaks, Writes}
@@ -38,10 +35,6 @@ head_of one = record { line = one.line; kind = one.kind }
 pub record IsLeft (asked : List Stated) (left : Left) : Type 0 where
   pub heads : left.heads.items ≡ map head_of asked
   pub properties : left.properties.items ≡ map (λ one. one.property) asked
-
-abbrev pub is_can : Kind → Bool
-is_can kind.Can = true
-is_can kind = false
 
 abbrev pub property_met : Met → (count : ℕ) → Option ℕ
 property_met (met.Property place) count = if nat_lt place count then Some place else None
