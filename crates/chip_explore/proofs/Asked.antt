@@ -24,8 +24,9 @@ use Rattle.chip_explore.specs.declared.property.Sum.{Sum}
 use Rattle.chip_explore.specs.declared.property.Term.{Term}
 use Rattle.chip_explore.specs.declared.setting.Setting.{Setting}
 use Rattle.chip_explore.specs.declared.target.Met.TheVariants as met
+use Rattle.chip_explore.specs.inner.Cover.{meets_goals}
 use Rattle.chip_explore.specs.inner.Delays.{AlikeTicks, with_delay}
-use Rattle.chip_explore.specs.inner.Known.{are_known, is_comparison_known, is_item_known, is_property_known, is_sum_known, known_of}
+use Rattle.chip_explore.specs.inner.Known.{are_goals_known, are_known, is_comparison_known, is_item_known, is_property_known, is_sum_known, known_of}
 
 -- ---- by the elements of a list
 
@@ -146,11 +147,22 @@ module _ (p : Setting) (f : ℕ) (a b : State) (near : AlikeTicks p f a b) (goin
       asked_same property (is_at property.place a.core.pc) h
       ∙ ap (λ (pc : ℕ). here property b (is_at property.place pc)) pc_same
 
+  abbrev all_known : List Property → Bool
+  all_known properties = list_all (is_property_known known a.core.pc) properties
+
   going_same : are_known p f a ≡ true → met_by p.target a None ≡ met_by p.target b None
   going_same h =
       ap (λ (first : Option ℕ). if is_address p.target.address a.core.pc then Some met.Address else option_map met.Property first)
-      (position_same (is_property_known known a.core.pc) (is_met a) (is_met b) property_same p.target.properties.now h)
+      (position_same (is_property_known known a.core.pc) (is_met a) (is_met b) property_same p.target.properties.now
+      (both_left (all_known p.target.properties.now) (all_known p.goals.now) h))
       ∙ ap (λ (pc : ℕ). if is_address p.target.address pc then Some met.Address else option_map met.Property (position (is_met b) p.target.properties.now)) pc_same
+
+  -- such a state meets the goals where the other one does
+  pub goals_same : are_goals_known p f a ≡ true → meets_goals p a ≡ meets_goals p b
+  goals_same h = all_same (is_property_known known a.core.pc) (is_met a) (is_met b) property_same p.goals.now h
+
+pub goals_known : (p : Setting) (f : ℕ) (s : State) → are_known p f s ≡ true → are_goals_known p f s ≡ true
+goals_known p f s h = both_right (list_all (is_property_known (known_of p f s) s.core.pc) p.target.properties.now) (are_goals_known p f s) h
 
 -- a state of a run meets what one of the search does that is like it
 met_same_by : (p : Setting) (f : ℕ) (a b : State) (near : AlikeTicks p f a b) (stopped : Option Stop) → a.core.stopped ≡ stopped

@@ -18,8 +18,9 @@ use Rattle.chip_explore.specs.declared.setting.Setting.{Setting}
 use Rattle.chip_explore.specs.declared.ways.Reading.{Reading}
 use Rattle.chip_explore.specs.Executed.{is_among, is_at_one}
 use Rattle.chip_explore.specs.inner.Kept.{state_at}
-use Rattle.chip_explore.specs.inner.Cover.{phase, tick_at, View, Grows, IsFine, Moves, forgotten_at, Joins, SafeFor, Safe, IsTaken, Extends, GoesTo, GoesOn, GoesBy, HasChoices, HasValues, Holds, IsAt, Goes, Leads, LeadsAs, view_of}
+use Rattle.chip_explore.specs.inner.Cover.{phase, tick_at, View, Grows, IsFine, Moves, forgotten_at, Joins, SafeFor, Safe, IsTaken, Extends, GoesTo, GoesOn, GoesBy, HasChoices, HasValues, Holds, IsAt, Goes, Leads, LeadsAs, Ends, view_of}
 use Rattle.chip_explore.specs.inner.Delays.{read_as, timed_register}
+use Rattle.chip_explore.specs.inner.Known.{are_goals_known}
 use Rattle.chip_explore.proofs.Alike.{alike_through, alike_within, within_both}
 
 -- what is fine stays so where more addresses are noted
@@ -34,7 +35,7 @@ still_noted early late more s noted =
 module _ (p : Setting) (early late : List Bool) (more : Grows early late) (f : ℕ) (s : State) where
   pub still_fine : IsFine p early f s → IsFine p late f s
   still_fine fine =
-      record { avoided = fine.avoided; noted = still_noted early late more s fine.noted; known = fine.known }
+      record { avoided = fine.avoided; noted = still_noted early late more s fine.noted; known = fine.known; ended = fine.ended }
 
   pub still_moves : Moves p early f s → Moves p late f s
   still_moves moves = record { fine = still_fine moves.fine; same = moves.same; untimed = moves.untimed; drawn = moves.drawn }
@@ -75,7 +76,7 @@ module _ (p : Setting) (v w : View) (more : Extends p v w) where
       (still_moves p v.executed w.executed more.executed m s safe.0, safe.1, (safe.2.0, safe.2.1, still_safe_for k safe.2.0 (step_of s 0 (tick_at p t)) (t + 1) safe.2.2))
 
   pub still_safe : (m : ℕ) (s : State) (t : ℕ) → Safe p v m s t → Safe p w m s t
-  still_safe m s t safe = record { moves = safe.moves; path = still_safe_for safe.moves m s t safe.path }
+  still_safe m s t safe = record { moves = safe.moves; few = safe.few; path = still_safe_for safe.moves m s t safe.path }
 
   pub still_goes : (m : ℕ) (s next : State) (t : ℕ) → GoesTo p v m s next t → GoesTo p w m s next t
   still_goes m s next t goes = record { after = goes.after; is_after = goes.is_after; safe = still_safe goes.after next (t + 1) goes.safe }
@@ -83,9 +84,6 @@ module _ (p : Setting) (v w : View) (more : Extends p v w) where
   pub still_goes_on : (register : Option ℕ) (m : ℕ) (s : State) (t : ℕ) → GoesBy register p v m s t → GoesBy register p w m s t
   still_goes_on None m s t on = λ keys within. still_goes m s _ t (on keys within)
   still_goes_on (Some register) m s t on = λ value low. still_goes m s _ t (on value low)
-
-pub one_move : (p : Setting) (v : View) (m : ℕ) (s : State) (t : ℕ) → Moves p v.executed m s → IsUnread m s → GoesTo p v m s (step_of s 0 (tick_at p t)) t → Safe p v m s t
-one_move p v m s t move unread goes = record { moves = suc goes.safe.moves; path = (move, unread, (goes.after, goes.is_after, goes.safe.path)) }
 
 pub extends_same : (p : Setting) (v : View) → Extends p v v
 extends_same p v = record { limit = omega arith; count = omega arith; member = λ j l. refl; forgotten = λ j l. refl; early = λ j l. omega arith; phased = λ j l. refl; executed = λ pc h. h }
@@ -113,6 +111,7 @@ still_taken p v w more j kept same taken =
     let forgotten = more.forgotten j kept in
     record {
       drawn = subst (λ (s : State). s.core.draws < 2 ^ 64 - 1) (sym member) taken.drawn;
+      asked = subst (λ (m : ℕ). are_goals_known p m (w.member j) ≡ true) (sym forgotten) (subst (λ (s : State). are_goals_known p (forgotten_at v j) s ≡ true) (sym member) taken.asked);
       unread = subst (λ (m : ℕ). IsUnread m (w.member j)) (sym forgotten) (subst (λ (s : State). IsUnread (forgotten_at v j) s) (sym member) taken.unread);
       goes_on =
           subst (λ (m : ℕ). GoesOn p w m (w.member j) (slice_index w.steps j)) (sym forgotten)
@@ -228,9 +227,9 @@ pub goes_noted : (p : Setting) (m : Members) → Holds p m → (executed : List 
 goes_noted p m holds executed grows = goes_alike p m (record m { executed = executed }) holds refl refl refl grows refl refl refl refl
 
 -- a fine state that a kept one is like
-pub safe_joined : (p : Setting) (m n : Members) → Goes p m n → (f : ℕ) (s : State) (t : ℕ) → IsFine p m.executed f s → Joins p (view_of n) f s t → Safe p (view_of n) f s t
-safe_joined p m n more f s t fine joins =
-    record { moves = 0; path = inr (still_fine p m.executed n.executed more.extends.executed f s fine, inr joins) }
+ends_joined : (p : Setting) (m n : Members) → Goes p m n → (f : ℕ) (s : State) (t : ℕ) → IsFine p m.executed f s → Joins p (view_of n) f s t → Ends p (view_of n) f s t
+ends_joined p m n more f s t fine joins =
+    inr (still_fine p m.executed n.executed more.extends.executed f s fine, inr joins)
 
 -- a kept state that is like one, which was reached at that step or before
 pub joins_at : (p : Setting) (m : Members) (place f : ℕ) (s : State) (t : ℕ) → IsAt p m place f s t → slice_index m.steps.items place ≤ t → Joins p (view_of m) f s t
@@ -263,12 +262,22 @@ joins_as p v f g s erased t within same joins =
       alike = alike_through all (v.member joins.place) erased joins.alike s (alike_within g erased s same all joins.within);
     }
 
-pub safe_erased : (p : Setting) (m n : Members) → Goes p m n → (f g : ℕ) (s erased : State) (t : ℕ) → IsFine p m.executed f s → AreWithin f g → Alike g erased s
-    → (n.limit ≤ t) ⊎ Joins p (view_of n) g erased t → Safe p (view_of n) f s t
-safe_erased p m n more f g s erased t fine within same ends =
+pub at_erased : (p : Setting) (m : Members) (place f g : ℕ) (s erased : State) (t : ℕ) → AreWithin f g → Alike g erased s → IsAt p m place g erased t → IsAt p m place f s t
+at_erased p m place f g s erased t within same at =
+    let all = forgotten_at (view_of m) place in
+    record {
+      kept = at.kept;
+      phased = at.phased;
+      within = within_both f g all within at.within;
+      alike = alike_through all ((view_of m).member place) erased at.alike s (alike_within g erased s same all at.within);
+    }
+
+pub ends_erased : (p : Setting) (m n : Members) → Goes p m n → (f g : ℕ) (s erased : State) (t : ℕ) → IsFine p m.executed f s → AreWithin f g → Alike g erased s
+    → (n.limit ≤ t) ⊎ Joins p (view_of n) g erased t → Ends p (view_of n) f s t
+ends_erased p m n more f g s erased t fine within same ends =
     elim ends [
-      | inl past ↦ record { moves = 0; path = inl past }
-      | inr joins ↦ safe_joined p m n more f s t fine (joins_as p (view_of n) f g s erased t within same joins)
+      | inl past ↦ inl past
+      | inr joins ↦ ends_joined p m n more f s t fine (joins_as p (view_of n) f g s erased t within same joins)
     ]
 
 pub goes_more : (p : Setting) (l m n : Members) → Goes p l m → Goes p m n → Goes p l n
@@ -295,14 +304,16 @@ leads_after p l m n two place step keys leads = still_goes p (view_of m) (view_o
 -- a state is taken once each of its ways was followed
 taken_by : (p : Setting) (l n : Members) → Goes p l n → (place step : ℕ) → place < length l.steps.items → (register : Option ℕ)
     → timed_register p ((view_of l).member place) ≡ register → ((view_of l).member place).core.draws < 2 ^ 64 - 1
+    → are_goals_known p (forgotten_at (view_of l) place) ((view_of l).member place) ≡ true
     → IsUnread (forgotten_at (view_of l) place) ((view_of l).member place)
     → GoesBy register p (view_of n) (forgotten_at (view_of l) place) ((view_of l).member place) step
     → slice_index n.steps.items place ≡ step → IsTaken p (view_of n) place
-taken_by p l n more place step kept register is drawn unread on same =
+taken_by p l n more place step kept register is drawn asked unread on same =
     let member : (view_of n).member place ≡ (view_of l).member place = same_member p l n more place kept in
     let forgotten : forgotten_at (view_of n) place ≡ forgotten_at (view_of l) place = same_forgotten p l n more place kept in
     record {
       drawn = subst (λ (s : State). s.core.draws < 2 ^ 64 - 1) (sym member) drawn;
+      asked = subst (λ (f : ℕ). are_goals_known p f ((view_of n).member place) ≡ true) (sym forgotten) (subst (λ (s : State). are_goals_known p (forgotten_at (view_of l) place) s ≡ true) (sym member) asked);
       unread = subst (λ (f : ℕ). IsUnread f ((view_of n).member place)) (sym forgotten) (subst (λ (s : State). IsUnread (forgotten_at (view_of l) place) s) (sym member) unread);
       goes_on =
           subst (λ (f : ℕ). GoesOn p (view_of n) f ((view_of n).member place) (slice_index n.steps.items place)) (sym forgotten)
@@ -337,7 +348,7 @@ module _ (p : Setting) (l m n : Members) (one : Goes p l m) (two : Goes p m n) (
 
   pub all_taken : slice_index n.steps.items place ≡ step → IsTaken p (view_of n) place
   all_taken same =
-      taken_by p l n (goes_more p l m n one two) place step kept None has.untimed has.drawn has.unread on_and_on same
+      taken_by p l n (goes_more p l m n one two) place step kept None has.untimed has.drawn has.asked has.unread on_and_on same
 
 -- or each value of the delay timer
 pub all_read : (p : Setting) (l n : Members) → Goes p l n → (place step : ℕ) → place < length l.steps.items → (read : Reading)
@@ -345,7 +356,7 @@ pub all_read : (p : Setting) (l n : Members) → Goes p l n → (place step : �
     → ((value : ℕ) → value ≤ read.bound → LeadsAs p l n place step value)
     → slice_index n.steps.items place ≡ step → IsTaken p (view_of n) place
 all_read p l n more place step kept read has each same =
-    taken_by p l n more place step kept (Some read.register) has.timed has.drawn has.unread
+    taken_by p l n more place step kept (Some read.register) has.timed has.drawn has.asked has.unread
     (λ value low. each value (subst (λ (bound : ℕ). value ≤ bound) has.bound low))
     same
 

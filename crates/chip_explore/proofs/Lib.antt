@@ -3,7 +3,10 @@ pub mod Asked
 pub mod Covered
 pub mod Deep
 pub mod Growth
+pub mod Halted
+pub mod Lost
 pub mod OneOf
 pub mod Places
 pub mod Delays
 pub mod ReadLemmas
+pub mod Reached

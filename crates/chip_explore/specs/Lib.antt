@@ -4,6 +4,7 @@
 --     Property     properties of a state, which an author states of a game
 --     Target       which states a search looks for
 --     Scripts      key scripts, and what none of them reaches
+--     Prospects    whether some goals can be reached from everywhere
 --     Executed     at which addresses a machine makes steps
 --     Answers      what each answer says
 --     Speeds       what is said of all speeds of the timers
@@ -13,6 +14,7 @@ pub mod Causes
 pub mod Property
 pub mod Target
 pub mod Scripts
+pub mod Prospects
 pub mod Executed
 pub mod Answers
 pub mod Speeds

@@ -3,7 +3,7 @@
 
 ghost use Rattle.std.specs.Prelude.{◌≡◌, ◌<◌, ◌≤◌, ◌-◌, ◌^◌, length, IfOk, IfSome, IsNone};
 ghost use Rattle.chip_machine.specs.Relevant.{Alike};
-ghost use Rattle.chip_explore.specs.inner.Cover.{Grows, IsEnd, Moves, Safe, View};
+ghost use Rattle.chip_explore.specs.inner.Cover.{Ends, Grows, IsEnd, Moves, Safe, View};
 
 use crate::executed::Executed;
 use crate::kept::Base;
@@ -18,9 +18,9 @@ use std::alloc::{AllocError, Global};
 pub(crate) enum End {
     /// The limit is met.
     Past,
-    /// The machine meets the target.
+    /// The machine meets the target, or has stopped and doesn't meet the goals.
     Wanted,
-    /// The machine has stopped for another cause.
+    /// The machine has stopped for another cause, and meets the goals.
     Halted,
     /// The next step can tell keys apart, or values of the delay timer, or the steps are many.
     Joined,
@@ -80,7 +80,7 @@ impl Runner {
         requires rate { 0 < setting.now.rate }
         ensures grows { Grows executed.old executed.new }
         ensures path { (v : View) → Grows executed.new v.executed
-            → Safe setting.now v self.new.forgotten self.new.machine result.step
+            → Ends setting.now v self.new.forgotten self.new.machine result.step
             → Safe setting.now v self.old.forgotten self.old.machine from }
         ensures end { IsEnd setting.now executed.new limit self.new.forgotten self.new.machine
             result.step result.end }
@@ -148,7 +148,11 @@ impl Runner {
             return Some(End::Wanted);
         }
         if !is_going {
-            return Some(End::Halted);
+            return Some(if setting.meets_goals(&self.machine) {
+                End::Halted
+            } else {
+                End::Wanted
+            });
         }
         executed.note(self.machine.pc());
         if left == 0 || self.machine.draws() == u64::MAX {

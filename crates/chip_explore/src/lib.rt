@@ -4,6 +4,7 @@
 
 mod backdrop;
 mod causes;
+mod climb;
 mod confirm;
 mod executed;
 mod finder;
@@ -16,21 +17,26 @@ mod leg;
 mod limits;
 mod members;
 mod property;
+mod prospect;
 mod question;
+mod ranks;
 mod script;
 mod search;
+mod searching;
 mod seen;
 mod setting;
 mod sum;
 mod target;
 mod watcher;
 mod ways;
+mod ways_back;
 mod window;
 
 pub use causes::Causes;
 pub use executed::Executed;
-pub use limits::END;
+pub use limits::{END, FAR};
 pub use property::{Comparison, Condition, Item, Property, Relation, Sum, Term};
+pub use prospect::{Foreseen, Prospect, Pursuit, foresee};
 pub use question::{Bounds, Explored, Outcome, Question, Ticks, explore};
 pub use script::KeyEvent;
 pub use seen::{STOPS, Seen};

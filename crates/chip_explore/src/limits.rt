@@ -5,6 +5,10 @@ use chip_replay::MOST_EVENTS;
 /// The step below which a search speaks of: the count of random bytes used is exact up to it.
 pub const END: u64 = u64::MAX;
 
+/// The step below which an answer speaks of the states from which a goal can be reached: the way there ends
+/// below `END`.
+pub const FAR: u64 = 1 << 63;
+
 /// How many steps that don't tell keys apart are made in a row before their state is kept.
 pub(crate) const MOST_QUIET_STEPS: u32 = 1_000;
 

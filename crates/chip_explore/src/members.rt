@@ -5,7 +5,7 @@ ghost use Rattle.chip_machine.specs.State.{IsProper};
 ghost use Rattle.chip_explore.specs.Executed.{is_at_one};
 ghost use Rattle.chip_explore.specs.inner.Kept.{state_at};
 ghost use Rattle.chip_explore.specs.inner.Delays.{delay_register, read_as};
-ghost use Rattle.chip_explore.specs.inner.Cover.{phase, view_of, Holds, Goes, IsAt, IsTaken, Joins};
+ghost use Rattle.chip_explore.specs.inner.Cover.{phase, view_of, Holds, Goes, IsAt, IsTaken, IsWhole, Joins};
 
 use crate::executed::Executed;
 use crate::kept::{Base, Kept};
@@ -240,5 +240,18 @@ impl Members {
             }
         }
         covered
+    }
+
+    /// That step, or 0 where the members speak of none.
+    pub(crate) fn covered_or_none(&self) -> u64 {
+        if self.limit == 0 { 0 } else { self.covered() }
+    }
+
+    /// Whether they speak of all steps below `END`, and each state was taken up: true only where it is so.
+    pub(crate) fn is_whole(&self, setting: &Setting<'_>) -> bool
+        requires { Holds setting.now self.now }
+        ensures { IsTrue result → IsWhole setting.now self.now }
+    {
+        self.limit == END && self.covered() + 1 == END
     }
 }

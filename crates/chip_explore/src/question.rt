@@ -12,17 +12,15 @@ ghost use Rattle.chip_explore.specs.Scripts as spec;
 ghost use Rattle.chip_explore.specs.Speeds.{AvoidsAtAnySpeed, NeverAtAnySpeed};
 ghost use Rattle.chip_explore.specs.Target.{met_in};
 
-use crate::backdrop::Backdrops;
 use crate::confirm::{keys_of, met_under};
 use crate::executed::Executed;
-use crate::finder::{Finder, Order, Origin};
+use crate::finder::{Finder, Order};
 use crate::guesses::Guesses;
-use crate::kept::Base;
-use crate::leg::Runner;
 use crate::limits::{END, FREE_SHARE, MOST_ATTEMPTS};
 use crate::members::Members;
 use crate::script::{KeyEvent, script_to};
 use crate::search::Search;
+use crate::searching::{Beginning, search_from};
 use crate::seen::Seen;
 use crate::setting::Setting;
 use crate::target::{Met, Target};
@@ -160,7 +158,7 @@ impl Outcome {
 
 impl Explored {
     /// What a search says that kept no state.
-    fn at_once(outcome: Outcome, executed: Executed, is_short: bool) -> Explored
+    pub(crate) fn at_once(outcome: Outcome, executed: Executed, is_short: bool) -> Explored
         ensures outcome { result.outcome ≡ outcome }
         ensures executed { result.executed ≡ executed }
         ensures states { result.states ≡ 0 }
@@ -309,6 +307,7 @@ pub fn explore<W: Watcher>(
         rate: question.rate,
         allowed: question.allowed,
         target: question.target.again(),
+        goals: &[],
         free: true,
         is_strict: bounds.ticks == Ticks::AtRate || question.target.names_delay(),
         most_timed: bounds.most_timed(),
@@ -509,15 +508,6 @@ fn search<W: Watcher>(
     Ok(last.explored)
 }
 
-/// The first state whose next step can tell keys apart, from which others differ in little.
-fn base_for(alloc: Global, start: &Machine, setting: &Setting<'_>) -> Result<Base, AllocError>
-    requires { 0 < setting.now.rate }
-{
-    let mut runner = Runner::new(alloc, start)?;
-    let _leg = runner.run(setting, u64::MAX, 0, &mut Executed::none());
-    Base::of(alloc, &runner.machine)
-}
-
 /// One search: an error where memory ran out at its start.
 fn search_once<W: Watcher>(
     alloc: Global,
@@ -545,16 +535,13 @@ fn search_once<W: Watcher>(
         → NeverAtAnySpeed setting.now.allowed setting.now.target start.now) }
 {
     let finder = Finder::new(alloc, order, seen, guesses);
-    let end = finder.end(bounds.steps);
-    let mut search = Search {
-        members: Members::new(alloc, start, base_for(alloc, start, setting)?)?,
-        runner: Runner::new(alloc, start)?,
-        finder,
-        backdrops: Backdrops::new(alloc),
-        probe: Base::of(alloc, start)?,
-        end,
+    let beginning = Beginning {
+        machine: start,
+        step: 0,
     };
-    let is_short = search_all(&mut search, setting, bounds, watcher).is_err();
+    let searched = search_from(alloc, &beginning, setting, bounds, watcher, finder)?;
+    let is_short = searched.is_short;
+    let search = searched.search;
     let explored = explored_by(alloc, setting, &search, bounds, is_short);
     let finder = search.finder;
     Ok(Attempt {
@@ -563,25 +550,6 @@ fn search_once<W: Watcher>(
         is_refuted: finder.is_refuted(setting),
         guesses: finder.guesses.again(),
     })
-}
-
-/// Keeps the first state, and takes up states from it on.
-fn search_all<W: Watcher>(
-    search: &mut Search,
-    setting: &Setting<'_>,
-    bounds: &Bounds,
-    watcher: &mut W,
-) -> Result<(), AllocError>
-    requires rate { 0 < setting.now.rate }
-    requires holds { Holds setting.now search.old.members }
-    requires none { search.old.members.steps.items ≡ [] }
-    ensures goes { Goes setting.now search.old.members search.new.members }
-    ensures begun { Safe setting.now (view_of search.new.members) search.old.runner.forgotten
-        search.old.runner.machine 0 }
-    ensures few { length search.new.members.steps.items ≤ bounds.now.states + most_ways }
-{
-    search.run_on(setting, 0, Origin::START)?;
-    search.run(setting, bounds.states, watcher)
 }
 
 /// A step up to which no key script makes the machine meet the target.

@@ -4,7 +4,7 @@ ghost use Rattle.std.specs.Prelude.{◌≡◌, ◌<◌, ◌≤◌, ◌+◌, ◌-
 ghost use Rattle.chip_machine.specs.Step.{step_of};
 ghost use Rattle.chip_machine.specs.Step as spec;
 ghost use Rattle.chip_explore.specs.Answers.{most_ways};
-ghost use Rattle.chip_explore.specs.inner.Cover.{forgotten_at, view_of, Holds, HasChoices, Goes, HasValues, HasWays, IsFine, Joins, Leads, LeadsAs, Safe};
+ghost use Rattle.chip_explore.specs.inner.Cover.{forgotten_at, view_of, Ends, Holds, HasChoices, Goes, HasValues, HasWays, IsFine, Joins, Leads, LeadsAs, Safe};
 
 use crate::backdrop::Backdrops;
 use crate::finder::{Finder, Origin, Turn};
@@ -73,7 +73,7 @@ impl Search {
         requires fine { IsFine setting.now self.old.members.executed self.old.runner.forgotten
             self.old.runner.machine }
         ensures goes { Goes setting.now self.old.members self.new.members }
-        ensures safe { OnOk result (Safe setting.now (view_of self.new.members)
+        ensures ends { OnOk result (Ends setting.now (view_of self.new.members)
             self.old.runner.forgotten self.old.runner.machine step) }
         ensures few { length self.new.members.steps.items
             ≤ length self.old.members.steps.items + 1 }
@@ -361,10 +361,14 @@ impl Search {
         {
             return Ok(None);
         }
-        match runner
-            .machine
-            .forgotten_after(self.members.forgotten[place], 0)
-        {
+        let forgotten = self.members.forgotten[place];
+        if !setting.are_goals_known(&runner.machine, forgotten) {
+            let read = setting.asked_of(&runner.machine, forgotten);
+            let origin = self.finder.origin(place, step, 0);
+            self.refute(origin, read);
+            return Ok(None);
+        }
+        match runner.machine.forgotten_after(forgotten, 0) {
             Ok(after) => match setting.timed_register(&runner.machine) {
                 Some(register) => Ok(Some(Ways::Values(Reading {
                     register,

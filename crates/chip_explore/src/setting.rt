@@ -1,11 +1,13 @@
 //! What a search is about.
 
-ghost use Rattle.std.specs.Prelude.{◌≡◌, ◌<◌, ◌-◌, ◌^◌, IfSome};
-ghost use Rattle.chip_explore.specs.inner.Cover.{phase, tick_at};
+ghost use Rattle.std.specs.Prelude.{◌≡◌, ◌<◌, ◌-◌, ◌^◌, None, IfSome};
+ghost use Rattle.chip_explore.specs.inner.Cover.{meets_goals, phase, tick_at};
 ghost use Rattle.chip_explore.specs.inner.Delays.{timed_register};
-ghost use Rattle.chip_explore.specs.inner.Known.{are_known};
+ghost use Rattle.chip_explore.specs.inner.Known.{are_goals_known, are_known};
 
+use crate::causes::Causes;
 use crate::known::Known;
+use crate::property::Property;
 use crate::seen::Seen;
 use crate::target::Target;
 use crate::ways::delay_register;
@@ -19,6 +21,8 @@ pub(crate) struct Setting<'a> {
     /// The keys that may be down, key k at bit k.
     pub(crate) allowed: u16,
     pub(crate) target: Target<'a>,
+    /// What each machine that stops is to meet.
+    pub(crate) goals: &'a [Property],
     /// The timers may tick after any step: the delay timer of a state is a bound of that of a run, and
     /// no step of the search ticks.
     pub(crate) free: bool,
@@ -36,16 +40,57 @@ impl<'a> Setting<'a> {
         ensures rate { result.rate ≡ self.now.rate }
         ensures allowed { result.allowed ≡ self.now.allowed }
         ensures target { result.target ≡ self.now.target }
+        ensures goals { result.goals ≡ self.now.goals }
         ensures free { result.free ≡ free }
     {
         Setting {
             rate: self.rate,
             allowed: self.allowed,
             target: self.target.again(),
+            goals: self.goals,
             free,
             is_strict,
             most_timed: self.most_timed,
             awaited,
+        }
+    }
+
+    /// This setting once more.
+    pub(crate) fn again(&self) -> Setting<'a>
+        ensures { result ≡ self.now }
+    {
+        Setting {
+            rate: self.rate,
+            allowed: self.allowed,
+            target: self.target.again(),
+            goals: self.goals,
+            free: self.free,
+            is_strict: self.is_strict,
+            most_timed: self.most_timed,
+            awaited: self.awaited,
+        }
+    }
+
+    /// What a search is about that looks for the goals.
+    pub(crate) fn for_goals(&self) -> Setting<'a>
+        ensures rate { result.rate ≡ self.now.rate }
+        ensures allowed { result.allowed ≡ self.now.allowed }
+        ensures target { result.target.properties.now ≡ self.now.goals.now }
+        ensures address { result.target.address ≡ None }
+    {
+        Setting {
+            rate: self.rate,
+            allowed: self.allowed,
+            target: Target {
+                causes: Causes::none(),
+                address: None,
+                properties: self.goals,
+            },
+            goals: &[],
+            free: true,
+            is_strict: true,
+            most_timed: self.most_timed,
+            awaited: Seen::none(),
         }
     }
 
@@ -74,7 +119,7 @@ impl<'a> Setting<'a> {
         }
     }
 
-    /// Whether a machine has what the properties ask of it, where some parts are forgotten.
+    /// Whether a machine has what the properties and the goals ask of it, where some parts are forgotten.
     #[inline]
     pub(crate) fn are_known(&self, machine: &Machine, forgotten: Forgotten) -> bool
         ensures { result ≡ are_known self.now forgotten machine.now }
@@ -85,15 +130,37 @@ impl<'a> Setting<'a> {
             pc: machine.pc(),
         };
         known.has_properties(machine.pc(), self.target.properties)
+            && self.are_goals_known(machine, forgotten)
     }
 
-    /// The parts of what is forgotten that the properties ask of a machine.
+    /// Whether it has what the goals ask of it.
+    pub(crate) fn are_goals_known(&self, machine: &Machine, forgotten: Forgotten) -> bool
+        ensures { result ≡ are_goals_known self.now forgotten machine.now }
+    {
+        let known = Known {
+            forgotten,
+            has_delay: !self.free || machine.delay() == 0,
+            pc: machine.pc(),
+        };
+        known.has_properties(machine.pc(), self.goals)
+    }
+
+    /// Whether a machine meets each goal.
+    pub(crate) fn meets_goals(&self, machine: &Machine) -> bool
+        ensures { result ≡ meets_goals self.now machine.now }
+    {
+        self.goals.iter().all(|goal| goal.is_met(machine))
+    }
+
+    /// The parts of what is forgotten that the properties and the goals ask of a machine.
     #[inline(never)]
     pub(crate) fn asked_of(&self, machine: &Machine, forgotten: Forgotten) -> Forgotten {
         let mut asked = Forgotten::nothing();
-        for property in self.target.properties {
-            if property.is_at(machine.pc()) {
-                asked = asked.with(property.named(forgotten, machine.pc()));
+        for properties in [self.target.properties, self.goals] {
+            for property in properties {
+                if property.is_at(machine.pc()) {
+                    asked = asked.with(property.named(forgotten, machine.pc()));
+                }
             }
         }
         asked

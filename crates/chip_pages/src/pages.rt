@@ -275,7 +275,7 @@ static LINE_PAGES: [Page; 31] = [
     Page {
         code: "P5",
         title: "what can't be asked",
-        meaning: "A property names what a search doesn't tell states apart by: ST, K or DRAWS. Or it begins with `can`, which is not answered yet, or has `here` but no line, as in a text of `explore --never`.",
+        meaning: "A property names what a search doesn't tell states apart by: ST, K or DRAWS. Or it has `here` but no line, as in a text of `explore --never`.",
         example: Example::Source("STOP: JP STOP\n;! always ST = 0"),
         fix: "Ask a register, a byte of the memory, or DT. KEYS is 1 where the next instruction asks for a key.",
     },

@@ -1,6 +1,6 @@
 -- What tokens are by the grammar is found: values, items and addends.
-use Rattle.std.proofs.Common.{◌≡◌, ◌⊎◌, inl, inr, ℕ, zero, suc, ◌+◌, ◌<◌, ◌≤◌, ◌==◌, Bool, true, false, not, if◌then◌else◌, List, [], ◌∷◌, ◌++◌, length, take, drop, Option, Some, None, Result, Ok, refl, sym, subst, ◌∙◌, ap, append_assoc, append-nil, length-append, arith}
-use Rattle.std.specs.Prelude.{◌&&◌, ◌||◌, pos, nat_lt, codes, is_some, option_map, option_and_then}
+use Rattle.std.proofs.Common.{◌≡◌, ◌⊎◌, inl, inr, ℕ, ◌+◌, ◌<◌, ◌==◌, Bool, true, false, not, if◌then◌else◌, List, [], ◌∷◌, ◌++◌, length, take, drop, Option, Some, None, refl, sym, subst, ◌∙◌, ap, append_assoc, append-nil, length-append, arith}
+use Rattle.std.specs.Prelude.{◌&&◌, ◌||◌, nat_lt, codes, is_some, option_and_then}
 use Rattle.std.specs.Str.{bytes_eq}
 use Rattle.std.proofs.lemmas.Bool.Decides.{nat_tests}
 use Rattle.std.proofs.lemmas.Slice.Eq.{bytes_eq-Decides}
@@ -15,10 +15,10 @@ use Rattle.chip_lang.specs.Keyword.{directive_of, register_of, special_of}
 use Rattle.chip_lang.specs.Line.{is_the, is_sign_of}
 use Rattle.chip_lang.specs.Reserved.{is_reserved}
 use Rattle.chip_lang.specs.Tree.{Tree}
-use Rattle.chip_lang.specs.Value.{Symbols, value}
+use Rattle.chip_lang.specs.Value.{Symbols}
 use Rattle.chip_lang.proofs.Complete.{every_expression}
 use Rattle.chip_explore.specs.declared.property.Item.{Item}
-use Rattle.chip_explore.specs.declared.property.Item.TheVariants.{Byte, Pixel, Index, Place as At, Delay, Depth, High, AsksKeys}
+use Rattle.chip_explore.specs.declared.property.Item.TheVariants.{Index, Place as At, Delay, Depth, High, AsksKeys}
 use Rattle.chip_properties.specs.declared.limits.TheConstants.{SCREEN_WIDTH, SCREEN_HEIGHT}
 use Rattle.chip_properties.specs.declared.separator.Separator.{Separator}
 use Rattle.chip_properties.specs.declared.separator.Separator.TheVariants.{Place, And, Or, Relation as relation, Plus, Times, Comma}
@@ -26,9 +26,9 @@ use Rattle.chip_properties.specs.declared.stated.Kind.{Kind}
 use Rattle.chip_properties.specs.declared.stated.Kind.TheVariants.{Always, Never, Ever, Can}
 use Rattle.chip_properties.specs.Words.{is_property_word, item_of_word, kind_of_word, or_register, other_item}
 use Rattle.chip_properties.specs.Nesting.{level_after}
-use Rattle.chip_properties.specs.computed.Separated.{separates, count_before, before_first, from_first, after_first, tail_of, ended, enclosed}
-use Rattle.chip_properties.specs.computed.Reading.{number_in, if_below, number_below_in, value_in, byte_in, pixel_in, item_in, is_item, alone_in, times_in, addend_in}
-use Rattle.chip_properties.specs.Language.{IsNumber, IsFree, IsValue, one_token, in_parentheses as a_value_in_parentheses, IsItem, named, a_byte, a_pixel, Addend, a_number as a_number_alone, times, IsAddend, a_value, an_item, a_product}
+use Rattle.chip_properties.specs.computed.Separated.{separates, count_before, before_first, from_first, after_first, tail_of, enclosed}
+use Rattle.chip_properties.specs.computed.Reading.{number_in, if_below, number_below_in, value_in, byte_in, pixel_in, item_in, is_item, addend_in}
+use Rattle.chip_properties.specs.Language.{IsNumber, IsValue, one_token, in_parentheses as a_value_in_parentheses, IsItem, named, a_byte, a_pixel, Addend, IsAddend, a_value, an_item, a_product}
 use Rattle.chip_properties.proofs.Ends.{ended_by}
 
 -- ---- tokens that a separator is looked for after

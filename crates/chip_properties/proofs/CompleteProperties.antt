@@ -1,6 +1,6 @@
 -- What tokens state by the grammar is found.
-use Rattle.std.proofs.Common.{◌≡◌, ℕ, ◌+◌, ◌<◌, ◌==◌, Bool, true, false, not, if◌then◌else◌, List, [], ◌∷◌, ◌++◌, length, Option, Some, None, Result, Ok, Err, IfOk, IfErr, refl, sym, subst, ◌∙◌, ap, append_assoc, arith}
-use Rattle.std.specs.Prelude.{codes, nat_lt, option_map, option_and_then}
+use Rattle.std.proofs.Common.{◌≡◌, ℕ, ◌<◌, true, false, not, List, [], ◌∷◌, ◌++◌, Option, Some, None, Ok, Err, IfOk, IfErr, refl, sym, ◌∙◌, ap, append_assoc, arith}
+use Rattle.std.specs.Prelude.{codes, nat_lt}
 use Rattle.std.proofs.lemmas.Bool.Decides.{nat_tests}
 use Rattle.chip_lang.specs.declared.limits.TheConstants.{MEMORY_BYTES}
 use Rattle.chip_lang.specs.declared.lexeme.Lexeme.{Lexeme}
@@ -11,13 +11,12 @@ use Rattle.chip_properties.specs.declared.separator.Separator.TheVariants.{Place
 use Rattle.chip_properties.specs.declared.stated.Kind.{Kind}
 use Rattle.chip_properties.specs.declared.stated.Kind.TheVariants.{Always, Never, Ever, Can}
 use Rattle.chip_properties.specs.SeenProperty.{SeenSum, SeenComparison, SeenCondition, SeenProperty}
-use Rattle.chip_properties.specs.Words.{kind_of_word}
-use Rattle.chip_properties.specs.computed.Separated.{count_before, before_first, from_first}
-use Rattle.chip_properties.specs.computed.Reading.{if_below, value_in, condition_in, at_in, place_in, is_always, is_can, given_in, property_in, kind_in_front, of_kind, stated_in}
-use Rattle.chip_properties.specs.Language.{IsNumber, IsValue, one_token, in_parentheses, IsItem, named, a_byte, a_pixel, Addend, IsAddend, a_value, an_item, a_product, joined, AreEach, IsSum, IsComparison, IsCondition, IsPlace, nowhere, at_here, at_address, IsGiven, a_condition, no_condition, is_wanted, IsProperty, IsStated, with_kind, without, StateNothing}
+use Rattle.chip_properties.specs.computed.Separated.{count_before}
+use Rattle.chip_properties.specs.computed.Reading.{if_below, value_in, condition_in, place_in, is_always, given_in, property_in, kind_in_front, of_kind, stated_in}
+use Rattle.chip_properties.specs.Language.{IsValue, one_token, in_parentheses, IsItem, named, a_byte, a_pixel, Addend, IsAddend, a_value, an_item, a_product, joined, AreEach, IsSum, IsComparison, IsCondition, IsPlace, nowhere, at_here, at_address, IsGiven, a_condition, no_condition, is_wanted, IsProperty, IsStated, with_kind, without, StateNothing}
 use Rattle.chip_properties.proofs.Sound.{nothing_is}
-use Rattle.chip_properties.proofs.SoundProperties.{Answer, Found, found}
-use Rattle.chip_properties.proofs.Complete.{Over, before_is, from_is, value_found, one_alone, free_no_kind, item_no_kind}
+use Rattle.chip_properties.proofs.SoundProperties.{Answer, found}
+use Rattle.chip_properties.proofs.Complete.{Over, before_is, from_is, value_found, free_no_kind, item_no_kind}
 use Rattle.chip_properties.proofs.CompleteSums.{condition_found, over_condition}
 
 -- ---- places
@@ -50,12 +49,6 @@ no_always Always h = absurd (h refl)
 no_always Never h = refl
 no_always Ever h = refl
 no_always Can h = refl
-
-no_can : (kind : Kind) → (kind ≡ Can → ⊥) → is_can kind ≡ false
-no_can Always h = refl
-no_can Never h = refl
-no_can Ever h = refl
-no_can Can h = absurd (h refl)
 
 wanted_found : (kind : Kind) → is_wanted kind ≡ not (is_always kind)
 wanted_found Always = refl
@@ -94,7 +87,6 @@ property_found {kind = kind} {p = p} h =
       from_is Place h.front h.back over (begins_place h.place),
       given_found h.given,
       place_found h.place,
-      no_can kind h.answered,
       ← wanted,
     ) refl
 

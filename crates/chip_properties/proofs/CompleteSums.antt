@@ -1,22 +1,20 @@
 -- What tokens are by the grammar is found: sums, comparisons and conditions.
-use Rattle.std.proofs.Common.{◌≡◌, ◌⊎◌, inl, inr, ℕ, zero, suc, ◌+◌, ◌^◌, ◌<◌, ◌≤◌, ◌==◌, Bool, true, false, if◌then◌else◌, List, [], ◌∷◌, ◌++◌, length, Option, Some, None, refl, sym, subst, ◌∙◌, ap, append_assoc, append-nil, length-append, arith}
-use Rattle.std.specs.Prelude.{◌&&◌, ◌||◌, codes, fold, nat_lt, option_map, option_and_then}
+use Rattle.std.proofs.Common.{◌≡◌, ◌⊎◌, inl, inr, ℕ, suc, ◌+◌, ◌^◌, ◌<◌, ◌≤◌, ◌==◌, Bool, true, false, List, [], ◌∷◌, ◌++◌, length, Option, Some, refl, sym, subst, ◌∙◌, ap, append_assoc, append-nil, length-append, arith}
+use Rattle.std.specs.Prelude.{◌||◌, codes, fold, nat_lt}
 use Rattle.std.proofs.lemmas.Bool.Decides.{nat_tests}
 use Rattle.chip_lang.specs.declared.lexeme.Lexeme.{Lexeme}
 use Rattle.chip_lang.specs.declared.lexeme.Lexeme.TheVariants.{Word, Sign}
 use Rattle.chip_lang.specs.Line.{is_sign_of}
 use Rattle.chip_lang.specs.Value.{Symbols}
-use Rattle.chip_explore.specs.declared.property.Item.{Item}
 use Rattle.chip_explore.specs.declared.property.Relation.{Relation}
 use Rattle.chip_explore.specs.declared.property.Relation.TheVariants.{Equal, Unequal, Less, LessOrEqual, Greater, GreaterOrEqual}
 use Rattle.chip_properties.specs.declared.limits.TheConstants.{MOST_COMPARISONS, MOST_TERMS}
 use Rattle.chip_properties.specs.declared.separator.Separator.{Separator}
-use Rattle.chip_properties.specs.declared.separator.Separator.TheVariants.{Place, And, Or, Relation as relation, Plus}
+use Rattle.chip_properties.specs.declared.separator.Separator.TheVariants.{Place, Or, Relation as relation, Plus}
 use Rattle.chip_properties.specs.SeenProperty.{SeenSum, SeenComparison, SeenCondition}
-use Rattle.chip_properties.specs.Nesting.{level_after}
-use Rattle.chip_properties.specs.computed.Separated.{separates, count_before, before_first, from_first, after_first, pieces, pieces_in}
-use Rattle.chip_properties.specs.computed.Reading.{addend_in, with_addend, added_in, summed, no_sum, sum_in, relation_in, compared, comparison_in, found_with, comparisons_in, condition_in, has_no_or, joint}
-use Rattle.chip_properties.specs.Language.{Addend, a_number, times, IsAddend, joined, AreEach, with, total, IsSum, signs_of, IsComparison, word_between, IsCondition}
+use Rattle.chip_properties.specs.computed.Separated.{separates, count_before, pieces}
+use Rattle.chip_properties.specs.computed.Reading.{with_addend, summed, no_sum, sum_in, relation_in, comparison_in, found_with, comparisons_in, condition_in, has_no_or, joint}
+use Rattle.chip_properties.specs.Language.{Addend, a_number, times, IsAddend, joined, AreEach, with, IsSum, signs_of, IsComparison, word_between, IsCondition}
 use Rattle.chip_properties.proofs.Pieces.{pieces_split}
 use Rattle.chip_properties.proofs.Complete.{Over, over_more, over_token, ends_there, before_is, from_is, at_sign, after_is, before_all, after_none, addend_found, over_addend}
 

@@ -1,11 +1,11 @@
 -- Tokens between separators.
-use Rattle.std.proofs.Common.{◌≡◌, ℕ, zero, suc, ◌+◌, ◌<◌, ◌≤◌, ◌==◌, Bool, true, false, if◌then◌else◌, List, [], ◌∷◌, ◌++◌, length, take, drop, Option, Some, None, refl, sym, ◌∙◌, ap, add-one, arith}
+use Rattle.std.proofs.Common.{◌≡◌, ℕ, zero, suc, ◌+◌, ◌<◌, ◌==◌, Bool, true, false, List, [], ◌∷◌, length, take, drop, Option, Some, None, refl, sym, ap, add-one, arith}
 use Rattle.std.specs.Prelude.{◌&&◌}
 use Rattle.chip_lang.specs.declared.lexeme.Lexeme.{Lexeme}
 use Rattle.chip_properties.specs.declared.part.Part.{Part}
 use Rattle.chip_properties.specs.declared.separator.Separator.{Separator}
 use Rattle.chip_properties.specs.Nesting.{level_after}
-use Rattle.chip_properties.specs.computed.Separated.{separates, count_before, before_first, from_first, after_first, tail_of, with_front, pieces, pieces_in}
+use Rattle.chip_properties.specs.computed.Separated.{separates, count_before, before_first, after_first, tail_of, with_front, pieces, pieces_in}
 
 tail_suc : (ts : List Lexeme) (n : ℕ) → n < length ts → tail_of (drop n ts) ≡ Some (drop (suc n) ts)
 tail_suc [] n h = absurd (omega arith)

@@ -1,7 +1,6 @@
 -- What tokens are found to state is what they state by the grammar.
-use Rattle.std.proofs.Common.{◌≡◌, ◌≢◌, ◌⊎◌, inl, inr, ℕ, zero, suc, ◌+◌, ◌<◌, ◌≤◌, ◌==◌, Bool, true, false, not, if◌then◌else◌, List, [], ◌∷◌, ◌++◌, length, take, drop, Option, Some, None, Result, Ok, Err, refl, sym, subst, ◌∙◌, ap, append_assoc, add-one, arith}
-use Rattle.std.specs.Prelude.{◌&&◌, ◌||◌, ℤ, pos, negsuc, nat_lt, codes, fold, option_map, option_and_then}
-use Rattle.std.specs.Str.{bytes_eq}
+use Rattle.std.proofs.Common.{◌≡◌, ℕ, zero, suc, ◌<◌, ◌==◌, Bool, true, false, if◌then◌else◌, List, [], ◌∷◌, ◌++◌, take, drop, Option, Some, None, Result, Ok, Err, refl, sym, subst, ◌∙◌, ap, add-one, arith}
+use Rattle.std.specs.Prelude.{◌&&◌, ℤ, pos, negsuc, nat_lt, codes, option_map, option_and_then}
 use Rattle.std.proofs.lemmas.Bool.Decides.{nat_tests}
 use Rattle.std.proofs.lemmas.Slice.Eq.{bytes_eq-Decides}
 use Rattle.chip_lang.specs.declared.fault.Fault.{Fault}
@@ -9,20 +8,19 @@ use Rattle.chip_lang.specs.declared.limits.TheConstants.{MEMORY_BYTES}
 use Rattle.chip_lang.specs.declared.lexeme.Lexeme.{Lexeme}
 use Rattle.chip_lang.specs.declared.lexeme.Lexeme.TheVariants.{Word, Number, Text, Sign, Bad}
 use Rattle.chip_lang.specs.Line.{is_the, is_sign_of}
-use Rattle.chip_lang.specs.Tree.{Tree}
 use Rattle.chip_lang.specs.Value.{Symbols, value}
 use Rattle.chip_lang.specs.computed.Parse.{expression_of}
 use Rattle.chip_lang.proofs.Sound.{only_expressions}
 use Rattle.chip_explore.specs.declared.property.Item.{Item}
 use Rattle.chip_explore.specs.declared.property.Item.TheVariants.{Byte, Pixel}
-use Rattle.chip_properties.specs.declared.limits.TheConstants.{MOST_COMPARISONS, MOST_TERMS, SCREEN_WIDTH, SCREEN_HEIGHT}
+use Rattle.chip_properties.specs.declared.limits.TheConstants.{SCREEN_WIDTH, SCREEN_HEIGHT}
 use Rattle.chip_properties.specs.declared.separator.Separator.{Separator}
-use Rattle.chip_properties.specs.declared.separator.Separator.TheVariants.{Place, And, Or, Relation as relation, Plus, Times, Comma}
-use Rattle.chip_properties.specs.Words.{is_property_word, item_of_word, kind_of_word}
+use Rattle.chip_properties.specs.declared.separator.Separator.TheVariants.{Comma}
+use Rattle.chip_properties.specs.Words.{is_property_word}
 use Rattle.chip_properties.specs.Nesting.{level_after}
-use Rattle.chip_properties.specs.computed.Separated.{separates, count_before, before_first, from_first, after_first, tail_of, ended, enclosed}
-use Rattle.chip_properties.specs.computed.Reading.{natural, natural_of, number_in, if_below, number_below_in, enclosed_number, value_in, point_in, pixel_in, byte_in, item_in, alone_in, times_in, addend_in}
-use Rattle.chip_properties.specs.Language.{IsNumber, IsFree, IsValue, one_token, in_parentheses, IsItem, named, a_byte, a_pixel}
+use Rattle.chip_properties.specs.computed.Separated.{separates, count_before, before_first, after_first, tail_of, ended, enclosed}
+use Rattle.chip_properties.specs.computed.Reading.{natural_of, number_in, if_below, number_below_in, enclosed_number, value_in, point_in, pixel_in, byte_in, item_in}
+use Rattle.chip_properties.specs.Language.{IsNumber, IsValue, one_token, in_parentheses, IsItem, named, a_byte, a_pixel}
 
 -- ---- outcomes
 

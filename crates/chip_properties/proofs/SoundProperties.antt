@@ -1,6 +1,6 @@
 -- What a property is found to state is what it states by the grammar.
-use Rattle.std.proofs.Common.{◌≡◌, ◌⊎◌, inl, inr, ℕ, ◌<◌, ◌==◌, Bool, true, false, not, if◌then◌else◌, List, [], ◌∷◌, ◌++◌, drop, Option, Some, None, Result, Ok, Err, IfOk, refl, sym, ◌∙◌, ap, arith}
-use Rattle.std.specs.Prelude.{codes, option_map, option_and_then}
+use Rattle.std.proofs.Common.{◌≡◌, ℕ, false, not, List, [], ◌∷◌, Option, Some, None, Result, Ok, Err, IfOk, refl, sym, ◌∙◌, ap}
+use Rattle.std.specs.Prelude.{codes, option_map}
 use Rattle.std.proofs.lemmas.List.{take-append-drop}
 use Rattle.chip_lang.specs.declared.limits.TheConstants.{MEMORY_BYTES}
 use Rattle.chip_lang.specs.declared.lexeme.Lexeme.{Lexeme}
@@ -14,12 +14,11 @@ use Rattle.std.specs.declared.alloc.AllocError.{AllocError}
 use Rattle.chip_properties.specs.declared.fault.PropertyFault.{PropertyFault}
 use Rattle.chip_properties.specs.declared.stated.Stated.{Stated}
 use Rattle.chip_properties.specs.SeenProperty.{SeenCondition, SeenProperty, seen_property}
-use Rattle.chip_properties.specs.Words.{kind_of_word}
 use Rattle.chip_properties.specs.Nesting.{is_deep}
 use Rattle.chip_properties.specs.computed.Separated.{before_first, from_first}
-use Rattle.chip_properties.specs.computed.Reading.{if_below, value_in, condition_in, here_in, at_in, place_in, no_condition, is_always, is_can, given_in, property_in, kind_in_front, of_kind, begun_by, stated_in}
-use Rattle.chip_properties.specs.Language.{IsValue, IsCondition, IsPlace, nowhere, at_here, at_address, IsGiven, a_condition, no_condition as without_condition, is_wanted, IsProperty, IsStated, with_kind, without}
-use Rattle.chip_properties.proofs.Sound.{nothing_is, Then, then_some, Mapped, mapped_some, if_some, unless_some, word_is, below_is, value_sound}
+use Rattle.chip_properties.specs.computed.Reading.{if_below, value_in, here_in, at_in, place_in, no_condition, is_always, given_in, property_in, kind_in_front, of_kind, begun_by, stated_in}
+use Rattle.chip_properties.specs.Language.{IsPlace, nowhere, at_here, at_address, IsGiven, a_condition, no_condition as without_condition, is_wanted, IsProperty, IsStated, with_kind, without}
+use Rattle.chip_properties.proofs.Sound.{nothing_is, then_some, mapped_some, if_some, unless_some, word_is, below_is, value_sound}
 use Rattle.chip_properties.proofs.SoundSums.{condition_sound, some_is}
 
 -- ---- places
@@ -54,9 +53,6 @@ place_sound symbols here (t ∷ u ∷ ts) place h =
 not_always : (kind : Kind) → is_always kind ≡ false → kind ≡ Always → ⊥
 not_always kind h e = let always = rw e at h in cc
 
-not_can : (kind : Kind) → is_can kind ≡ false → kind ≡ Can → ⊥
-not_can kind h e = let can = rw e at h in cc
-
 given_sound : (symbols : Symbols) (kind : Kind) (front back : List Lexeme) (c : SeenCondition) → given_in symbols kind front back ≡ Some c
     → IsGiven symbols kind front back c
 given_sound symbols kind [] [] c h = absurd (nothing_is c h)
@@ -79,15 +75,13 @@ property_sound symbols here kind ts p h =
     let shallow = unless_some (is_deep 0 ts) _ p h in
     let so = then_some (given_in symbols kind front back) _ p shallow.1 in
     let at = then_some (place_in symbols here back) _ p so.gives in
-    let answered = unless_some (is_can kind) _ p at.gives in
-    rw (← some_is _ p answered.1) (record {
+    rw (← some_is _ p at.gives) (record {
       front = front;
       back = back;
       tokens = sym (take-append-drop _ ts);
       given = given_sound symbols kind front back so.found so.is;
       place = place_sound symbols here back at.found at.is;
       wanted = wanted_is kind;
-      answered = not_can kind answered.0;
       shallow = shallow.0;
     })
 

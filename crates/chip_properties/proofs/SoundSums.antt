@@ -1,25 +1,24 @@
 -- What sums, comparisons and conditions are found to be is what they are by the grammar.
-use Rattle.std.proofs.Common.{◌≡◌, ◌⊎◌, inl, inr, ℕ, zero, suc, ◌+◌, ◌^◌, ◌<◌, ◌≤◌, ◌==◌, Bool, true, false, not, if◌then◌else◌, List, [], ◌∷◌, ◌++◌, length, take, drop, Option, Some, None, refl, sym, subst, ◌∙◌, ap, append_assoc, add-one, arith}
+use Rattle.std.proofs.Common.{◌≡◌, ℕ, suc, ◌+◌, ◌^◌, ◌<◌, ◌≤◌, ◌==◌, Bool, true, false, if◌then◌else◌, List, [], ◌∷◌, ◌++◌, length, drop, Option, Some, None, refl, sym, subst, ◌∙◌, ap, append_assoc, add-one, arith}
 use Rattle.std.specs.Prelude.{◌&&◌, codes, fold, nat_lt, option_map, option_and_then}
 use Rattle.std.proofs.lemmas.Bool.Decides.{nat_tests}
 use Rattle.std.proofs.lemmas.List.{append-nil, length-append, take-append-drop}
 use Rattle.chip_lang.specs.declared.lexeme.Lexeme.{Lexeme}
-use Rattle.chip_lang.specs.declared.lexeme.Lexeme.TheVariants.{Word, Sign}
+use Rattle.chip_lang.specs.declared.lexeme.Lexeme.TheVariants.{Sign}
 use Rattle.chip_lang.specs.Line.{is_sign_of}
 use Rattle.chip_lang.specs.Value.{Symbols}
-use Rattle.chip_explore.specs.declared.property.Item.{Item}
 use Rattle.chip_explore.specs.declared.property.Relation.{Relation}
 use Rattle.chip_explore.specs.declared.property.Relation.TheVariants.{Equal, Unequal, Less, LessOrEqual, Greater, GreaterOrEqual}
 use Rattle.chip_properties.specs.declared.limits.TheConstants.{MOST_COMPARISONS, MOST_TERMS}
 use Rattle.chip_properties.specs.declared.separator.Separator.{Separator}
-use Rattle.chip_properties.specs.declared.separator.Separator.TheVariants.{And, Or, Relation as relation, Plus, Times}
+use Rattle.chip_properties.specs.declared.separator.Separator.TheVariants.{Or, Relation as relation, Plus, Times}
 use Rattle.chip_properties.specs.SeenProperty.{SeenSum, SeenComparison, SeenCondition}
 use Rattle.chip_properties.specs.Nesting.{level_after}
 use Rattle.chip_properties.specs.computed.Separated.{separates, count_before, before_first, from_first, after_first, tail_of, with_front, pieces, pieces_in}
-use Rattle.chip_properties.specs.computed.Reading.{is_item, item_in, value_in, alone_in, times_in, addend_in, with_addend, added_in, summed, no_sum, sum_in, less_in, greater_in, relation_in, compared, comparison_in, found_with, comparisons_in, condition_in, has_no_or, joint}
-use Rattle.chip_properties.specs.Language.{IsValue, IsItem, Addend, a_number, times, IsAddend, a_value, an_item, a_product, joined, AreEach, with, total, IsSum, signs_of, IsComparison, word_between, IsCondition}
+use Rattle.chip_properties.specs.computed.Reading.{is_item, item_in, value_in, times_in, addend_in, with_addend, added_in, summed, no_sum, sum_in, less_in, greater_in, relation_in, compared, comparison_in, found_with, comparisons_in, condition_in, has_no_or, joint}
+use Rattle.chip_properties.specs.Language.{Addend, a_number, times, IsAddend, a_value, an_item, a_product, joined, AreEach, with, IsSum, signs_of, IsComparison, word_between, IsCondition}
 use Rattle.chip_properties.proofs.Pieces.{pieces_split}
-use Rattle.chip_properties.proofs.Sound.{nothing_is, Then, then_some, Mapped, mapped_some, if_some, unless_some, sign_is, word_is, value_sound, item_sound, alone_is, Around, around}
+use Rattle.chip_properties.proofs.Sound.{nothing_is, then_some, mapped_some, if_some, sign_is, word_is, value_sound, item_sound, alone_is, around}
 
 pub some_is : {A : Type 0} (x y : A) → Some x ≡ Some y → x ≡ y
 some_is x y h = cc

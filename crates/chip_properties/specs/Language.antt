@@ -1,7 +1,7 @@
 -- The language of properties: which tokens are a property, and what it states (own).
 --
---     property   = [always | never | ever] [condition] [here | at value], of which one of the last two
---                  and after `always` the condition
+--     property   = [always | never | ever | can] [condition] [here | at value], of which one of the last
+--                  two and after `always` the condition
 --     condition  = comparison {and comparison} | comparison {or comparison}
 --     comparison = sum relation sum
 --     relation   = "=" | "<" ">" | "<" | "<" "=" | ">" | ">" "="
@@ -12,7 +12,7 @@
 --     value      = number | name | "(" expression ")"
 --
 -- A word of the language stands for itself, so a name that is spelled like one stands in parentheses.
-use Rattle.std.specs.Prelude.{◌≡◌, ◌≤◌, ◌<◌, ◌⊎◌, ℕ, ◌+◌, ◌^◌, Bool, true, false, not, if◌then◌else◌, pos, List, [], ◌∷◌, ◌++◌, length, Option, Some, None, Result, Ok, codes, fold}
+use Rattle.std.specs.Prelude.{◌≡◌, ◌≤◌, ◌<◌, ℕ, ◌+◌, ◌^◌, Bool, true, false, if◌then◌else◌, pos, List, [], ◌∷◌, ◌++◌, length, Option, Some, None, Ok, codes, fold}
 use Rattle.chip_lang.specs.declared.limits.TheConstants.{MEMORY_BYTES}
 use Rattle.chip_lang.specs.declared.lexeme.Lexeme.{Lexeme}
 use Rattle.chip_lang.specs.declared.lexeme.Lexeme.TheVariants.{Word, Sign}
@@ -21,12 +21,11 @@ use Rattle.chip_lang.specs.Tree.{Tree}
 use Rattle.chip_lang.specs.Value.{Symbols, value}
 use Rattle.chip_explore.specs.declared.property.Item.{Item}
 use Rattle.chip_explore.specs.declared.property.Item.TheVariants.{Byte, Pixel}
-use Rattle.chip_explore.specs.declared.property.Term.{Term}
 use Rattle.chip_explore.specs.declared.property.Relation.{Relation}
 use Rattle.chip_explore.specs.declared.property.Relation.TheVariants.{Equal, Unequal, Less, LessOrEqual, Greater, GreaterOrEqual}
 use Rattle.chip_properties.specs.declared.limits.TheConstants.{MOST_COMPARISONS, MOST_TERMS, SCREEN_WIDTH, SCREEN_HEIGHT}
 use Rattle.chip_properties.specs.declared.stated.Kind.{Kind}
-use Rattle.chip_properties.specs.declared.stated.Kind.TheVariants.{Always, Can}
+use Rattle.chip_properties.specs.declared.stated.Kind.TheVariants.{Always}
 use Rattle.chip_properties.specs.Nesting.{is_deep}
 use Rattle.chip_properties.specs.SeenProperty.{SeenSum, SeenComparison, SeenCondition, SeenProperty}
 use Rattle.chip_properties.specs.Words.{is_property_word, item_of_word, kind_of_word}
@@ -161,7 +160,7 @@ is_wanted Always = false
 is_wanted kind = true
 
 -- What a property of a kind states, without the word for its kind. At most OPEN_PARENTHESES
--- parentheses and brackets are open at once. None of the kind `can` is read.
+-- parentheses and brackets are open at once.
 pub record IsProperty (symbols : Symbols) (here : Option ℕ) (kind : Kind) (ts : List Lexeme)
     (p : SeenProperty) : Type 0 where
   pub front : List Lexeme
@@ -170,7 +169,6 @@ pub record IsProperty (symbols : Symbols) (here : Option ℕ) (kind : Kind) (ts 
   pub given : IsGiven symbols kind front back p.condition
   pub place : IsPlace symbols here back p.place
   pub wanted : p.wanted ≡ is_wanted kind
-  pub answered : kind ≡ Can → ⊥
   pub shallow : is_deep 0 ts ≡ false
 
 -- what a property states: of the kind with which it begins, or else `always`

@@ -1,5 +1,5 @@
 -- Which lines state properties (own).
-use Rattle.std.specs.Prelude.{◌≡◌, ◌≤◌, ◌⊎◌, ℕ, true, length, ◌+◌, ◌-◌, ◌==◌, ◌&&◌, if◌then◌else◌, List, [], ◌∷◌, Option, Some, None, drop, filter_map, option_map, reverse, take}
+use Rattle.std.specs.Prelude.{◌≡◌, ◌≤◌, ◌⊎◌, ℕ, length, ◌+◌, ◌-◌, ◌==◌, ◌&&◌, if◌then◌else◌, List, [], ◌∷◌, Option, Some, None, drop, filter_map, option_map, reverse, take}
 use Rattle.std.specs.List.{prefix_len}
 use Rattle.chip_lang.specs.Token.{is_blank}
 use Rattle.chip_lang.specs.Line.{lexemes_of}

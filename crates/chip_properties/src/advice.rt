@@ -76,16 +76,7 @@ fn narrowed(source: &Source, tokens: &[Lexeme], found: Found) -> Found {
         },
         FaultCode::UndefinedName => undefined(source, tokens, found),
         FaultCode::NothingStated => Found::at(found.code, 0),
-        FaultCode::NotAsked if !is_here(tokens, found) => Found::at(found.code, 0),
         _ => found,
-    }
-}
-
-/// Whether a fault is at `here`.
-fn is_here(tokens: &[Lexeme], found: Found) -> bool {
-    match tokens.get(found.first) {
-        Some(token) => is_the(b"HERE", token),
-        None => false,
     }
 }
 
@@ -154,8 +145,6 @@ fn why_not_asked(token: &Lexeme) -> Option<&'static [u8]> {
 fn why_not(token: &Lexeme) -> &'static [u8] {
     if is_the(b"HERE", token) {
         b"here is the address of a line of the source: write at, and a name or a number"
-    } else if is_the(b"CAN", token) {
-        b"can is not answered yet: ever asks whether a player comes there"
     } else {
         why_not_asked(token).unwrap_or(b"")
     }

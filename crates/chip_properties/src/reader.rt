@@ -60,9 +60,6 @@ impl<'a> Reader<'a> {
         let (front, back) = part.split_at(Separator::Place);
         let condition = self.given_condition(kind, front, back)?;
         let place = self.place(back)?;
-        if kind == Kind::Can {
-            return Err(part.fault(FaultCode::NotAsked));
-        }
         Ok(Property {
             condition,
             place,

@@ -11,7 +11,8 @@ pub enum Kind {
     Never,
     /// Under some key script its condition holds at a step at its place.
     Ever,
-    /// As `Ever`, from each state that some key script leads to. No property of this kind is read.
+    /// Under each key script, from each step on, the keys can be pressed so that its condition holds then or
+    /// later at a step at its place, or where the machine has stopped there.
     Can,
 }
 

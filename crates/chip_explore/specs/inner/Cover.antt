@@ -7,9 +7,11 @@
 --                     the least step at which it was reached, the step below which the search speaks
 --                     of, and the addresses at which it saw steps made
 --     Grows           addresses stay noted
---     IsFine          a state that doesn't meet the target, and has stopped or is at an address that
---                     is noted and has what is asked of it there: nothing of that is forgotten
---     Safe            from a state at a step on, of which some parts are forgotten, steps that tell
+--     meets_goals     whether a state meets each goal
+--     IsFine          a state that doesn't meet the target, and has stopped where it meets the goals, or
+--                     is at an address that is noted and has what is asked of it there: nothing of that
+--                     is forgotten
+--     Safe            from a state at a step on, of which some parts are forgotten, a few steps that tell
 --                     neither keys nor values of the delay timer apart and read nothing that is
 --                     forgotten lead to the limit, to a stop, or to a state that is kept, past no
 --                     state that meets the target, and at no address that isn't noted
@@ -22,17 +24,19 @@ use Rattle.chip_machine.specs.Block.{ticks}
 use Rattle.chip_machine.specs.Choices.{IsWithin, Represents}
 use Rattle.chip_machine.specs.Forgotten.{AreWithin, IsUnread, IsForgottenAfter}
 use Rattle.chip_machine.specs.Relevant.{Alike}
-use Rattle.chip_machine.specs.State.{State}
+use Rattle.chip_machine.specs.State.{IsProper, State}
 use Rattle.chip_machine.specs.Step.{step_of}
 use Rattle.chip_replay.specs.Keys.{Events, held}
 use Rattle.chip_replay.specs.Run.{run}
 use Rattle.chip_explore.specs.Executed.{is_among, is_at_one}
+use Rattle.chip_explore.specs.Prospects.{are_met}
 use Rattle.chip_explore.specs.Target.{met_in}
 use Rattle.chip_explore.specs.declared.leg.End.{End}
 use Rattle.chip_explore.specs.declared.leg.End.TheVariants.{Past, Wanted, Halted, Joined, Read}
 use Rattle.chip_explore.specs.inner.Kept.{state_at}
 use Rattle.chip_explore.specs.inner.Delays.{read_as, timed_register}
-use Rattle.chip_explore.specs.inner.Known.{are_known}
+use Rattle.chip_explore.specs.inner.Known.{are_goals_known, are_known}
+use Rattle.chip_explore.specs.declared.limits.TheConstants.{END, MOST_QUIET_STEPS}
 use Rattle.chip_explore.specs.declared.members.Members.{Members}
 use Rattle.chip_explore.specs.declared.setting.Setting.{Setting}
 use Rattle.chip_explore.specs.declared.ways.Reading.{Reading}
@@ -56,10 +60,14 @@ pub record View : Type 0 where
 abbrev pub Grows : List Bool → List Bool → Type 0
 Grows early late = (pc : ℕ) → is_among early pc ≡ true → is_among late pc ≡ true
 
+abbrev pub meets_goals : Setting → State → Bool
+meets_goals p s = are_met p.goals.now s
+
 pub record IsFine (p : Setting) (executed : List Bool) (forgotten : ℕ) (s : State) : Type 0 where
   pub avoided : met_in p.target s ≡ None
   pub noted : is_at_one executed s ≡ true
   pub known : is_some s.core.stopped ≡ false → are_known p forgotten s ≡ true
+  pub ended : is_some s.core.stopped ≡ true → meets_goals p s ≡ true
 
 -- the next step is the same whatever allowed keys are down, and whatever the delay timer has come to
 pub record Moves (p : Setting) (executed : List Bool) (forgotten : ℕ) (s : State) : Type 0 where
@@ -93,6 +101,7 @@ SafeFor p v (suc k) forgotten s t =
 
 pub record Safe (p : Setting) (v : View) (forgotten : ℕ) (s : State) (t : ℕ) : Type 0 where
   pub moves : ℕ
+  pub few : moves ≤ MOST_QUIET_STEPS
   pub path : SafeFor p v moves forgotten s t
 
 -- from a state to which a step of another leads, with what is forgotten after that step
@@ -114,6 +123,7 @@ GoesOn p v forgotten s t = GoesBy (timed_register p s) p v forgotten s t
 
 pub record IsTaken (p : Setting) (v : View) (place : ℕ) : Type 0 where
   pub drawn : (v.member place).core.draws < 2 ^ 64 - 1
+  pub asked : are_goals_known p (forgotten_at v place) (v.member place) ≡ true
   pub unread : IsUnread (forgotten_at v place) (v.member place)
   pub goes_on : GoesOn p v (forgotten_at v place) (v.member place) (slice_index v.steps place)
 
@@ -150,10 +160,33 @@ pub record Goes (p : Setting) (m n : Members) : Type 0 where
   pub start : n.start ≡ m.start
   pub extends : Extends p (view_of m) (view_of n)
 
+-- what a search from a state at a step on keeps
+pub record IsSearched (p : Setting) (m : Members) (start : State) (from : ℕ) : Type 0 where
+  pub holds : Holds p m
+  pub begins : m.start ≡ start
+  pub proper : IsProper m.start
+  pub noted : is_at_one m.executed m.start ≡ true
+  pub begun : Safe p (view_of m) 0 m.start from
+
+-- likewise with other ticks
+pub record IsSearchedAs (p other : Setting) (m : Members) (start : State) (from : ℕ) : Type 0 where
+  pub rate : other.rate ≡ p.rate
+  pub allowed : other.allowed ≡ p.allowed
+  pub target : other.target ≡ p.target
+  pub goals : other.goals ≡ p.goals
+  pub searched : IsSearched other m start from
+
+-- it speaks of each step below the end, and each state was taken up
+pub record IsWhole (p : Setting) (m : Members) : Type 0 where
+  pub limit : END ≤ m.limit
+  pub taken : (j : ℕ) → j < length m.steps.items → slice_index m.steps.items j < END - 1
+      → IsTaken p (view_of m) j
+
 -- with each of the allowed keys down the next step of a state acts as with one of some choices, and
 -- reads nothing that is forgotten
 pub record HasChoices (p : Setting) (forgotten : ℕ) (s : State) (choices : ℕ) : Type 0 where
   pub drawn : s.core.draws < 2 ^ 64 - 1
+  pub asked : are_goals_known p forgotten s ≡ true
   pub few : choices < 2 ^ 16
   pub all : Represents p.allowed choices s
   pub unread : IsUnread forgotten s
@@ -162,6 +195,7 @@ pub record HasChoices (p : Setting) (forgotten : ℕ) (s : State) (choices : ℕ
 -- the next step of a state sets a register to one of the values of the delay timer up to the bound
 pub record HasValues (p : Setting) (forgotten : ℕ) (s : State) (read : Reading) : Type 0 where
   pub drawn : s.core.draws < 2 ^ 64 - 1
+  pub asked : are_goals_known p forgotten s ≡ true
   pub unread : IsUnread forgotten s
   pub timed : timed_register p s ≡ Some read.register
   pub range : read.register < 16
@@ -200,6 +234,11 @@ IsEnd p executed limit forgotten s t Halted =
     IsFine p executed forgotten s × (is_some s.core.stopped ≡ true)
 IsEnd p executed limit forgotten s t Joined = IsFine p executed forgotten s
 IsEnd p executed limit forgotten s t Read = Unit {0}
+
+-- the state of a run under some events
+pub record IsUnder (p : Setting) (start : State) (keys : Events) (step : ℕ) (s : State) : Type 0 where
+  pub reached : s ≡ run step_of p.rate (held keys) start step
+  pub allowed_only : (t : ℕ) → t < step → IsWithin p.allowed (held keys t)
 
 -- what a run under some events shows
 pub record Confirms (p : Setting) (start : State) (keys : Events) (step : ℕ) (met : Met) : Type 0 where

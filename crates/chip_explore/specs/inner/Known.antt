@@ -5,7 +5,8 @@
 --     is_sum_known       whether it has each value of a sum
 --     is_property_known  whether it has each value of a property that is asked of it
 --     known_of           what a state of a search has
---     are_known          whether it has each value of the properties that are asked of it
+--     are_goals_known    whether it has each value of the goals
+--     are_known          whether it has each value of the properties and the goals that are asked of it
 use Rattle.std.specs.Prelude.{ℕ, ◌+◌, ◌==◌, ◌&&◌, ◌||◌, not, Bool, true}
 use Rattle.std.specs.List.{list_all}
 use Rattle.chip_machine.specs.Forgotten.{has_byte, has_part, index_part, register_part, screen_part}
@@ -48,6 +49,11 @@ known_of p forgotten s =
       pc = s.core.pc;
     }
 
+abbrev pub are_goals_known : Setting → (forgotten : ℕ) → State → Bool
+are_goals_known p forgotten s =
+    list_all (is_property_known (known_of p forgotten s) s.core.pc) p.goals.now
+
 abbrev pub are_known : Setting → (forgotten : ℕ) → State → Bool
 are_known p forgotten s =
     list_all (is_property_known (known_of p forgotten s) s.core.pc) p.target.properties.now
+    && are_goals_known p forgotten s

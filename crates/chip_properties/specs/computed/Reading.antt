@@ -1,6 +1,6 @@
 -- The property that tokens are, found piece by piece (own). A law says that it is that of Language,
 -- and that there is no other.
-use Rattle.std.specs.Prelude.{ℕ, ◌+◌, ◌==◌, ◌||◌, ◌&&◌, Bool, true, false, not, if◌then◌else◌, nat_lt, pos, negsuc, ℤ, List, [], ◌∷◌, ◌++◌, length, Option, Some, None, Result, Ok, Err, is_some, option_map, option_and_then, codes, drop}
+use Rattle.std.specs.Prelude.{ℕ, ◌+◌, ◌==◌, ◌||◌, Bool, true, false, not, if◌then◌else◌, nat_lt, pos, negsuc, ℤ, List, [], ◌∷◌, ◌++◌, length, Option, Some, None, Result, Ok, Err, is_some, option_map, option_and_then, codes, drop}
 use Rattle.chip_lang.specs.declared.fault.Fault.{Fault}
 use Rattle.chip_lang.specs.declared.limits.TheConstants.{MEMORY_BYTES}
 use Rattle.chip_lang.specs.declared.lexeme.Lexeme.{Lexeme}
@@ -18,10 +18,10 @@ use Rattle.chip_properties.specs.Nesting.{is_deep}
 use Rattle.chip_properties.specs.declared.separator.Separator.{Separator}
 use Rattle.chip_properties.specs.declared.separator.Separator.TheVariants.{Place, And, Or, Relation as relation, Plus, Times, Comma}
 use Rattle.chip_properties.specs.declared.stated.Kind.{Kind}
-use Rattle.chip_properties.specs.declared.stated.Kind.TheVariants.{Always, Never, Ever, Can}
+use Rattle.chip_properties.specs.declared.stated.Kind.TheVariants.{Always}
 use Rattle.chip_properties.specs.SeenProperty.{SeenSum, SeenComparison, SeenCondition, SeenProperty}
 use Rattle.chip_properties.specs.Words.{kind_of_word, is_property_word, item_of_word}
-use Rattle.chip_properties.specs.computed.Separated.{before_first, from_first, after_first, tail_of, enclosed, count_before, pieces}
+use Rattle.chip_properties.specs.computed.Separated.{before_first, from_first, after_first, enclosed, count_before, pieces}
 
 -- a number, if it isn't below 0
 abbrev pub natural : ℤ → Option ℕ
@@ -197,10 +197,6 @@ abbrev pub is_always : Kind → Bool
 is_always Always = true
 is_always k = false
 
-abbrev pub is_can : Kind → Bool
-is_can Can = true
-is_can k = false
-
 -- the condition before a place; one that always holds where none stands there
 abbrev pub given_in : Symbols → Kind → (front back : List Lexeme) → Option SeenCondition
 given_in symbols kind [] [] = None
@@ -212,8 +208,7 @@ abbrev pub property_in : Symbols → Option ℕ → Kind → List Lexeme → Opt
 property_in symbols here kind ts =
     if is_deep 0 ts then None
     else option_and_then (λ c. option_and_then (λ place.
-    if is_can kind then None
-    else Some (record { condition = c; place = place; wanted = not (is_always kind) }))
+    Some (record { condition = c; place = place; wanted = not (is_always kind) }))
     (place_in symbols here (from_first Place ts)))
     (given_in symbols kind (before_first Place ts) (from_first Place ts))
 

@@ -1,9 +1,9 @@
-use Rattle.std.proofs.Common.{◌≡◌, ◌+◌, ℕ, Bool, refl, ap, subst, ◌∙◌}
+use Rattle.std.proofs.Common.{◌≡◌, ◌+◌, ℕ, suc, Bool, refl, ap, subst, ◌∙◌, arith}
 use Rattle.chip_machine.specs.Forgotten.{IsForgottenAfter, IsUnread}
 use Rattle.chip_machine.specs.State.{State}
 use Rattle.chip_machine.specs.Step.{step_of}
-use Rattle.chip_explore.specs.inner.Cover.{Safe, tick_at}
-use Rattle.chip_explore.proofs.Growth.{one_move, still_moves}
+use Rattle.chip_explore.specs.inner.Cover.{Ends, SafeFor, tick_at}
+use Rattle.chip_explore.proofs.Growth.{still_moves}
 use Rattle.chip_explore.proofs.leg.Runner.run.Goals as goal
 
 pub loop-end-preserved : goal.loop-end-preserved
@@ -27,8 +27,23 @@ loop-end-preserved c =
     (subst (λ (s : State). IsForgottenAfter c.end.new.self.forgotten s (step_of s 0 (tick_at p t)).core.pc after) there (c.in-Ok.ensures.after (tick_at p t))) in
     record {
       grows = λ pc h. c.end.ensures.grows pc (c.loop-end.invariant.grows pc h);
-      path = λ v more safe.
-          c.loop-end.invariant.path v (λ pc h. more pc (c.end.ensures.grows pc h))
-          (one_move p v f s t (still_moves p noted v.executed more f s (c.in_default.ensures.moves refl)) unread
-          (record { after = after; is_after = is_after; safe = subst (λ (s : State). Safe p v after s (t + 1)) made safe }));
+      few = omega arith;
+      path = λ v more moves low path.
+          c.loop-end.invariant.path v (λ pc h. more pc (c.end.ensures.grows pc h)) (suc moves) (omega (arith, c.in_default.ensures.left refl)) (
+            still_moves p noted v.executed more f s (c.in_default.ensures.moves refl),
+            unread,
+            (after, is_after, subst (λ (s : State). SafeFor p v moves after s (t + 1)) made path),
+          );
     }
+
+pub returns-in-Some-clause-path : goal.returns-in-Some-clause-path
+returns-in-Some-clause-path c = λ v more ends.
+    c.loop-end.invariant.path v (λ pc h. more pc (c.end.ensures.grows pc h)) 0 (omega arith)
+    (subst (λ (f : ℕ). Ends c.args.setting.now v f c.loop-end.self.machine c.loop-end.step) c.end.ensures.forgotten
+    (subst (λ (s : State). Ends c.args.setting.now v c.end.new.self.forgotten s c.loop-end.step) c.end.ensures.same ends))
+
+pub returns-in-Err-clause-path : goal.returns-in-Err-clause-path
+returns-in-Err-clause-path c = λ v more ends.
+    c.loop-end.invariant.path v (λ pc h. more pc (c.end.ensures.grows pc h)) 0 (omega arith)
+    (subst (λ (f : ℕ). Ends c.args.setting.now v f c.loop-end.self.machine c.loop-end.step) c.end.ensures.forgotten
+    (subst (λ (s : State). Ends c.args.setting.now v c.end.new.self.forgotten s c.loop-end.step) (c.in-Err.ensures.same ∙ c.end.ensures.same) ends))

@@ -28,7 +28,7 @@ returns-then-is_err-clause-safe c =
     let lowered = c.lower_limit-then-is_err.ensures.goes in
     c.run-leg.ensures.path (view_of c.lower_limit-then-is_err.new.self)
     (λ pc h. lowered.extends.executed pc (joined.extends.executed pc h))
-    (record { moves = 0; path = inl c.lower_limit-then-is_err.ensures.limit })
+    (inl c.lower_limit-then-is_err.ensures.limit)
 
 pub lower_limit-requires-in-Read : goal.lower_limit-requires-in-Read
 lower_limit-requires-in-Read c =

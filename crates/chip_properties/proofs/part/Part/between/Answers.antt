@@ -1,5 +1,4 @@
-use Rattle.std.proofs.Common.{◌≡◌, ◌∙◌, sym, true, false, refl}
-use Rattle.chip_lang.specs.Line.{is_sign_of}
+use Rattle.std.proofs.Common.{◌∙◌, sym, true, false, refl}
 use Rattle.chip_properties.proofs.Ends.{enclosed_by}
 use Rattle.chip_properties.proofs.part.Part.between.Goals.{else-is_sign_of-via-then-is_sign_of+else-is_sign_of-2, else-is_sign_of-via-else-is_sign_of}
 use Rattle.chip_properties.proofs.part.Part.between.Goals as goal

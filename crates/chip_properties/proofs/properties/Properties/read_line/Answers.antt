@@ -1,4 +1,4 @@
-use Rattle.std.proofs.Common.{◌∙◌, ◌++◌, ◌∷◌, [], ap, sym, refl}
+use Rattle.std.proofs.Common.{◌∙◌, ◌++◌, ◌∷◌, [], ap, refl}
 use Rattle.chip_properties.specs.inner.Told.{nothing, a_property, a_fault}
 use Rattle.chip_properties.proofs.Told.{no_line, no_property}
 use Rattle.chip_properties.proofs.properties.Properties.read_line.Goals as goal

@@ -1,4 +1,4 @@
-use Rattle.std.proofs.Common.{◌≡◌, ◌∙◌, ◌++◌, [], ◌∷◌, sym, inr, refl, ap, map, length, arith}
+use Rattle.std.proofs.Common.{◌∙◌, ◌++◌, [], ◌∷◌, sym, inr, ap, map, arith}
 use Rattle.std.proofs.lemmas.List.{map-append, length-map}
 use Rattle.chip_properties.specs.SeenProperty.{seen_comparison, seen_comparisons}
 use Rattle.std.specs.Prelude.{option_map}

@@ -1,7 +1,7 @@
-use Rattle.std.proofs.Common.{◌≡◌, ◌∙◌, sym, inr, refl, arith}
+use Rattle.std.proofs.Common.{◌∙◌, sym, inr, arith}
 use Rattle.chip_properties.specs.SeenProperty.{seen_sum}
 use Rattle.chip_properties.specs.inner.Reads.{symbols_read}
-use Rattle.chip_properties.specs.computed.Reading.{added_in, sum_in}
+use Rattle.chip_properties.specs.computed.Reading.{added_in}
 use Rattle.chip_properties.specs.declared.separator.Separator.TheVariants.{Plus}
 use Rattle.chip_properties.proofs.Loops.{failed, sum_full, sum_fails, sum_goes_on}
 use Rattle.chip_properties.proofs.reader.Reader.sum.Goals as goal

@@ -3,7 +3,7 @@ use Rattle.chip_machine.specs.Choices.{IsWithin}
 use Rattle.chip_machine.specs.Step.{step_of}
 use Rattle.chip_replay.specs.Keys.{held}
 use Rattle.chip_replay.specs.Run.{run}
-use Rattle.chip_explore.proofs.confirm.met_under.Given as goal
+use Rattle.chip_explore.proofs.confirm.machine_under.Given as goal
 
 abbrev pub invariant-loop-made : goal.invariant-loop-made
 invariant-loop-made l =

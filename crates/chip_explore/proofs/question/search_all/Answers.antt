@@ -1,6 +1,0 @@
-use Rattle.chip_explore.proofs.Growth.{safe_after}
-use Rattle.chip_explore.proofs.question.search_all.Goals as goal
-
-pub returns-clause-begun : goal.returns-clause-begun
-returns-clause-begun g c =
-    safe_after c.args.setting.now c.run_on.new.self.members c.run.new.self.members c.run.ensures.goes _ _ 0 c.in_ok-run_on.ensures.safe

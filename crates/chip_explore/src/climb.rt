@@ -1,0 +1,112 @@
+//! Some steps in a row with no keys down, up to a state that meets the goals.
+
+ghost use Rattle.std.specs.Prelude.{◌≡◌, ◌<◌, ◌≤◌, ◌-◌, ◌^◌, ℕ, List, IfSome, IsNone};
+ghost use Rattle.chip_explore.specs.inner.Cover.{View};
+ghost use Rattle.chip_explore.specs.inner.Ranks.{Arrives, Climbs, IsOpen, IsWay};
+
+use crate::leg::Runner;
+use crate::setting::Setting;
+
+/// How some steps in a row ended.
+#[derive(Clone, Copy, PartialEq, Eq)]
+pub(crate) enum Way {
+    /// The machine meets the goals, and makes a step.
+    AtGoals,
+    /// The next step can tell keys apart, or values of the delay timer, or the steps are many.
+    Joined,
+    /// The machine has stopped, or not all is known of the next step.
+    Lost,
+}
+
+/// Where some steps in a row ended, and how.
+#[derive(Clone, Copy)]
+pub(crate) struct Climb {
+    pub(crate) step: u64,
+    pub(crate) way: Way,
+    /// How many steps more there may be in this row.
+    pub(crate) left: u32,
+}
+
+impl Runner {
+    /// Makes so many steps from a step on at most, up to a state that meets the goals, to a stop, or to a
+    /// state whose next step can tell keys or values of the delay timer apart.
+    pub(crate) fn climb(&mut self, setting: &Setting<'_>, from: u64, most: u32) -> Climb
+        requires rate { 0 < setting.now.rate }
+        ensures path { (v : View) (ranks : List ℕ) (rank : ℕ)
+            → Arrives setting.now v ranks rank self.new.forgotten self.new.machine result.step
+            → Climbs setting.now v ranks rank most self.old.forgotten self.old.machine from }
+        ensures way { IsWay setting.now self.new.forgotten self.new.machine result.way }
+    {
+        let mut step = from;
+        let mut left = most;
+        loop {
+            if let Some(way) = self.way(setting, step, left) {
+                return Climb { step, way, left };
+            }
+            match self.machine.forgotten_after(self.forgotten, 0) {
+                Ok(after) => {
+                    self.machine.step(0, setting.tick_at(step), &mut self.touch);
+                    self.forgotten = after;
+                    step += 1;
+                    left -= 1;
+                }
+                Err(_) => {
+                    let way = Way::Lost;
+                    return Climb { step, way, left };
+                }
+            }
+        }
+    }
+
+    /// Goes on from a state that meets the goals: `None` where its step can tell keys or values of the
+    /// delay timer apart, or the steps are many.
+    pub(crate) fn climb_on(&mut self, setting: &Setting<'_>, climb: Climb) -> Option<Climb>
+        requires { 0 < setting.now.rate }
+    {
+        if climb.left == 0
+            || climb.step == u64::MAX
+            || self.machine.key_choices(setting.allowed) != 0
+            || setting.timed_register(&self.machine).is_some()
+        {
+            return None;
+        }
+        let Ok(after) = self.machine.forgotten_after(self.forgotten, 0) else {
+            return None;
+        };
+        self.forgotten = after;
+        self.machine
+            .step(0, setting.tick_at(climb.step), &mut self.touch);
+        Some(self.climb(setting, climb.step + 1, climb.left - 1))
+    }
+
+    /// How the steps in a row end at a step, if they do.
+    fn way(&mut self, setting: &Setting<'_>, step: u64, left: u32) -> Option<Way>
+        ensures same { self.new.machine ≡ self.old.machine }
+        ensures forgotten { self.new.forgotten ≡ self.old.forgotten }
+        ensures some { IfSome result (λ way. IsWay setting.now self.old.forgotten
+            self.old.machine way) }
+        ensures open { IsNone result → IsOpen setting.now self.old.machine }
+        ensures below { IsNone result → step < 2 ^ 64 - 1 }
+        ensures left { IsNone result → 0 < left }
+    {
+        if step == u64::MAX
+            || self.machine.stopped().is_some()
+            || !setting.are_known(&self.machine, self.forgotten)
+        {
+            return Some(Way::Lost);
+        }
+        if setting.meets_goals(&self.machine) {
+            return Some(Way::AtGoals);
+        }
+        if left == 0 || self.machine.draws() == u64::MAX {
+            return Some(Way::Joined);
+        }
+        self.is_quiet = self.machine.key_choices(setting.allowed) == 0
+            && setting.timed_register(&self.machine).is_none();
+        if self.is_quiet {
+            None
+        } else {
+            Some(Way::Joined)
+        }
+    }
+}

@@ -1,0 +1,347 @@
+//! Whether goals can be reached from everywhere, and the answer.
+
+ghost use Rattle.std.specs.Prelude.{◌≡◌, ◌<◌, ◌≤◌, ℕ, IfOk, IsTrue, is_some, false};
+ghost use Rattle.chip_machine.specs.State.{State};
+ghost use Rattle.chip_machine.specs.Step.{step_of};
+ghost use Rattle.chip_replay.specs.Run.{run};
+ghost use Rattle.chip_explore.specs.Prospects.{are_met, outcome_of, AlwaysCan, Foresees, IsDeadEnd};
+ghost use Rattle.chip_explore.specs.Scripts.{IsScript};
+ghost use Rattle.chip_explore.specs.inner.Cover.{IsSearched, IsWhole};
+
+use crate::causes::Causes;
+use crate::confirm::{keys_of, machine_under};
+use crate::executed::Executed;
+use crate::limits::{END, FAR};
+use crate::property::Property;
+use crate::question::{Bounds, Explored, Outcome};
+use crate::script::{KeyEvent, script_to};
+use crate::search::Search;
+use crate::searching::{Beginning, search_anew};
+use crate::seen::Seen;
+use crate::setting::Setting;
+use crate::target::{Met, Target};
+use crate::watcher::Watcher;
+use crate::ways_back::{Loss, WaysBack};
+use chip_machine::Machine;
+use chip_machine::laws::alike_steps;
+use chip_replay::{KeyFault, LAST_STEP};
+use std::alloc::{AllocError, Global};
+
+/// Whether from each state that a player can reach some way of playing leads to some goals.
+#[derive(Clone, Copy)]
+pub struct Pursuit<'a> {
+    /// The timers tick at each step whose number plus 1 is a multiple of it: 1 at least.
+    pub rate: u32,
+    /// The keys that may be down, key k at bit k.
+    pub allowed: u16,
+    /// What is to be met, all at once.
+    pub goals: &'a [Property],
+}
+
+/// What was found of that.
+#[derive(Drop)]
+pub enum Prospect {
+    /// From each state that a player can reach at a step below `FAR` some way of playing leads there.
+    Always,
+    /// With these events of the keys, in the order of their steps, the machine is in a state at the step
+    /// from which none does.
+    DeadEnd { events: Vec<KeyEvent>, step: u32 },
+    /// The search came to this step, and nothing is known.
+    Within(u64),
+}
+
+/// What was found, and how.
+#[derive(Drop)]
+pub struct Foreseen {
+    pub prospect: Prospect,
+    /// How many states the search kept.
+    pub states: usize,
+    /// Whether memory ran out before the search was done, so that the answer may say less.
+    pub is_short: bool,
+    /// Whether its watcher ended it before it was done, so that the answer may say less.
+    pub is_stopped: bool,
+}
+
+impl Prospect {
+    /// It as the outcome of a search: a dead end is found, always is never, and nothing is known up to a step.
+    fn outcome(self) -> Outcome
+        ensures { result ≡ outcome_of self }
+    {
+        match self {
+            Prospect::Always => Outcome::Never,
+            Prospect::DeadEnd { events, step } => Outcome::Found {
+                events,
+                step,
+                met: Met::Property(0),
+            },
+            Prospect::Within(step) => Outcome::Within(step),
+        }
+    }
+}
+
+impl Foreseen {
+    /// It as what a search found.
+    pub fn explored(self) -> Explored
+        ensures outcome { result.outcome ≡ outcome_of self.prospect }
+        ensures speed { result.is_at_any_speed ≡ false }
+    {
+        let is_short = self.is_short;
+        let is_stopped = self.is_stopped;
+        let states = self.states;
+        Explored {
+            states,
+            is_stopped,
+            ..Explored::at_once(self.prospect.outcome(), Executed::none(), is_short)
+        }
+    }
+
+    /// What a search found that came so far.
+    fn of(search: &Search, is_short: bool, prospect: Prospect) -> Foreseen
+        ensures { result.prospect ≡ prospect }
+    {
+        Foreseen {
+            prospect,
+            states: search.members.steps.len(),
+            is_short,
+            is_stopped: search.finder.is_stopped,
+        }
+    }
+
+    /// It after a search for the goals, which may have ended before it was done.
+    fn after(self, verdict: Verdict) -> Foreseen
+        ensures { result.prospect ≡ self.prospect }
+    {
+        let is_short = self.is_short || verdict.is_short;
+        let is_stopped = self.is_stopped || verdict.is_stopped;
+        Foreseen {
+            is_short,
+            is_stopped,
+            ..self
+        }
+    }
+}
+
+/// Whether from each state that a machine, which has drawn no random byte yet, comes to under the allowed
+/// keys, some way of playing leads to the goals. A search for stops that don't meet the goals takes up
+/// states by the least step first. Where it comes to its end, the goals are sought from each of its states.
+pub fn foresee<W: Watcher>(
+    alloc: Global,
+    start: &Machine,
+    pursuit: &Pursuit<'_>,
+    bounds: &Bounds,
+    watcher: &mut W,
+) -> Foreseen
+    requires rate { 0 < pursuit.now.rate }
+    requires fresh { start.now.core.draws ≡ 0 }
+    ensures { Foresees pursuit.now.rate pursuit.now.allowed pursuit.now.goals.now start.now
+        result.prospect }
+{
+    let setting = Setting {
+        rate: pursuit.rate,
+        allowed: pursuit.allowed,
+        target: Target {
+            causes: Causes::none(),
+            address: None,
+            properties: &[],
+        },
+        goals: pursuit.goals,
+        free: true,
+        is_strict: true,
+        most_timed: bounds.states,
+        awaited: Seen::none(),
+    };
+    match foreseen_by(alloc, start, &setting, bounds, watcher) {
+        Ok(foreseen) => foreseen,
+        Err(_) => Foreseen {
+            prospect: Prospect::Within(0),
+            states: 0,
+            is_short: true,
+            is_stopped: false,
+        },
+    }
+}
+
+fn foreseen_by<W: Watcher>(
+    alloc: Global,
+    start: &Machine,
+    setting: &Setting<'_>,
+    bounds: &Bounds,
+    watcher: &mut W,
+) -> Result<Foreseen, AllocError>
+    requires rate { 0 < setting.now.rate }
+    requires fresh { start.now.core.draws ≡ 0 }
+    ensures { IfOk result (λ foreseen. Foresees setting.now.rate setting.now.allowed
+        setting.now.goals.now start.now foreseen.prospect) }
+{
+    let beginning = Beginning {
+        machine: start,
+        step: 0,
+    };
+    let searched = search_anew(alloc, &beginning, setting, bounds, watcher)?;
+    let is_short = searched.is_short;
+    let known = searched.setting;
+    let mut search = searched.search;
+    let covered = search
+        .members
+        .covered_or_none()
+        .min(bounds.steps.saturating_sub(1));
+    let loss = if search.members.is_whole(&known) {
+        let ways = WaysBack::of(alloc, &mut search, &known)?;
+        if always_can(&mut search, &known, &ways)? {
+            return Ok(Foreseen::of(&search, is_short, Prospect::Always));
+        }
+        ways.first_loss(alloc, &mut search, &known)?
+    } else {
+        stop_found(&search)
+    };
+    let Some(way) = way_to(alloc, &search, loss)? else {
+        return Ok(Foreseen::of(&search, is_short, Prospect::Within(covered)));
+    };
+    let verdict = judge(alloc, start, setting, bounds, watcher, &way)?;
+    if !verdict.is_lost {
+        let within = Foreseen::of(&search, is_short, Prospect::Within(covered));
+        return Ok(within.after(verdict));
+    }
+    let Way { events, step } = way;
+    let prospect = Prospect::DeadEnd { events, step };
+    Ok(Foreseen::of(&search, is_short, prospect))
+}
+
+/// Whether from each state on the way of a search that came to its end the goals can be reached, as ranks
+/// say: true only where they can.
+fn always_can(
+    search: &mut Search,
+    setting: &Setting<'_>,
+    ways: &WaysBack,
+) -> Result<bool, AllocError>
+    requires rate { 0 < setting.now.rate }
+    requires fresh { search.old.members.start.core.draws ≡ 0 }
+    requires searched { IsSearched setting.now search.old.members search.old.members.start 0 }
+    requires whole { IsWhole setting.now search.old.members }
+    ensures same { search.new.members ≡ search.old.members }
+    ensures always { IfOk result (λ answer. IsTrue answer → (n : ℕ) → n < FAR
+        → AlwaysCan setting.now.rate setting.now.allowed setting.now.goals.now
+        search.old.members.start n) }
+{
+    alike_steps();
+    search.are_ranked(setting, &ways.ranks, &ways.keys)
+}
+
+/// How a search met a stop that doesn't meet the goals, if it did.
+fn stop_found(search: &Search) -> Option<Loss> {
+    match search.finder.hit {
+        Some(origin) => Some(Loss {
+            origin,
+            step: search.members.limit,
+        }),
+        None => None,
+    }
+}
+
+/// A way of playing up to a step.
+#[derive(Drop)]
+struct Way {
+    events: Vec<KeyEvent>,
+    step: u32,
+}
+
+/// The way to a loss, where events can say it.
+fn way_to(alloc: Global, search: &Search, loss: Option<Loss>) -> Result<Option<Way>, AllocError> {
+    let Some(Loss { origin, step }) = loss else {
+        return Ok(None);
+    };
+    if step > u64::from(LAST_STEP) {
+        return Ok(None);
+    }
+    Ok(Some(Way {
+        events: script_to(alloc, &search.finder, origin)?,
+        step: step as u32,
+    }))
+}
+
+/// What is known of the state that a way leads to.
+#[derive(Clone, Copy)]
+struct Verdict {
+    /// No way of playing leads from it to the goals.
+    is_lost: bool,
+    /// Memory ran out before the search for them was done.
+    is_short: bool,
+    /// Its watcher ended that search before it was done.
+    is_stopped: bool,
+}
+
+impl Verdict {
+    /// That of a state about which nothing has to be sought.
+    fn at_once(is_lost: bool) -> Verdict
+        ensures { result.is_lost ≡ is_lost }
+    {
+        Verdict {
+            is_lost,
+            is_short: false,
+            is_stopped: false,
+        }
+    }
+}
+
+/// Judges the state that a machine comes to by a way: it is lost only where no way of playing leads from it
+/// to the goals.
+fn judge<W: Watcher>(
+    alloc: Global,
+    start: &Machine,
+    setting: &Setting<'_>,
+    bounds: &Bounds,
+    watcher: &mut W,
+    way: &Way,
+) -> Result<Verdict, AllocError>
+    requires rate { 0 < setting.now.rate }
+    requires fresh { start.now.core.draws ≡ 0 }
+    ensures { IfOk result (λ verdict. IsTrue verdict.is_lost → (n : ℕ) → n < END
+        → IsDeadEnd setting.now.rate setting.now.allowed setting.now.goals.now start.now
+        way.now.events.items way.now.step n) }
+{
+    let keys = match keys_of(alloc, &way.events) {
+        Ok(keys) => keys,
+        Err(KeyFault::OutOfMemory) => return Err(AllocError),
+        Err(_) => return Ok(Verdict::at_once(false)),
+    };
+    let Some(machine) = machine_under(start, setting, &keys, way.step)? else {
+        return Ok(Verdict::at_once(false));
+    };
+    if machine.stopped().is_some() {
+        return Ok(Verdict::at_once(!setting.meets_goals(&machine)));
+    }
+    let beginning = Beginning {
+        machine: &machine,
+        step: u64::from(way.step),
+    };
+    seek_goals(alloc, &beginning, setting, bounds, watcher)
+}
+
+/// Seeks the goals from a machine at a step on: it is lost only where no way of playing leads there.
+fn seek_goals<W: Watcher>(
+    alloc: Global,
+    beginning: &Beginning<'_>,
+    setting: &Setting<'_>,
+    bounds: &Bounds,
+    watcher: &mut W,
+) -> Result<Verdict, AllocError>
+    requires rate { 0 < setting.now.rate }
+    requires going { is_some beginning.now.machine.now.core.stopped ≡ false }
+    ensures { IfOk result (λ verdict. IsTrue verdict.is_lost → (start : State) (keys : ℕ → ℕ)
+        → start.core.draws ≡ 0 → IsScript setting.now.allowed keys
+        → run step_of setting.now.rate keys start beginning.now.step ≡ beginning.now.machine.now
+        → (t : ℕ) → beginning.now.step ≤ t → t < END
+        → are_met setting.now.goals.now (run step_of setting.now.rate keys start t) ≡ false) }
+{
+    alike_steps();
+    if setting.goals.is_empty() {
+        return Ok(Verdict::at_once(false));
+    }
+    let sought = setting.for_goals();
+    let searched = search_anew(alloc, beginning, &sought, bounds, watcher)?;
+    Ok(Verdict {
+        is_lost: searched.search.members.is_whole(&searched.setting),
+        is_short: searched.is_short,
+        is_stopped: searched.search.finder.is_stopped,
+    })
+}
