@@ -6,6 +6,7 @@ pub mod CheckLemmas
 pub mod DoingLemmas
 pub mod SetLemmas
 pub mod ExploringLemmas
+pub mod NextLemmas
 pub mod ProvingLemmas
 pub mod ProveLemmas
 pub mod SearchedLemmas

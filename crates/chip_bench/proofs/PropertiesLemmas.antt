@@ -1,27 +1,18 @@
 -- Which of a source's properties `prove` is asked for, as its code has them.
-use Rattle.std.proofs.Common.{◌≡◌, ℕ, ◌<◌, ◌+◌, ◌==◌, Bool, true, false, List, [], ◌∷◌, Option, Some, None, length, map, refl, sym, ◌∙◌, ap, subst, arith, eqb-true}
-use Rattle.std.specs.Prelude.{nat_lt, if◌then◌else◌}
+use Rattle.std.proofs.Common.{◌≡◌, ℕ, ◌<◌, ◌==◌, Bool, true, false, List, [], ◌∷◌, Option, length, refl, sym, ◌∙◌, ap, subst, arith, eqb-true}
 use Rattle.std.specs.List.{remove}
 use Rattle.std.specs.Vec.{vec_len}
-use Rattle.std.proofs.lemmas.Bool.{ltb-true}
 use Rattle.std.proofs.lemmas.List.{length-map}
 use Rattle.std.proofs.lemmas.List.Edits.{length-remove}
 use Rattle.chip_arguments.specs.declared.command_line.ProveArguments.{ProveArguments}
-use Rattle.chip_explore.specs.declared.property.Property.{Property}
-use Rattle.chip_explore.specs.declared.question.Outcome.{Outcome as SearchOutcome}
-use Rattle.chip_explore.specs.declared.question.Outcome.TheVariants.{Found, Later, Within, Never}
-use Rattle.chip_explore.specs.declared.target.Met.{Met}
-use Rattle.chip_explore.specs.declared.target.Met.TheVariants as met
 use Rattle.chip_machine.specs.State.{State}
 use Rattle.chip_properties.specs.declared.properties.Properties.{Properties}
 use Rattle.chip_properties.specs.declared.stated.Stated.{Stated}
 use Rattle.chip_session.specs.Tally.{Tally}
 use Rattle.chip_bench.specs.Doing.{Fails, IsNoProperty, Outcome, ProvesFrom, ProvesWith, UnlessMissing}
 use Rattle.chip_bench.specs.Proving.{asked_of, has_faults, is_missing}
-use Rattle.chip_bench.specs.declared.proving.Head.{Head}
 use Rattle.chip_bench.specs.declared.proving.Left.{Left}
-use Rattle.chip_bench.specs.inner.Proofs.{IsLeft, head_of, met_property}
-use Rattle.chip_bench.proofs.ProvingLemmas.{is_place}
+use Rattle.chip_bench.specs.inner.Proofs.{IsLeft, head_of}
 
 pub nothing_in : {X : Type 0} (xs : List X) → length xs ≡ 0 → xs ≡ []
 nothing_in [] none = refl
@@ -51,23 +42,12 @@ left_none asked left is_empty is empty none =
     let count : vec_len left.heads ≡ 0 = omega (arith, zero, left.heads.ok.0) in
     empty ∙ ap (λ (n : ℕ). n == 0) count
 
-by_place : (k place count : ℕ) → Some k ≡ (if nat_lt place count then Some place else None) → k < count
-by_place k place count e = by (nat_lt place count) refl
-  where
-    by : (b : Bool) → nat_lt place count ≡ b → k < count
-    by true is = subst (λ (n : ℕ). n < count) (is_place k place count e) (ltb-true place count is)
-    by false is = absurd (let none : Some k ≡ None = rw is at e in cc)
-
--- what was met is one of the properties
-pub place_within : (k count : ℕ) (outcome : SearchOutcome) → Some k ≡ met_property outcome count → k < count
-place_within k count (Found events step (met.Property place)) e = by_place k place count e
-place_within k count (Found events step (met.Cause cause)) e = cc
-place_within k count (Found events step met.Address) e = cc
-place_within k count (Later events step (met.Property place) covered) e = by_place k place count e
-place_within k count (Later events step (met.Cause cause) covered) e = cc
-place_within k count (Later events step met.Address covered) e = cc
-place_within k count (Within n) e = cc
-place_within k count Never e = cc
+-- lists of one length have one after an element at a place is removed of each
+pub even_after : {X Y : Type 0} (xs : List X) (ys : List Y) (k : ℕ) → k < length xs → length xs ≡ length ys → length (remove xs k) ≡ length (remove ys k)
+even_after xs ys k within even =
+    let one = length-remove xs k within in
+    let other = length-remove ys k (omega (arith, even)) in
+    omega (arith, one, other, even)
 
 pub fewer : {X : Type 0} (xs : List X) (k : ℕ) → k < length xs → length (remove xs k) < length xs
 fewer xs k within = let one = length-remove xs k within in omega (arith, one)

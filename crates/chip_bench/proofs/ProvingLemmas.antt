@@ -1,37 +1,26 @@
 -- What `prove` did, from what its steps did.
-use Rattle.std.proofs.Common.{◌≡◌, ◌⊎◌, inl, inr, ℕ, zero, suc, ◌<◌, ◌&&◌, ◌||◌, Bool, true, false, List, [], ◌∷◌, ◌++◌, append_assoc, append-nil, Option, Some, None, Result, Ok, Err, IfOk, IfSome, length, map, option_map, slice_get, refl, sym, ◌∙◌, ap, subst}
-use Rattle.std.specs.Prelude.{IsErrAnd, nat_lt, slice_index_or, if◌then◌else◌}
-use Rattle.std.specs.Global.{Vec}
+use Rattle.std.proofs.Common.{◌≡◌, inl, inr, ℕ, zero, suc, ◌<◌, ◌||◌, Bool, true, false, List, [], ◌∷◌, ◌++◌, append_assoc, append-nil, Option, Some, None, Result, Ok, Err, IfOk, length, map, option_map, slice_get, refl, sym, ◌∙◌, ap, subst}
+use Rattle.std.specs.Prelude.{slice_index_or}
 use Rattle.std.specs.List.{All, flat_map, list_any, remove}
 use Rattle.std.specs.List.Sorted.{IsPermutation}
 use Rattle.std.proofs.KnownBytes.{Appends-nil, Appends-trans}
 use Rattle.std.proofs.Math.Bool.{or-false, or_assoc}
-use Rattle.std.proofs.lemmas.Bool.{eq-eqb}
 use Rattle.std.proofs.lemmas.List.{length-map}
 use Rattle.std.proofs.lemmas.List.Elements.{All-cons, All-map, All-nil}
 use Rattle.std.proofs.lemmas.List.Sorted.{IsPermutation-cons, IsPermutation-refl, IsPermutation-remove, IsPermutation-trans}
 use Rattle.std.proofs.lemmas.Option.{get_or_from_slice_get, slice_get-get_or, slice_get-map}
 use Rattle.chip_arguments.specs.declared.command_line.ProveArguments.{ProveArguments}
-use Rattle.chip_explore.specs.Answers.{Answers}
-use Rattle.chip_explore.specs.OneOf.{told_of}
-use Rattle.chip_explore.specs.Speeds.{NeverAtAnySpeed}
 use Rattle.chip_explore.specs.declared.property.Property.{Property}
 use Rattle.chip_explore.specs.declared.question.Explored.{Explored}
 use Rattle.chip_explore.specs.declared.question.Outcome.{Outcome as SearchOutcome}
-use Rattle.chip_explore.specs.declared.question.Outcome.TheVariants.{Found, Later, Within, Never}
-use Rattle.chip_explore.specs.declared.script.KeyEvent.{KeyEvent}
-use Rattle.chip_explore.specs.declared.target.Met.{Met}
-use Rattle.chip_explore.specs.declared.target.Met.TheVariants as met
 use Rattle.chip_lang.specs.Meter.{one_more}
 use Rattle.chip_machine.specs.State.{State}
-use Rattle.chip_properties.specs.declared.stated.Kind.{Kind}
-use Rattle.chip_properties.specs.declared.stated.Kind.TheVariants as kind
 use Rattle.chip_properties.specs.declared.stated.Stated.{Stated}
 use Rattle.chip_session.specs.Tally.{Tally}
 use Rattle.chip_session.specs.Writing.{Breaks, Writes}
 use Rattle.chip_bench.specs.Doing.{IsScriptUnwritten, Outcome, ProvesFrom, StreamsUpTo}
 use Rattle.chip_bench.specs.Printing.{Printed, Prints, Streams, WritesFront, printed}
-use Rattle.chip_bench.specs.Proving.{Answered, AreAnswered, IsProofPrinted, IsRight, answer_object, answer_text, has_bad, is_bad, is_missing, looks_for, printed_answer, proof_ending}
+use Rattle.chip_bench.specs.Proving.{Answered, AreAnswered, IsProofPrinted, IsRight, has_bad, is_bad, is_missing, printed_answer, proof_ending}
 use Rattle.chip_bench.specs.declared.ending.Ending.{Ending}
 use Rattle.chip_bench.specs.declared.ending.Ending.TheVariants.{Done}
 use Rattle.chip_bench.specs.declared.ending.Failure.{Failure}
@@ -39,7 +28,7 @@ use Rattle.chip_bench.specs.declared.ending.Failure.TheVariants as failure
 use Rattle.chip_bench.specs.declared.proving.Head.{Head}
 use Rattle.chip_bench.specs.declared.proving.Left.{Left}
 use Rattle.chip_bench.specs.declared.proving.Told.{Told}
-use Rattle.chip_bench.specs.inner.Proofs.{IsAnswering, IsLeft, IsUnmet, WritesAll, WritesUpTo, head_of, met_property, missing_line, printed_head, property_met}
+use Rattle.chip_bench.specs.inner.Proofs.{IsAnswered, IsAnswering, IsLeft, IsSameAnswer, WritesAll, WritesUpTo, answered, head_of, missing_line, printed_head}
 
 -- ---- what was written, one part after another
 
@@ -133,68 +122,7 @@ module _ {W : Type 0} (contents : W → Option (List ℕ)) where
     all_more (Err failure.OutOfMemory) why e w = front_more w
     all_more (Err _) why e w = absurd w
 
--- ---- one property of several
-
--- what is said of a property that was met doesn't depend on its place among the others
-pub record IsSameAnswer (a b : SearchOutcome) : Type 0 where
-  pub text : (is_json : Bool) (name : List ℕ) (line : ℕ) (text : List ℕ) (kind : Kind) (any : Bool)
-      → answer_text is_json name line text kind any a ≡ answer_text is_json name line text kind any b
-  pub bad : (kind : Kind) → is_bad kind a ≡ is_bad kind b
-
-same_answer : (outcome : SearchOutcome) → IsSameAnswer outcome outcome
-same_answer outcome = record { text = λ is_json name line text kind any. refl; bad = λ kind. refl }
-
-same_found : (events : Vec KeyEvent) (step : ℕ) (a b : Met) → IsSameAnswer (Found events step a) (Found events step b)
-unfolding answer_object
-same_found events step a b = record { text = λ is_json name line text kind any. refl; bad = bad }
-  where
-    bad : (kind : Kind) → is_bad kind (Found events step a) ≡ is_bad kind (Found events step b)
-    bad kind.Ever = refl
-    bad kind.Always = refl
-    bad kind.Never = refl
-    bad kind.Can = refl
-
-same_later : (events : Vec KeyEvent) (step covered : ℕ) (a b : Met) → IsSameAnswer (Later events step a covered) (Later events step b covered)
-unfolding answer_object
-same_later events step covered a b = record { text = λ is_json name line text kind any. refl; bad = bad }
-  where
-    bad : (kind : Kind) → is_bad kind (Later events step a covered) ≡ is_bad kind (Later events step b covered)
-    bad kind.Ever = refl
-    bad kind.Always = refl
-    bad kind.Never = refl
-    bad kind.Can = refl
-
-pub is_place : (k place count : ℕ) → Some k ≡ (if nat_lt place count then Some place else None) → place ≡ k
-is_place k place count e = by (nat_lt place count) e
-  where
-    by : (b : Bool) → Some k ≡ (if b then Some place else None) → place ≡ k
-    by true e = cc
-    by false e = cc
-
--- what a search that met a property says of it
-pub met_told : (k count : ℕ) (outcome : SearchOutcome) → Some k ≡ met_property outcome count
-    → (told : SearchOutcome) × (told_of k outcome ≡ Some told) × IsSameAnswer told outcome
-met_told k count (Found events step (met.Property place)) e =
-    (Found events step (met.Property 0), rw (eq-eqb place k (is_place k place count e)) refl, same_found events step _ _)
-met_told k count (Found events step (met.Cause cause)) e = cc
-met_told k count (Found events step met.Address) e = cc
-met_told k count (Later events step (met.Property place) covered) e =
-    (Later events step (met.Property 0) covered, rw (eq-eqb place k (is_place k place count e)) refl, same_later events step covered _ _)
-met_told k count (Later events step (met.Cause cause) covered) e = cc
-met_told k count (Later events step met.Address covered) e = cc
-met_told k count (Within n) e = cc
-met_told k count Never e = cc
-
--- and what one that met nothing says of each
-pub unmet_told : (outcome : SearchOutcome) → IsUnmet outcome → (k : ℕ) → told_of k outcome ≡ Some outcome
-unmet_told (Within n) unmet k = refl
-unmet_told Never unmet k = refl
-unmet_told (Found events step met) unmet k = absurd unmet
-unmet_told (Later events step met covered) unmet k = absurd unmet
-
-both_true : (a b : Bool) → (a && b) ≡ true → b ≡ true
-both_true true b e = e
-both_true false b e = cc
+-- ---- properties by their places
 
 map_remove : {A B : Type 0} (f : A → B) (xs : List A) (i : ℕ) → remove (map f xs) i ≡ map f (remove xs i)
 map_remove f [] zero = refl
@@ -217,35 +145,8 @@ mapped_at f xs i y e = by (slice_get xs i) refl
     by None is = absurd (none_some (sym (slice_get-map f xs i ∙ ap (option_map f) is) ∙ e))
 
 module _ (arguments : ProveArguments) (lines : List (List ℕ)) (rate keys : ℕ) (start : State) where
-  abbrev pub Rights : List Property → Explored → Type 0
-  Rights properties explored = record {
-    answers : (k : ℕ) (property : Property) → slice_get properties k ≡ Some property →
-        IfSome (told_of k explored.outcome) (Answers rate keys (looks_for property) start);
-    any_speed : (k : ℕ) (property : Property) → slice_get properties k ≡ Some property → explored.is_at_any_speed ≡ true →
-        NeverAtAnySpeed keys (looks_for property) start;
-  }
-
-  -- one of the properties with what the search says of it
-  abbrev pub answered : Explored → Stated → SearchOutcome → Answered
-  answered explored one told =
-      record { stated = one; outcome = told; is_at_any_speed = arguments.search.is_any_speed && explored.is_at_any_speed }
-
-  if_some : {A : Type 0} (o : Option A) (x : A) (P : A → Type 0) → o ≡ Some x → IfSome o P → P x
-  if_some o x P is h = rw is at h
-
-  pub is_right : (asked : List Stated) (properties : List Property) (explored : Explored) (k : ℕ) (one : Stated) (told : SearchOutcome) →
-      properties ≡ map (λ (s : Stated). s.property) asked → Rights properties explored → slice_get asked k ≡ Some one →
-      told_of k explored.outcome ≡ Some told → IsRight rate keys start (answered explored one told)
-  is_right asked properties explored k one told same rights here says =
-      let there : slice_get properties k ≡ Some one.property =
-      ap (λ (ps : List Property). slice_get ps k) same ∙ slice_get-map (λ (s : Stated). s.property) asked k ∙ ap (option_map (λ (s : Stated). s.property)) here in
-      record {
-        answers = if_some (told_of k explored.outcome) told (Answers rate keys (looks_for one.property) start) says (rights.answers k one.property there);
-        any_speed = λ any. rights.any_speed k one.property there (both_true arguments.search.is_any_speed explored.is_at_any_speed any);
-      }
-
   pub same_line : (explored : Explored) (one : Stated) (told : SearchOutcome) → IsSameAnswer told explored.outcome →
-      printed_answer arguments lines (answered explored one told) ≡ printed_head arguments lines explored (head_of one)
+      printed_answer arguments lines (answered arguments explored one told) ≡ printed_head arguments lines explored (head_of one)
   same_line explored one told same = same.text _ _ _ _ _ _
 
   module _ {W : Type 0} (contents : W → Option (List ℕ)) (old new : Tally W) where
@@ -272,30 +173,29 @@ module _ (arguments : ProveArguments) (lines : List (List ℕ)) (rate keys : ℕ
     }
 
     -- the search met nothing, and what it says is told of all that are left
-    module _ (asked : List Stated) (properties : List Property) (heads : List Head) (explored : Explored) (told later : Told)
-        (same : properties ≡ map (λ (s : Stated). s.property) asked) (heads_are : heads ≡ map head_of asked)
-        (rights : Rights properties explored) (unmet : IsUnmet explored.outcome) where
+    module _ (asked : List Stated) (heads : List Head) (explored : Explored) (told later : Told) (heads_are : heads ≡ map head_of asked)
+        (each : (k : ℕ) (one : Stated) → slice_get asked k ≡ Some one → IsRight rate keys start (answered arguments explored one explored.outcome)) where
       abbrev all_given : List Answered
-      all_given = map (λ one. answered explored one explored.outcome) asked
+      all_given = map (λ one. answered arguments explored one explored.outcome) asked
 
-      stated_again : (xs : List Stated) → map (λ (one : Answered). one.stated) (map (λ one. answered explored one explored.outcome) xs) ≡ xs
+      stated_again : (xs : List Stated) → map (λ (one : Answered). one.stated) (map (λ one. answered arguments explored one explored.outcome) xs) ≡ xs
       stated_again [] = refl
       stated_again (x ∷ xs) = ap (λ ys. x ∷ ys) (stated_again xs)
 
-      text_again : (xs : List Stated) → flat_map (printed_answer arguments lines) (map (λ one. answered explored one explored.outcome) xs)
+      text_again : (xs : List Stated) → flat_map (printed_answer arguments lines) (map (λ one. answered arguments explored one explored.outcome) xs)
           ≡ flat_map (printed_head arguments lines explored) (map head_of xs)
       text_again [] = refl
       text_again (x ∷ xs) = ap (λ (l : List ℕ). printed_head arguments lines explored (head_of x) ++ l) (text_again xs)
 
-      bad_again : (xs : List Stated) → has_bad (map (λ one. answered explored one explored.outcome) xs)
+      bad_again : (xs : List Stated) → has_bad (map (λ one. answered arguments explored one explored.outcome) xs)
           ≡ list_any (λ (head : Head). is_bad head.kind explored.outcome) (map head_of xs)
       bad_again [] = refl
       bad_again (x ∷ xs) = ap (λ (b : Bool). is_bad x.kind explored.outcome || b) (bad_again xs)
 
       all_right : All (IsRight rate keys start) all_given
       all_right =
-          All-map (IsRight rate keys start) (λ one. answered explored one explored.outcome) asked
-          (λ k d within. is_right asked properties explored k (slice_index_or asked k d) explored.outcome same rights (slice_get-get_or asked k d within) (unmet_told explored.outcome unmet k))
+          All-map (IsRight rate keys start) (λ one. answered arguments explored one explored.outcome) asked
+          (λ k d within. each k (slice_index_or asked k d) (slice_get-get_or asked k d within))
 
       all_answered : AreAnswered rate keys start asked all_given []
       all_answered = record { all = rw (stated_again asked, append-nil asked) (IsPermutation-refl asked); right = all_right }
@@ -330,7 +230,7 @@ module _ (arguments : ProveArguments) (lines : List (List ℕ)) (rate keys : ℕ
 
   -- the search met one, and the others are left
   module _ {W : Type 0} (contents : W → Option (List ℕ)) (asked : List Stated) (left after : Left) (explored : Explored) (k : ℕ) (head : Head)
-      (is : IsLeft asked left) (rights : Rights left.properties.items explored) (met : Some k ≡ met_property explored.outcome (length left.heads.items))
+      (is : IsLeft asked left) (says : (one : Stated) → slice_get asked k ≡ Some one → IsAnswered arguments rate keys start explored one)
       (taken : slice_get left.heads.items k ≡ Some head) (within : k < length left.heads.items)
       (heads : after.heads.items ≡ remove left.heads.items k) (properties : after.properties.items ≡ remove left.properties.items k) where
     found : (one : Stated) × (slice_get asked k ≡ Some one) × (head ≡ head_of one)
@@ -339,21 +239,21 @@ module _ (arguments : ProveArguments) (lines : List (List ℕ)) (rate keys : ℕ
     abbrev one : Stated
     one = found.0
 
-    told_here : (told : SearchOutcome) × (told_of k explored.outcome ≡ Some told) × IsSameAnswer told explored.outcome
-    told_here = met_told k (length left.heads.items) explored.outcome met
+    told_here : IsAnswered arguments rate keys start explored one
+    told_here = says one found.1
 
     abbrev first : Answered
-    first = answered explored one told_here.0
+    first = answered arguments explored one told_here.outcome
 
     first_right : IsRight rate keys start first
-    first_right = is_right asked left.properties.items explored k one told_here.0 is.properties rights found.1 told_here.1
+    first_right = told_here.right
 
     line_is : flat_map (printed_head arguments lines explored) (head ∷ []) ≡ printed_answer arguments lines first
     line_is = append-nil (printed_head arguments lines explored head) ∙ ap (printed_head arguments lines explored) found.2
-        ∙ sym (same_line explored one told_here.0 told_here.2)
+        ∙ sym (same_line explored one told_here.outcome told_here.same)
 
     bad_is : list_any (λ (h : Head). is_bad h.kind explored.outcome) (head ∷ []) ≡ is_bad first.stated.kind first.outcome
-    bad_is = or-false (is_bad head.kind explored.outcome) ∙ ap (λ (h : Head). is_bad h.kind explored.outcome) found.2 ∙ sym (told_here.2.bad one.kind)
+    bad_is = or-false (is_bad head.kind explored.outcome) ∙ ap (λ (h : Head). is_bad h.kind explored.outcome) found.2 ∙ sym (told_here.same.bad one.kind)
 
     within_asked : k < length asked
     within_asked = rw (sym (length-map asked head_of), sym is.heads) within

@@ -34,7 +34,6 @@ use Rattle.std.specs.Str.Lines.{lines}
 use Rattle.chip_trace.specs.Columns.{header_line, usual_columns}
 use Rattle.chip_trace.specs.Header.{header_fault}
 use Rattle.chip_trace.specs.declared.column.Column.{Column}
-use Rattle.chip_trace.specs.declared.form.Form.{Form}
 use Rattle.chip_trace.specs.declared.form.Form.TheVariants.{Fields, Json}
 use Rattle.chip_trace.specs.declared.header.HeaderError.{HeaderError}
 use Rattle.chip_bench.specs.Tracing.{IsCompared, below_machine, header_of, lines_after, printed_trace}

@@ -1,15 +1,16 @@
 -- What `prove` prints of the properties that a source states (own).
---     met_words, unmet_words, never_words   what is said of a property that a script breaks, or of an
---                        `ever` that one reaches; of one that none does up to a step; of one that none
---                        ever does
+--     met_words, unmet_words, never_words   what is said of a property that a script breaks, of an
+--                        `ever` that one reaches, or of a `can` of which one leads to a dead end; of one
+--                        that none does up to a step; of one that none ever does
 --     answer_words       what was found, in words
 --     answer_line, answer_object, answer_text    the line of an answer, or its JSON object
---     is_bad             whether a property is broken, or an `ever` isn't reached
+--     is_bad             whether a property is broken, an `ever` isn't reached, or a `can` has a dead end
 --     is_asked, asked_of, has_faults, is_missing    which properties of a source are asked for, whether
 --                        one of them can't be read, and whether there is none in the line that is named
 --     text_at            the text of the property of a line
 --     looks_for          a search that looks for a property alone
---     Answered, IsRight  a property with an answer; that a search for it alone may give that answer
+--     IsForeseen, AnswersKind    whether the answer to a `can` holds; whether that to any property does
+--     Answered, IsRight  a property with an answer; that the answer holds
 --     proof_ending       how the program ends after the answers
 --     IsProofPrinted     what is printed of properties that are answered
 use Rattle.std.specs.Prelude.{◌≡◌, ℕ, ◌==◌, ◌||◌, Bool, true, false, List, [], ◌∷◌, ◌++◌, codes, filter, map, Option, Some, None, unwrap_or, if◌then◌else◌}
@@ -20,7 +21,9 @@ use Rattle.chip_arguments.specs.declared.command_line.ProveArguments.{ProveArgum
 use Rattle.chip_asm.specs.LineViews.{LineFacts, line_at}
 use Rattle.chip_check.specs.Json.{quoted}
 use Rattle.chip_explore.specs.Answers.{Answers}
+use Rattle.chip_explore.specs.Prospects.{Foresees, outcome_of}
 use Rattle.chip_explore.specs.Speeds.{NeverAtAnySpeed}
+use Rattle.chip_explore.specs.declared.prospect.Prospect.{Prospect}
 use Rattle.chip_explore.specs.declared.property.Property.{Property}
 use Rattle.chip_explore.specs.declared.target.Target.{Target}
 use Rattle.chip_machine.specs.State.{State}
@@ -38,17 +41,20 @@ use Rattle.chip_properties.specs.declared.stated.Kind.TheVariants as kind
 
 abbrev pub met_words : Kind → List ℕ
 met_words kind.Ever = codes "reached"
+met_words kind.Can = codes "dead end"
 met_words other = codes "broken"
 
 abbrev pub unmet_words : Kind → List ℕ
 unmet_words kind.Ever = codes "not reached"
+unmet_words kind.Can = codes "undecided"
 unmet_words other = codes "unbroken"
 
 abbrev pub never_words : Kind → (is_at_any_speed : Bool) → List ℕ
+never_words kind.Can is_at_any_speed = codes "always"
 never_words kind is_at_any_speed =
     codes "never " ++ met_words kind ++ (if is_at_any_speed then codes " at any speed" else [])
 
--- broken, or reached, at a step
+-- broken, reached, or a dead end, at a step
 abbrev pub met_at : Kind → ℕ → List ℕ
 met_at kind step = met_words kind ++ codes " at step " ++ decimal step
 
@@ -124,7 +130,7 @@ answer_text is_json name line text kind is_at_any_speed outcome =
     if is_json then answer_object name line text kind is_at_any_speed outcome
     else answer_line name line text (answer_words kind is_at_any_speed outcome)
 
--- a property that is broken, or an `ever` that isn't reached
+-- a property that is broken, an `ever` that isn't reached, or a `can` with a dead end
 abbrev pub is_bad : Kind → Outcome → Bool
 is_bad kind.Ever (Found events step met) = false
 is_bad kind.Ever (Later events step met covered) = false
@@ -170,9 +176,21 @@ pub record Answered : Type 0 where
   pub outcome : Outcome
   pub is_at_any_speed : Bool
 
--- the answer is that of a search for the property alone
+-- an outcome says whether the property can be met from everywhere
+pub record IsForeseen (rate keys : ℕ) (property : Property) (start : State) (outcome : Outcome) : Type 0 where
+  pub prospect : Prospect
+  pub is : outcome ≡ outcome_of prospect
+  pub foreseen : Foresees rate keys (property ∷ []) start prospect
+
+-- the answer to a property of a kind
+abbrev pub AnswersKind : Kind → (rate keys : ℕ) → Property → State → Outcome → Type 0
+AnswersKind kind.Can rate keys property start outcome = IsForeseen rate keys property start outcome
+AnswersKind kind rate keys property start outcome =
+    Answers rate keys (looks_for property) start outcome
+
+-- the answer holds, and so does what is said of all speeds
 pub record IsRight (rate keys : ℕ) (start : State) (one : Answered) : Type 0 where
-  pub answers : Answers rate keys (looks_for one.stated.property) start one.outcome
+  pub answers : AnswersKind one.stated.kind rate keys one.stated.property start one.outcome
   pub any_speed : one.is_at_any_speed ≡ true
       → NeverAtAnySpeed keys (looks_for one.stated.property) start
 

@@ -123,7 +123,7 @@ impl Finding<'_> {
     }
 }
 
-/// Whether a property is broken, or an `ever` isn't reached.
+/// Whether a property is broken, an `ever` isn't reached, or a `can` has a dead end.
 pub(crate) fn is_bad(kind: Kind, outcome: &Outcome) -> bool
     ensures { result ≡ is_bad kind outcome.now }
 {
@@ -141,7 +141,8 @@ fn met_words(kind: Kind) -> &'static [u8]
 {
     match kind {
         Kind::Ever => b"reached",
-        Kind::Always | Kind::Never | Kind::Can => b"broken",
+        Kind::Can => b"dead end",
+        Kind::Always | Kind::Never => b"broken",
     }
 }
 
@@ -151,7 +152,8 @@ fn unmet_words(kind: Kind) -> &'static [u8]
 {
     match kind {
         Kind::Ever => b"not reached",
-        Kind::Always | Kind::Never | Kind::Can => b"unbroken",
+        Kind::Can => b"undecided",
+        Kind::Always | Kind::Never => b"unbroken",
     }
 }
 
@@ -174,6 +176,9 @@ fn push_unmet(text: &mut Vec<u8>, kind: Kind, step: u64) -> Result<(), AllocErro
 fn push_never(text: &mut Vec<u8>, kind: Kind, is_at_any_speed: bool) -> Result<(), AllocError>
     ensures { OnOk result (text.new.items ≡ text.old.items ++ never_words kind is_at_any_speed) }
 {
+    if kind == Kind::Can {
+        return text.extend_from_slice(b"always");
+    }
     let speed: &[u8] = if is_at_any_speed {
         b" at any speed"
     } else {

@@ -1,5 +1,5 @@
 //! `prove`: what searches over all key scripts answer of the properties that a source states.
-ghost use Rattle.std.specs.Prelude.{◌≡◌, ◌⊎◌, ◌<◌, ◌||◌, [], ℕ, List, Ok, Some, None, true, IfOk, IfErr, IfSome, OnOk, ◌++◌, filter, length, slice_get};
+ghost use Rattle.std.specs.Prelude.{◌≡◌, ◌⊎◌, ◌<◌, ◌||◌, ◌∷◌, [], ℕ, List, Ok, Some, None, true, IfOk, IfErr, IfSome, MatchOption, OnOk, ◌++◌, filter, length, slice_get, option_copied, false, position, ◌==◌, ◌+◌};
 ghost use Rattle.std.specs.List.{flat_map, list_any, remove};
 ghost use Rattle.chip_explore.specs.Answers.{Answers};
 ghost use Rattle.chip_explore.specs.OneOf.{told_of};
@@ -9,8 +9,8 @@ ghost use Rattle.chip_properties.specs.Properties.{AreProperties};
 ghost use Rattle.chip_properties.specs.declared.properties.Properties.{Properties};
 ghost use Rattle.chip_properties.specs.declared.stated.Stated.{Stated};
 ghost use Rattle.chip_bench.specs.Doing.{Fails, IsScriptUnwritten, IsShort, IsUnwritten, Proves, ProvesBy, ProvesFrom, ProvesWith, image_in};
-ghost use Rattle.chip_bench.specs.Proving.{has_faults, is_asked, is_bad, looks_for, proof_ending, text_at};
-ghost use Rattle.chip_bench.specs.inner.Proofs.{IsAnswering, IsLeft, IsUnmet, WritesAll, met_property, missing_line, printed_head};
+ghost use Rattle.chip_bench.specs.Proving.{IsForeseen, asked_of, has_faults, is_asked, is_bad, looks_for, proof_ending, text_at};
+ghost use Rattle.chip_bench.specs.inner.Proofs.{IsAnswering, IsLeft, IsNext, IsUnmet, is_can, WritesAll, met_property, missing_line, printed_head};
 
 use crate::answer::{Finding, Place, is_bad};
 use crate::checking::Checker;
@@ -26,15 +26,17 @@ use chip_arguments::ProveArguments;
 use chip_asm::Source;
 use chip_check::{push_property_fault, push_quoted};
 use chip_explore::laws::one_of_several;
-use chip_explore::{Causes, Explored, Met, Outcome, Property, Question, Target, Ticks, explore};
+use chip_explore::{
+    Causes, Explored, Met, Outcome, Property, Pursuit, Question, Target, Ticks, explore, foresee,
+};
 use chip_machine::Machine;
 use chip_properties::{Kind, Properties, PropertyFault, Stated, properties_of, property_text};
 use chip_session::{Counted, Settings};
 use chip_trace::push_decimal;
 use std::alloc::{AllocError, Global};
-use std::io;
 use std::io::{Read, Write};
 use std::time::Clock;
+use std::{io, slice};
 
 /// `prove`: what a search answers of each property that a source states, or the faults where there is
 /// no image. Settings and keys are judged before the source is read.
@@ -130,16 +132,23 @@ pub(crate) struct Left {
     properties: Vec<Property>,
 }
 
+/// What one search answers: the property at the place, or, with no place, all that are left.
+#[derive(Drop)]
+pub(crate) struct Next {
+    place: Option<usize>,
+    explored: Explored,
+}
+
 /// What the searches came to.
 #[derive(Clone, Copy)]
 pub(crate) struct Told {
     /// How many states the search with the most kept.
     states: usize,
-    /// A property is broken, or an `ever` isn't reached.
+    /// A property is broken, an `ever` isn't reached, or a `can` has a dead end.
     is_bad: bool,
-    /// Memory ran out in the last search.
+    /// Memory ran out in a search.
     is_short: bool,
-    /// The last search ended since its time was over.
+    /// A search ended since its time was over.
     is_late: bool,
     /// Which script was written.
     written: Written,
@@ -175,6 +184,13 @@ impl Left {
         Ok(Left { heads, properties })
     }
 
+    /// The place of the first one that asks whether it can be met from everywhere, if there is one.
+    fn first_can(&self) -> Option<usize>
+        ensures { result ≡ position (λ head. is_can head.kind) self.now.heads.items }
+    {
+        self.heads.iter().position(|head| is_can(head.kind))
+    }
+
     /// Removes one, and gives its head.
     fn take(&mut self, place: usize) -> Head
         requires in_heads { place < length self.old.heads.items }
@@ -185,6 +201,16 @@ impl Left {
     {
         let _ = self.properties.remove(place);
         self.heads.remove(place)
+    }
+}
+
+/// Whether a property asks whether it can be met from everywhere.
+fn is_can(kind: Kind) -> bool
+    ensures { result ≡ is_can kind }
+{
+    match kind {
+        Kind::Can => true,
+        Kind::Always | Kind::Never | Kind::Ever => false,
     }
 }
 
@@ -271,6 +297,7 @@ impl<'p, 'a, F: FileAccess> Prover<'p, 'a, F> {
     ) -> Result<Ending, Failure<'a>>
         requires rate { 0 < self.now.rate }
         requires fresh { self.now.start.now.core.draws ≡ 0 }
+        requires even { length left.heads.items ≡ length left.properties.items }
         ensures { (asked : List Stated) → IsLeft asked left → ProvesFrom O.contents output.old
             output.new self.now.arguments.now self.now.source.now.lines self.now.rate self.now.keys
             self.now.start.now asked is_faulty result }
@@ -318,6 +345,7 @@ impl<'p, 'a, F: FileAccess> Prover<'p, 'a, F> {
     ) -> Result<Told, Failure<'a>>
         requires rate { 0 < self.now.rate }
         requires fresh { self.now.start.now.core.draws ≡ 0 }
+        requires even { length left.heads.items ≡ length left.properties.items }
         ensures { (asked : List Stated) → IsLeft asked left → IsAnswering O.contents output.old
             output.new self.now.arguments.now self.now.source.now.lines self.now.rate self.now.keys
             self.now.start.now asked told.is_bad result }
@@ -325,13 +353,14 @@ impl<'p, 'a, F: FileAccess> Prover<'p, 'a, F> {
         if left.heads.is_empty() {
             return Ok(told);
         }
-        let explored = self.search(&left.properties, teller);
-        let told = told.after(&explored);
-        match met_property(&explored.outcome, left.heads.len()) {
+        let next = self.next(&left, teller);
+        let told = told.after(&next.explored);
+        match next.place {
             Some(place) => {
                 let head = left.take(place);
-                let is_bad = self.tell(&[head], &explored, output)?;
-                let written = self.write_keys(head, &explored.outcome, told.written, teller)?;
+                let is_bad = self.tell(&[head], &next.explored, output)?;
+                let outcome = &next.explored.outcome;
+                let written = self.write_keys(head, outcome, told.written, teller)?;
                 let told = Told {
                     is_bad: told.is_bad || is_bad,
                     written,
@@ -340,13 +369,52 @@ impl<'p, 'a, F: FileAccess> Prover<'p, 'a, F> {
                 self.answer(left, told, output, teller)
             }
             None => {
-                let is_bad = self.tell(&left.heads, &explored, output)?;
+                let is_bad = self.tell(&left.heads, &next.explored, output)?;
                 Ok(Told {
                     is_bad: told.is_bad || is_bad,
                     ..told
                 })
             }
         }
+    }
+
+    /// What the next search answers: first each property alone that asks whether it can be met from everywhere,
+    /// then all others at once.
+    fn next<T: Teller>(&self, left: &Left, teller: &mut T) -> Next
+        requires rate { 0 < self.now.rate }
+        requires fresh { self.now.start.now.core.draws ≡ 0 }
+        requires even { length left.now.heads.items ≡ length left.now.properties.items }
+        ensures within { IfSome result.place (λ place. place < length left.now.heads.items) }
+        ensures right { (asked : List Stated) → IsLeft asked left.now → IsNext
+            self.now.arguments.now self.now.rate self.now.keys self.now.start.now asked result }
+    {
+        if let Some(place) = left.first_can() {
+            let explored = self.foresee(&left.properties[place], teller);
+            return Next {
+                place: Some(place),
+                explored,
+            };
+        }
+        let explored = self.search(&left.properties, teller);
+        let place = met_property(&explored.outcome, left.heads.len());
+        Next { place, explored }
+    }
+
+    /// Whether a property can be met from everywhere.
+    fn foresee<T: Teller>(&self, property: &Property, teller: &mut T) -> Explored
+        requires rate { 0 < self.now.rate }
+        requires fresh { self.now.start.now.core.draws ≡ 0 }
+        ensures foreseen { IsForeseen self.now.rate self.now.keys property.now self.now.start.now
+            result.outcome }
+        ensures speed { result.is_at_any_speed ≡ false }
+    {
+        let pursuit = Pursuit {
+            rate: self.rate,
+            allowed: self.keys,
+            goals: slice::from_ref(property),
+        };
+        let bounds = bounds_of(&self.arguments.search, Ticks::Free);
+        foresee(self.system.alloc, self.start, &pursuit, &bounds, teller).explored()
     }
 
     /// What a search for these properties finds.
@@ -383,8 +451,7 @@ impl<'p, 'a, F: FileAccess> Prover<'p, 'a, F> {
         explore(self.system.alloc, self.start, &question, &bounds, teller)
     }
 
-    /// Tells what a search says of each of these properties, and whether one is broken, or an `ever` isn't
-    /// reached.
+    /// Tells what a search says of each of these properties, and whether that is bad of one.
     fn tell<O: Write>(
         &self,
         heads: &[Head],
@@ -573,8 +640,8 @@ impl Told {
     {
         Told {
             states: self.states.max(explored.states),
-            is_short: explored.is_short,
-            is_late: explored.is_stopped,
+            is_short: self.is_short || explored.is_short,
+            is_late: self.is_late || explored.is_stopped,
             ..self
         }
     }

@@ -1,4 +1,4 @@
-use Rattle.std.proofs.Common.{◌≡◌, List, filter, map}
+use Rattle.std.proofs.Common.{◌≡◌, map}
 use Rattle.chip_properties.specs.declared.stated.Stated.{Stated}
 use Rattle.chip_bench.specs.Proving.{asked_of}
 use Rattle.chip_bench.specs.inner.Proofs.{head_of}

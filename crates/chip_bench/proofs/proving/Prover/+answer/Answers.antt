@@ -1,10 +1,9 @@
 use Rattle.std.proofs.lemmas.Result.{err_from_is_err_and}
-use Rattle.std.proofs.Common.{rules, arith, ◌≡◌, ◌∙◌, ◌||◌, ◌<◌, ap, refl, sym, subst, ℕ, List, Some, None, Err, length}
+use Rattle.std.proofs.Common.{rules, ◌≡◌, ◌∙◌, ◌||◌, ◌<◌, ap, refl, sym, Err, length}
 use Rattle.std.specs.List.{remove}
-use Rattle.chip_explore.specs.declared.property.Property.{Property}
-use Rattle.chip_bench.specs.inner.Proofs.{met_property}
-use Rattle.chip_bench.proofs.PropertiesLemmas.{fewer, no_heads, place_within, same_count}
-use Rattle.chip_bench.proofs.ProvingLemmas.{Rights, comes_all, comes_all_stopped, comes_none, comes_on, comes_stopped, comes_unwritten, others_left}
+use Rattle.chip_bench.proofs.NextLemmas.{at_each, at_place, is_within}
+use Rattle.chip_bench.proofs.PropertiesLemmas.{even_after, fewer, no_heads}
+use Rattle.chip_bench.proofs.ProvingLemmas.{comes_all, comes_all_stopped, comes_none, comes_on, comes_stopped, comes_unwritten, others_left}
 use Rattle.chip_bench.proofs.proving.Prover.+answer.Goals as goal
 use Rattle.chip_bench.proofs.proving.Prover.+answer.Goals.{then-told, else-told, then-told-2, else-told-2}
 
@@ -17,94 +16,78 @@ returns-then-is_empty g t c = λ asked is.
 pub returns-in_err-is_bad-in-Some : goal.returns-in_err-is_bad-in-Some
 returns-in_err-is_bad-in-Some g t c = λ asked is.
     let p = c.args.self.now in
-    let explored = c.search-explored.result in
-    let rights = subst (λ (ps : List Property). Rights p.arguments.now p.source.now.lines p.rate p.keys p.start.now ps explored) c.deref.ensures.value
-    (record { answers = c.search-explored.ensures.answers; any_speed = c.search-explored.ensures.any_speed }) in
-    let count : c.len.result ≡ length c.args.left.heads.items = omega (arith, c.args.left.heads.ok.0, c.len.ensures) in
-    let met : Some c.in-Some.place ≡ met_property explored.outcome (length c.args.left.heads.items) = rw count at c.in-Some.ensures in
-    let within = place_within c.in-Some.place (length c.args.left.heads.items) explored.outcome met in
+    let next = c.next-next.result in
+    let says = at_place p.arguments.now p.rate p.keys p.start.now asked next (c.next-next.ensures.right asked is) c.in-Some.place (sym c.in-Some.is) in
+    let within = is_within c.next-next.result.place c.in-Some.place (length c.args.left.heads.items) (sym c.in-Some.is) c.next-next.ensures.within in
     let took = c.take-head.ensures in
     let e = err_from_is_err_and c.from_residual.result c.from_residual.ensures.1 in
-    comes_stopped p.arguments.now p.source.now.lines p.rate p.keys p.start.now g.O.Write.contents asked c.args.left c.take-head.new.self explored c.in-Some.place
-    c.take-head.result is rights met took.head within took.heads took.properties c.args.output.now c.tell.new.output
+    comes_stopped p.arguments.now p.source.now.lines p.rate p.keys p.start.now g.O.Write.contents asked c.args.left c.take-head.new.self next.explored c.in-Some.place
+    c.take-head.result is says took.head within took.heads took.properties c.args.output.now c.tell.new.output
     c.args.told.is_bad c.from_residual.result _ (e.1 ∙ ap (λ why. Err why) e.2) c.in_err-is_bad-in-Some.ensures.written
 
 pub returns-in_err-written-in-Some : goal.returns-in_err-written-in-Some
 returns-in_err-written-in-Some g t c = λ asked is.
     let p = c.args.self.now in
-    let explored = c.search-explored.result in
-    let rights = subst (λ (ps : List Property). Rights p.arguments.now p.source.now.lines p.rate p.keys p.start.now ps explored) c.deref.ensures.value
-    (record { answers = c.search-explored.ensures.answers; any_speed = c.search-explored.ensures.any_speed }) in
-    let count : c.len.result ≡ length c.args.left.heads.items = omega (arith, c.args.left.heads.ok.0, c.len.ensures) in
-    let met : Some c.in-Some.place ≡ met_property explored.outcome (length c.args.left.heads.items) = rw count at c.in-Some.ensures in
-    let within = place_within c.in-Some.place (length c.args.left.heads.items) explored.outcome met in
+    let next = c.next-next.result in
+    let says = at_place p.arguments.now p.rate p.keys p.start.now asked next (c.next-next.ensures.right asked is) c.in-Some.place (sym c.in-Some.is) in
+    let within = is_within c.next-next.result.place c.in-Some.place (length c.args.left.heads.items) (sym c.in-Some.is) c.next-next.ensures.within in
     let took = c.take-head.ensures in
     let e = err_from_is_err_and c.from_residual-in_err-written-in-Some.result c.from_residual-in_err-written-in-Some.ensures.1 in
-    comes_unwritten p.arguments.now p.source.now.lines p.rate p.keys p.start.now g.O.Write.contents asked c.args.left c.take-head.new.self explored c.in-Some.place
-    c.take-head.result is rights met took.head within took.heads took.properties c.args.output.now c.tell.new.output
+    comes_unwritten p.arguments.now p.source.now.lines p.rate p.keys p.start.now g.O.Write.contents asked c.args.left c.take-head.new.self next.explored c.in-Some.place
+    c.take-head.result is says took.head within took.heads took.properties c.args.output.now c.tell.new.output
     c.in_ok-is_bad-in-Some.ensures.written c.args.told.is_bad c.from_residual-in_err-written-in-Some.result _ (e.1 ∙ ap (λ why. Err why) e.2)
     c.in_err-written-in-Some.ensures
 
 pub answer-requires : goal.answer-requires
 answer-requires g t c κs within =
-    let count : c.len.result ≡ length c.args.left.heads.items = omega (arith, c.args.left.heads.ok.0, c.len.ensures) in
-    let met : Some c.in-Some.place ≡ met_property c.search-explored.result.outcome (length c.args.left.heads.items) = rw count at c.in-Some.ensures in
-    let inside = place_within c.in-Some.place (length c.args.left.heads.items) c.search-explored.result.outcome met in
+    let inside = is_within c.next-next.result.place c.in-Some.place (length c.args.left.heads.items) (sym c.in-Some.is) c.next-next.ensures.within in
     let less : length c.take-head.new.self.heads.items < length c.args.left.heads.items =
     rw c.take-head.ensures.heads (fewer c.args.left.heads.items c.in-Some.place inside) in
-    search (rules, less)
+    let even : length c.take-head.new.self.heads.items ≡ length c.take-head.new.self.properties.items =
+    rw (c.take-head.ensures.heads, c.take-head.ensures.properties)
+    (even_after c.args.left.heads.items c.args.left.properties.items c.in-Some.place inside c.requires.even) in
+    search (rules, less, even)
 
 pub returns-in-Some : goal.returns-in-Some
 returns-in-Some g t c = λ asked is.
     let p = c.args.self.now in
-    let explored = c.search-explored.result in
-    let rights = subst (λ (ps : List Property). Rights p.arguments.now p.source.now.lines p.rate p.keys p.start.now ps explored) c.deref.ensures.value
-    (record { answers = c.search-explored.ensures.answers; any_speed = c.search-explored.ensures.any_speed }) in
-    let count : c.len.result ≡ length c.args.left.heads.items = omega (arith, c.args.left.heads.ok.0, c.len.ensures) in
-    let met : Some c.in-Some.place ≡ met_property explored.outcome (length c.args.left.heads.items) = rw count at c.in-Some.ensures in
-    let within = place_within c.in-Some.place (length c.args.left.heads.items) explored.outcome met in
+    let next = c.next-next.result in
+    let says = at_place p.arguments.now p.rate p.keys p.start.now asked next (c.next-next.ensures.right asked is) c.in-Some.place (sym c.in-Some.is) in
+    let within = is_within c.next-next.result.place c.in-Some.place (length c.args.left.heads.items) (sym c.in-Some.is) c.next-next.ensures.within in
     let took = c.take-head.ensures in
     let bad = c.in_ok-is_bad-in-Some.is_bad in
     let now : c.if-told.told ≡ (c.after-told.result.is_bad || bad) = elim c.if-told.branch [
       | then-told w ↦ w.told-is ∙ w.if-told.true ∙ sym (ap (λ b. b || bad) w.if-told.true)
       | else-told w ↦ w.told-is ∙ sym (ap (λ b. b || bad) w.if-told.false)
     ] in
-    comes_on p.arguments.now p.source.now.lines p.rate p.keys p.start.now g.O.Write.contents asked c.args.left c.take-head.new.self explored c.in-Some.place
-    c.take-head.result is rights met took.head within took.heads took.properties c.args.output.now c.tell.new.output
+    comes_on p.arguments.now p.source.now.lines p.rate p.keys p.start.now g.O.Write.contents asked c.args.left c.take-head.new.self next.explored c.in-Some.place
+    c.take-head.result is says took.head within took.heads took.properties c.args.output.now c.tell.new.output
     c.in_ok-is_bad-in-Some.ensures.written c.answer.new.output c.args.told.is_bad c.if-told.told bad c.answer.result c.in_ok-is_bad-in-Some.ensures.bad
     (now ∙ ap (λ b. b || bad) c.after-told.ensures)
     (c.answer.ensures (remove asked c.in-Some.place)
-    (others_left p.arguments.now p.source.now.lines p.rate p.keys p.start.now g.O.Write.contents asked c.args.left c.take-head.new.self explored c.in-Some.place
-    c.take-head.result is rights met took.head within took.heads took.properties))
+    (others_left p.arguments.now p.source.now.lines p.rate p.keys p.start.now g.O.Write.contents asked c.args.left c.take-head.new.self next.explored c.in-Some.place
+    c.take-head.result is says took.head within took.heads took.properties))
 
 pub returns-in_err-is_bad-in-None : goal.returns-in_err-is_bad-in-None
 returns-in_err-is_bad-in-None g t c = λ asked is.
     let p = c.args.self.now in
-    let explored = c.search-explored.result in
-    let rights = subst (λ (ps : List Property). Rights p.arguments.now p.source.now.lines p.rate p.keys p.start.now ps explored) c.deref.ensures.value
-    (record { answers = c.search-explored.ensures.answers; any_speed = c.search-explored.ensures.any_speed }) in
-    let count : c.len.result ≡ length c.args.left.heads.items = omega (arith, c.args.left.heads.ok.0, c.len.ensures) in
-    let same : length c.deref.result.now ≡ c.len.result = ap length c.deref.ensures.value ∙ same_count asked c.args.left is ∙ sym count in
-    let unmet = c.search-explored.ensures.met (ap (λ (n : ℕ). met_property explored.outcome n) same ∙ sym c.in-None.ensures) in
+    let next = c.next-next.result in
+    let each = at_each p.arguments.now p.rate p.keys p.start.now asked next (c.next-next.ensures.right asked is) (sym c.in-None.is) in
     let e = err_from_is_err_and c.from_residual-in_err-is_bad-in-None.result c.from_residual-in_err-is_bad-in-None.ensures.1 in
     comes_all_stopped p.arguments.now p.source.now.lines p.rate p.keys p.start.now g.O.Write.contents c.args.output.now c.tell-in-None.new.output asked
-    c.args.left.properties.items c.deref-in-None.result.now explored c.args.told c.after-told.result is.properties (c.deref-in-None.ensures.value ∙ is.heads) rights unmet
+    c.deref.result.now next.explored c.args.told c.after-told.result (c.deref.ensures.value ∙ is.heads) each
     c.from_residual-in_err-is_bad-in-None.result _ (e.1 ∙ ap (λ why. Err why) e.2) c.in_err-is_bad-in-None.ensures.written
 
 pub returns : goal.returns
 returns g t c = λ asked is.
     let p = c.args.self.now in
-    let explored = c.search-explored.result in
-    let rights = subst (λ (ps : List Property). Rights p.arguments.now p.source.now.lines p.rate p.keys p.start.now ps explored) c.deref.ensures.value
-    (record { answers = c.search-explored.ensures.answers; any_speed = c.search-explored.ensures.any_speed }) in
-    let count : c.len.result ≡ length c.args.left.heads.items = omega (arith, c.args.left.heads.ok.0, c.len.ensures) in
-    let same : length c.deref.result.now ≡ c.len.result = ap length c.deref.ensures.value ∙ same_count asked c.args.left is ∙ sym count in
-    let unmet = c.search-explored.ensures.met (ap (λ (n : ℕ). met_property explored.outcome n) same ∙ sym c.in-None.ensures) in
+    let next = c.next-next.result in
+    let each = at_each p.arguments.now p.rate p.keys p.start.now asked next (c.next-next.ensures.right asked is) (sym c.in-None.is) in
     let bad = c.in_ok-is_bad-in-None.is_bad in
     let now : c.if-told-2.result ≡ (c.after-told.result.is_bad || bad) = elim c.if-told-2.branch [
       | then-told-2 w ↦ w.result-is ∙ w.if-told-2.true ∙ sym (ap (λ b. b || bad) w.if-told-2.true)
       | else-told-2 w ↦ w.result-is ∙ sym (ap (λ b. b || bad) w.if-told-2.false)
     ] in
     comes_all p.arguments.now p.source.now.lines p.rate p.keys p.start.now g.O.Write.contents c.args.output.now c.tell-in-None.new.output asked
-    c.args.left.properties.items c.deref-in-None.result.now explored c.args.told _ is.properties (c.deref-in-None.ensures.value ∙ is.heads) rights unmet
+    c.deref.result.now next.explored c.args.told _ (c.deref.ensures.value ∙ is.heads) each
     bad c.in_ok-is_bad-in-None.ensures.bad c.in_ok-is_bad-in-None.ensures.written (now ∙ ap (λ b. b || bad) c.after-told.ensures)
