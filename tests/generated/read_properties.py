@@ -198,7 +198,7 @@ class Reading:
                 raise Refused
         elif self.take("HERE"):
             place = "here"
-        if self.next() != (None, None) or kind == "CAN" or not comparisons and (place is None or kind == "ALWAYS"):
+        if self.next() != (None, None) or not comparisons and (place is None or kind == "ALWAYS"):
             raise Refused
         wanted = "false" if kind == "ALWAYS" else "true"
         shown = [kind.lower(), wanted, "any" if joint == "OR" else "all", *comparisons]
@@ -236,7 +236,7 @@ def some_line(choose):
     text = joint.join(parts)
     if choose.random() < 0.05:
         text += choose.choice([" and V1 = 1", " or V1 = 1", " < 3", " and", ")", " ("])
-    text = f"{choose.choice(['', '', 'always', 'never', 'Ever', 'can' if choose.random() < 0.2 else ''])} {text}"
+    text = f"{choose.choice(['', '', 'always', 'never', 'Ever', 'can'])} {text}"
     return text + choose.choice(["", "", "", " here", " at LIVES", " AT 520", " at (LIVES + 2)", " at LIVES + 2" if choose.random() < 0.2 else "", " at", " at AT" if choose.random() < 0.2 else ""])
 
 

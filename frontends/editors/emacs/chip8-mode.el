@@ -61,7 +61,7 @@ A property list of :profile, :rate, :tape, :seed, :every, :program."
       ("#[0-9A-F]+\\|@[0-7]+\\|\\$[01.]+\\|\\_<[0-9]+\\_>" . font-lock-constant-face)
       ;; properties, which other assemblers take for comments
       ("^[ \t]*;!.*$" 0 font-lock-doc-face t)
-      ("\\_<\\(?:always\\|never\\|ever\\|here\\|at\\|and\\|or\\)\\_>"
+      ("\\_<\\(?:always\\|never\\|ever\\|can\\|here\\|at\\|and\\|or\\)\\_>"
        (0 (when (save-excursion (beginning-of-line) (looking-at "[ \t]*;!")) 'font-lock-keyword-face) t)))))
 
 (defun chip8-indent-line ()

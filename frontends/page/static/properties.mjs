@@ -26,7 +26,8 @@ export function readProved(output) {
 }
 
 /** Whether an answer is what the author doesn't want. */
-export const isBad = ({ answer }) => answer === 'broken' || answer.startsWith('never reached') || answer === 'not reached';
+export const isBad = ({ answer }) =>
+  answer === 'broken' || answer === 'dead end' || answer.startsWith('never reached') || answer === 'not reached';
 
 /** An answer as a sentence. */
 export function answerText({ answer, step, covered }, grouped) {

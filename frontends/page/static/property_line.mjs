@@ -3,7 +3,7 @@
 
 import { readNumber } from './numbers.mjs';
 
-const KINDS = ['always', 'never', 'ever'];
+const KINDS = ['always', 'never', 'ever', 'can'];
 const OTHERS = ['here', 'at', 'and', 'or'];
 const ITEMS = new Map([
   ['I', 'the address register'],
@@ -18,6 +18,7 @@ const ABOUT = new Map([
   ['always', 'holds before each step'],
   ['never', 'holds before no step'],
   ['ever', 'some player comes there'],
+  ['can', 'from everywhere some way of playing leads there'],
   ['here', 'where pc is at the next statement'],
   ['at', 'at NAME: where pc is there'],
   ['and', 'all comparisons hold'],

@@ -445,6 +445,9 @@ test('properties: what `prove --json` prints', () => {
     '{"line":5,"property":"V0 <= 63 here","answer":"never broken","file":"game.asm"}',
     '{"line":6,"property":"never VF = 1 at ADDED","answer":"unbroken","covered":16291,"file":"game.asm"}',
     '{"line":7,"property":"ever at OVER","answer":"not reached","covered":9,"file":"game.asm"}',
+    '{"line":8,"property":"can at WIN","answer":"dead end","step":18,"keys":[{"step":2,"key":4,"down":true}],"file":"game.asm"}',
+    '{"line":9,"property":"can at OVER","answer":"always","file":"game.asm"}',
+    '{"line":10,"property":"can V1 = 0","answer":"undecided","covered":40,"file":"game.asm"}',
     '{"states":30065,"file":"game.asm"}',
   ];
   const { answers, faults, ending } = readProved(lines.map((line) => `${line}\n`).join(''));
@@ -452,7 +455,15 @@ test('properties: what `prove --json` prints', () => {
   assert.equal(ending.states, 30065);
   assert.equal(scriptOf(answers.get(4)), '20 5 down\n31 5 up\n');
   const texts = [...answers.values()].map((answer) => [answerText(answer, String), isBad(answer)]);
-  assert.deepEqual(texts, [['broken at step 3384', true], ['never broken', false], ['unbroken up to step 16291', false], ['not reached up to step 9', true]]);
+  assert.deepEqual(texts, [
+    ['broken at step 3384', true],
+    ['never broken', false],
+    ['unbroken up to step 16291', false],
+    ['not reached up to step 9', true],
+    ['dead end at step 18', true],
+    ['always', false],
+    ['undecided up to step 40', false],
+  ]);
   assert.equal(answerText({ answer: 'broken', step: 5000, covered: 300 }, String), 'broken at step 5000; no keys do so up to step 300');
   // as far as it has come, without the line that isn't whole
   assert.equal(readProved(`${lines[1]}\n{"line":5`).answers.size, 1);

@@ -20,6 +20,7 @@ WORDS = {
     "always": "the condition holds before each step, at its place",
     "never": "the condition holds before no step, at its place",
     "ever": "some player comes to a step before which the condition holds, at its place",
+    "can": "from everywhere that a player comes to, some way of playing on leads to the condition, at its place",
     "here": "the place: the address of the next statement",
     "at": "the place: the value of a name or a number",
     "and": "all comparisons hold",
