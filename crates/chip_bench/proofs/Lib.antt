@@ -10,5 +10,4 @@ pub mod NextLemmas
 pub mod ProvingLemmas
 pub mod ProveLemmas
 pub mod SearchedLemmas
-pub mod AnswerLemmas
 pub mod PropertiesLemmas

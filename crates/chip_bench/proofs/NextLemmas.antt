@@ -23,7 +23,8 @@ use Rattle.chip_machine.specs.State.{State}
 use Rattle.chip_properties.specs.declared.stated.Kind.{Kind}
 use Rattle.chip_properties.specs.declared.stated.Kind.TheVariants as kind
 use Rattle.chip_properties.specs.declared.stated.Stated.{Stated}
-use Rattle.chip_bench.specs.Proving.{AnswersKind, IsForeseen, IsRight, answer_object, is_bad, looks_for}
+use Rattle.chip_bench.specs.Proving.{AnswersKind, IsForeseen, IsRight, looks_for}
+use Rattle.chip_check.specs.Answer.{answer_object, is_bad}
 use Rattle.chip_bench.specs.declared.proving.Head.{Head}
 use Rattle.chip_bench.specs.declared.proving.Left.{Left}
 use Rattle.chip_bench.specs.declared.proving.Next.{Next}

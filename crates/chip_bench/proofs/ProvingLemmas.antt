@@ -20,7 +20,8 @@ use Rattle.chip_session.specs.Tally.{Tally}
 use Rattle.chip_session.specs.Writing.{Breaks, Writes}
 use Rattle.chip_bench.specs.Doing.{IsScriptUnwritten, Outcome, ProvesFrom, StreamsUpTo}
 use Rattle.chip_bench.specs.Printing.{Printed, Prints, Streams, WritesFront, printed}
-use Rattle.chip_bench.specs.Proving.{Answered, AreAnswered, IsProofPrinted, IsRight, has_bad, is_bad, is_missing, printed_answer, proof_ending}
+use Rattle.chip_bench.specs.Proving.{Answered, AreAnswered, IsProofPrinted, IsRight, has_bad, is_missing, printed_answer, proof_ending}
+use Rattle.chip_check.specs.Answer.{is_bad}
 use Rattle.chip_bench.specs.declared.ending.Ending.{Ending}
 use Rattle.chip_bench.specs.declared.ending.Ending.TheVariants.{Done}
 use Rattle.chip_bench.specs.declared.ending.Failure.{Failure}

@@ -1,10 +1,4 @@
 -- What `prove` prints of the properties that a source states (own).
---     met_words, unmet_words, never_words   what is said of a property that a script breaks, of an
---                        `ever` that one reaches, or of a `can` of which one leads to a dead end; of one
---                        that none does up to a step; of one that none ever does
---     answer_words       what was found, in words
---     answer_line, answer_object, answer_text    the line of an answer, or its JSON object
---     is_bad             whether a property is broken, an `ever` isn't reached, or a `can` has a dead end
 --     is_asked, asked_of, has_faults, is_missing    which properties of a source are asked for, whether
 --                        one of them can't be read, and whether there is none in the line that is named
 --     text_at            the text of the property of a line
@@ -13,13 +7,12 @@
 --     Answered, IsRight  a property with an answer; that the answer holds
 --     proof_ending       how the program ends after the answers
 --     IsProofPrinted     what is printed of properties that are answered
-use Rattle.std.specs.Prelude.{◌≡◌, ℕ, ◌==◌, ◌||◌, Bool, true, false, List, [], ◌∷◌, ◌++◌, codes, filter, map, Option, Some, None, unwrap_or, if◌then◌else◌}
-use Rattle.std.specs.Fmt.{decimal}
+use Rattle.std.specs.Prelude.{◌≡◌, ℕ, ◌==◌, ◌||◌, Bool, true, false, List, [], ◌∷◌, ◌++◌, filter, map, Option, Some, None, unwrap_or, if◌then◌else◌}
 use Rattle.std.specs.List.{All, flat_map, list_any}
 use Rattle.std.specs.List.Sorted.{IsPermutation}
 use Rattle.chip_arguments.specs.declared.command_line.ProveArguments.{ProveArguments}
 use Rattle.chip_asm.specs.LineViews.{LineFacts, line_at}
-use Rattle.chip_check.specs.Json.{quoted}
+use Rattle.chip_check.specs.Answer.{answer_text, is_bad}
 use Rattle.chip_explore.specs.Answers.{Answers}
 use Rattle.chip_explore.specs.Prospects.{Foresees, outcome_of}
 use Rattle.chip_explore.specs.Speeds.{NeverAtAnySpeed}
@@ -33,111 +26,9 @@ use Rattle.chip_properties.specs.declared.stated.Stated.{Stated}
 use Rattle.chip_bench.specs.Printing.{Printed}
 use Rattle.chip_bench.specs.declared.ending.Ending.{Ending}
 use Rattle.chip_bench.specs.declared.ending.Ending.TheVariants.{Done, Faulty, Short}
-use Rattle.chip_explore.specs.declared.script.KeyEvent.{KeyEvent}
 use Rattle.chip_explore.specs.declared.question.Outcome.{Outcome}
-use Rattle.chip_explore.specs.declared.question.Outcome.TheVariants.{Found, Later, Within, Never}
 use Rattle.chip_properties.specs.declared.stated.Kind.{Kind}
 use Rattle.chip_properties.specs.declared.stated.Kind.TheVariants as kind
-
-abbrev pub met_words : Kind → List ℕ
-met_words kind.Ever = codes "reached"
-met_words kind.Can = codes "dead end"
-met_words other = codes "broken"
-
-abbrev pub unmet_words : Kind → List ℕ
-unmet_words kind.Ever = codes "not reached"
-unmet_words kind.Can = codes "undecided"
-unmet_words other = codes "unbroken"
-
-abbrev pub never_words : Kind → (is_at_any_speed : Bool) → List ℕ
-never_words kind.Can is_at_any_speed = codes "always"
-never_words kind is_at_any_speed =
-    codes "never " ++ met_words kind ++ (if is_at_any_speed then codes " at any speed" else [])
-
--- broken, reached, or a dead end, at a step
-abbrev pub met_at : Kind → ℕ → List ℕ
-met_at kind step = met_words kind ++ codes " at step " ++ decimal step
-
--- neither at a step up to one
-abbrev pub unmet_up_to : Kind → ℕ → List ℕ
-unmet_up_to kind step = unmet_words kind ++ codes " up to step " ++ decimal step
-
--- what was found at the rate
-abbrev pub words_at_rate : Kind → Outcome → List ℕ
-words_at_rate kind (Found events step met) = met_at kind step
-words_at_rate kind (Later events step met covered) =
-    met_at kind step ++ codes ", " ++ unmet_up_to kind covered
-words_at_rate kind (Within step) = unmet_up_to kind step
-words_at_rate kind Never = never_words kind false
-
--- the same, where it may be so whenever the timers tick
-abbrev pub answer_words : Kind → (is_at_any_speed : Bool) → Outcome → List ℕ
-answer_words kind is_at_any_speed outcome =
-    if is_at_any_speed then never_words kind true else words_at_rate kind outcome
-
--- the words without their steps
-abbrev pub word_at_rate : Kind → Outcome → List ℕ
-word_at_rate kind (Found events step met) = met_words kind
-word_at_rate kind (Later events step met covered) = met_words kind
-word_at_rate kind (Within step) = unmet_words kind
-word_at_rate kind Never = never_words kind false
-
-abbrev pub answer_word : Kind → (is_at_any_speed : Bool) → Outcome → List ℕ
-answer_word kind is_at_any_speed outcome =
-    if is_at_any_speed then never_words kind true else word_at_rate kind outcome
-
-abbrev pub key_event : KeyEvent → List ℕ
-key_event event =
-    codes "{\"step\":" ++ decimal event.step ++ codes ",\"key\":" ++ decimal event.key
-    ++ codes ",\"down\":" ++ (if event.down then codes "true" else codes "false") ++ codes "}"
-
-abbrev pub further_event : KeyEvent → List ℕ
-further_event event = codes "," ++ key_event event
-
--- events with a comma between each two
-abbrev pub with_commas : List KeyEvent → List ℕ
-with_commas [] = []
-with_commas (event ∷ events) = key_event event ++ flat_map further_event events
-
-abbrev pub key_events : List KeyEvent → List ℕ
-key_events events = codes ",\"keys\":[" ++ with_commas events ++ codes "]"
-
--- the steps and the key events, as members of an object
-abbrev pub answer_members : Outcome → List ℕ
-answer_members (Found events step met) =
-    codes ",\"step\":" ++ decimal step ++ key_events events.items
-answer_members (Later events step met covered) =
-    codes ",\"step\":" ++ decimal step ++ codes ",\"covered\":" ++ decimal covered
-    ++ key_events events.items
-answer_members (Within step) = codes ",\"covered\":" ++ decimal step
-answer_members Never = []
-
--- the name of the source, the property's line, what was found, and the property
-abbrev pub answer_line : (name : List ℕ) (line : ℕ) (text words : List ℕ) → List ℕ
-answer_line name line text words =
-    name ++ codes ":" ++ decimal line ++ codes ": " ++ words ++ codes ": " ++ text ++ codes "\n"
-
-unfoldable pub answer_object : (name : List ℕ) (line : ℕ) (text : List ℕ) → Kind
-    → (is_at_any_speed : Bool) → Outcome → List ℕ
-answer_object name line text kind is_at_any_speed outcome =
-    codes "{\"line\":" ++ decimal line ++ codes ",\"property\":" ++ quoted text
-    ++ codes ",\"answer\":\"" ++ answer_word kind is_at_any_speed outcome ++ codes "\""
-    ++ answer_members outcome ++ codes ",\"file\":" ++ quoted name ++ codes "}\n"
-
-abbrev pub answer_text : (is_json : Bool) (name : List ℕ) (line : ℕ) (text : List ℕ) → Kind
-    → (is_at_any_speed : Bool) → Outcome → List ℕ
-answer_text is_json name line text kind is_at_any_speed outcome =
-    if is_json then answer_object name line text kind is_at_any_speed outcome
-    else answer_line name line text (answer_words kind is_at_any_speed outcome)
-
--- a property that is broken, an `ever` that isn't reached, or a `can` with a dead end
-abbrev pub is_bad : Kind → Outcome → Bool
-is_bad kind.Ever (Found events step met) = false
-is_bad kind.Ever (Later events step met covered) = false
-is_bad kind.Ever outcome = true
-is_bad kind (Found events step met) = true
-is_bad kind (Later events step met covered) = true
-is_bad kind outcome = false
 
 -- the property of a line is asked for: of each one, unless a line is named
 abbrev pub is_asked : (only : Option ℕ) → (line : ℕ) → Bool

@@ -1,7 +1,6 @@
 //! The program over a session: what each command reads and prints, and how the program ends.
 #![tactic(auto)]
 
-mod answer;
 mod case_report;
 mod case_run;
 mod case_setup;

@@ -1,5 +1,5 @@
 //! `prove`: what searches over all key scripts answer of the properties that a source states.
-ghost use Rattle.std.specs.Prelude.{◌≡◌, ◌⊎◌, ◌<◌, ◌||◌, ◌∷◌, [], ℕ, List, Ok, Some, None, true, IfOk, IfErr, IfSome, MatchOption, OnOk, ◌++◌, filter, length, slice_get, option_copied, false, position, ◌==◌, ◌+◌};
+ghost use Rattle.std.specs.Prelude.{◌≡◌, ◌⊎◌, ◌<◌, ◌||◌, [], ℕ, List, Ok, Some, None, true, IfOk, IfErr, IfSome, OnOk, ◌++◌, filter, length, slice_get, false, position, ◌==◌, ◌+◌};
 ghost use Rattle.std.specs.List.{flat_map, list_any, remove};
 ghost use Rattle.chip_explore.specs.Answers.{Answers};
 ghost use Rattle.chip_explore.specs.OneOf.{told_of};
@@ -9,10 +9,10 @@ ghost use Rattle.chip_properties.specs.Properties.{AreProperties};
 ghost use Rattle.chip_properties.specs.declared.properties.Properties.{Properties};
 ghost use Rattle.chip_properties.specs.declared.stated.Stated.{Stated};
 ghost use Rattle.chip_bench.specs.Doing.{Fails, IsScriptUnwritten, IsShort, IsUnwritten, Proves, ProvesBy, ProvesFrom, ProvesWith, image_in};
-ghost use Rattle.chip_bench.specs.Proving.{IsForeseen, asked_of, has_faults, is_asked, is_bad, looks_for, proof_ending, text_at};
+ghost use Rattle.chip_bench.specs.Proving.{IsForeseen, has_faults, is_asked, looks_for, proof_ending, text_at};
+ghost use Rattle.chip_check.specs.Answer.{is_bad};
 ghost use Rattle.chip_bench.specs.inner.Proofs.{IsAnswering, IsLeft, IsNext, IsUnmet, is_can, WritesAll, met_property, missing_line, printed_head};
 
-use crate::answer::{Finding, Place, is_bad};
 use crate::checking::Checker;
 use crate::ending::{Ending, Failure};
 use crate::exploring::{bounds_of, machine_of, script_text};
@@ -24,7 +24,7 @@ use crate::sets::keys_of;
 use crate::system::System;
 use chip_arguments::ProveArguments;
 use chip_asm::Source;
-use chip_check::{push_property_fault, push_quoted};
+use chip_check::{PropertyAnswer, PropertyPlace, is_bad, push_property_fault, push_quoted};
 use chip_explore::laws::one_of_several;
 use chip_explore::{
     Causes, Explored, Met, Outcome, Property, Pursuit, Question, Target, Ticks, explore, foresee,
@@ -495,12 +495,12 @@ impl<'p, 'a, F: FileAccess> Prover<'p, 'a, F> {
             ++ printed_head self.now.arguments.now self.now.source.now.lines explored.now head) }
     {
         let arguments = self.arguments;
-        let answer = Finding {
+        let answer = PropertyAnswer {
             kind: head.kind,
             outcome: &explored.outcome,
             is_at_any_speed: arguments.search.is_any_speed && explored.is_at_any_speed,
         };
-        let place = Place {
+        let place = PropertyPlace {
             name: arguments.search.source.as_bytes(),
             line: head.line,
             text: self.text_at(head.line),

@@ -1,3 +1,4 @@
+pub mod AnswerPieces
 pub mod LinesLeft
 pub mod KnownNames
 pub mod OperandSpans

@@ -1,9 +1,11 @@
--- What is printed of faulty lines (own).
+-- What is printed of faulty lines, and of properties (own).
+--     Answer    the answer to a property
 --     Check     the faults of a source as compilers print them
 --     Json      the same as JSON
 --     Place     the place of a fault in a source
 --     Quoted    the line of a finding, as it is quoted
 --     inner     which of the two is printed; no public clause cites it, and a reader may skip it
+pub mod Answer
 pub mod Check
 pub mod Json
 pub mod Place

@@ -1,8 +1,9 @@
 //! The faults of a source, and its warnings, as compilers print them (place, sentence, the line, and
-//! help) and as JSON.
+//! help) and as JSON; the answers to its properties.
 #![tactic(auto)]
 
 mod advice;
+mod answer;
 mod check;
 mod finding;
 mod forms;
@@ -19,6 +20,7 @@ mod quoted;
 mod report;
 mod words;
 
+pub use answer::{PropertyAnswer, PropertyPlace, is_bad};
 pub use check::{check_json, check_text, unopened_json};
 pub use json::push_quoted;
 pub use property::push_property_fault;

@@ -25,7 +25,8 @@ use Rattle.chip_session.specs.Tally.{Tally}
 use Rattle.chip_session.specs.Writing.{Breaks, Writes}
 use Rattle.chip_bench.specs.Doing.{IsScriptUnwritten}
 use Rattle.chip_bench.specs.Printing.{WritesFront}
-use Rattle.chip_bench.specs.Proving.{Answered, AreAnswered, IsRight, answer_text, has_bad, is_bad, printed_answer, text_at}
+use Rattle.chip_bench.specs.Proving.{Answered, AreAnswered, IsRight, has_bad, printed_answer, text_at}
+use Rattle.chip_check.specs.Answer.{answer_text, is_bad}
 use Rattle.chip_bench.specs.declared.ending.Failure.{Failure}
 use Rattle.chip_bench.specs.declared.ending.Failure.TheVariants as failure
 use Rattle.chip_bench.specs.declared.proving.Head.{Head}

@@ -1,7 +1,7 @@
 use Rattle.std.proofs.Common.{ap}
-use Rattle.chip_bench.specs.Proving.{answer_members}
-use Rattle.chip_bench.proofs.AnswerLemmas.{one_member}
-use Rattle.chip_bench.proofs.answer.push_members.Goals as goal
+use Rattle.chip_check.specs.Answer.{answer_members}
+use Rattle.chip_check.proofs.AnswerPieces.{one_member}
+use Rattle.chip_check.proofs.answer.push_members.Goals as goal
 
 pub returns-in-Within : goal.returns-in-Within
 returns-in-Within c =

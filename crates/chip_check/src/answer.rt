@@ -1,10 +1,10 @@
-//! What `prove` prints of a property that is answered.
+//! The answer to a property, as it is printed.
 ghost use Rattle.std.specs.Prelude.{◌≡◌, ◌++◌, OnOk};
 ghost use Rattle.std.specs.Fmt.{decimal};
 ghost use Rattle.std.specs.List.{flat_map};
-ghost use Rattle.chip_bench.specs.Proving.{answer_line, answer_members, answer_object, answer_text, answer_word, answer_words, further_event, is_bad, key_event, key_events, met_at, met_words, never_words, unmet_up_to, unmet_words};
+ghost use Rattle.chip_check.specs.Answer.{answer_line, answer_members, answer_object, answer_text, answer_word, answer_words, further_event, is_bad, key_event, key_events, met_at, met_words, never_words, unmet_up_to, unmet_words};
 
-use chip_check::push_quoted;
+use crate::json::push_quoted;
 use chip_explore::{KeyEvent, Outcome};
 use chip_properties::Kind;
 use chip_trace::push_decimal;
@@ -12,29 +12,33 @@ use std::alloc::{AllocError, Global};
 
 /// What a search says of a property of this kind.
 #[derive(Clone, Copy)]
-pub(crate) struct Finding<'a> {
-    pub(crate) kind: Kind,
-    pub(crate) outcome: &'a Outcome,
+pub struct PropertyAnswer<'a> {
+    pub kind: Kind,
+    pub outcome: &'a Outcome,
     /// It says so whenever the timers tick, and that is asked for.
-    pub(crate) is_at_any_speed: bool,
+    pub is_at_any_speed: bool,
 }
 
 /// Where a property stands: the name of the source, its line's number, and its text.
 #[derive(Clone, Copy)]
-pub(crate) struct Place<'a> {
-    pub(crate) name: &'a [u8],
-    pub(crate) line: usize,
-    pub(crate) text: &'a [u8],
+pub struct PropertyPlace<'a> {
+    pub name: &'a [u8],
+    pub line: usize,
+    pub text: &'a [u8],
 }
 
-impl Finding<'_> {
+impl PropertyAnswer<'_> {
     /// Adds what is printed of the answer: a line, or a JSON object.
-    pub(crate) fn push(
+    ///
+    /// # Errors
+    ///
+    /// Out of memory.
+    pub fn push(
         &self,
         alloc: Global,
         text: &mut Vec<u8>,
         is_json: bool,
-        place: &Place<'_>,
+        place: &PropertyPlace<'_>,
     ) -> Result<(), AllocError>
         ensures { OnOk result (text.new.items ≡ text.old.items ++ answer_text is_json
             place.now.name.now place.now.line place.now.text.now self.now.kind
@@ -47,7 +51,7 @@ impl Finding<'_> {
         }
     }
 
-    fn push_line(&self, text: &mut Vec<u8>, place: &Place<'_>) -> Result<(), AllocError>
+    fn push_line(&self, text: &mut Vec<u8>, place: &PropertyPlace<'_>) -> Result<(), AllocError>
         ensures { OnOk result (text.new.items ≡ text.old.items ++ answer_line place.now.name.now
             place.now.line place.now.text.now
             (answer_words self.now.kind self.now.is_at_any_speed self.now.outcome.now)) }
@@ -66,7 +70,7 @@ impl Finding<'_> {
         &self,
         alloc: Global,
         text: &mut Vec<u8>,
-        place: &Place<'_>,
+        place: &PropertyPlace<'_>,
     ) -> Result<(), AllocError>
         ensures { OnOk result (text.new.items ≡ text.old.items ++ answer_object place.now.name.now
             place.now.line place.now.text.now self.now.kind self.now.is_at_any_speed
@@ -124,7 +128,7 @@ impl Finding<'_> {
 }
 
 /// Whether a property is broken, an `ever` isn't reached, or a `can` has a dead end.
-pub(crate) fn is_bad(kind: Kind, outcome: &Outcome) -> bool
+pub fn is_bad(kind: Kind, outcome: &Outcome) -> bool
     ensures { result ≡ is_bad kind outcome.now }
 {
     match (kind, outcome) {

@@ -1,7 +1,7 @@
 use Rattle.chip_check.proofs.Pieces.{no_more, one_more}
-use Rattle.chip_bench.specs.Proving.{further_event}
-use Rattle.chip_bench.proofs.AnswerLemmas.{then_piece}
-use Rattle.chip_bench.proofs.answer.push_further_events.Goals as goal
+use Rattle.chip_check.specs.Answer.{further_event}
+use Rattle.chip_check.proofs.AnswerPieces.{then_piece}
+use Rattle.chip_check.proofs.answer.push_further_events.Goals as goal
 
 pub loop-event-preserved : goal.loop-event-preserved
 loop-event-preserved c =

@@ -2,7 +2,7 @@
 use Rattle.std.proofs.Common.{◌≡◌, ℕ, List, ◌++◌, append_assoc, Result, Ok, Err, sym, ◌∙◌, ap}
 use Rattle.std.specs.Prelude.{OnOk, is_ok, if◌then◌else◌}
 use Rattle.chip_explore.specs.declared.question.Outcome.{Outcome}
-use Rattle.chip_bench.specs.Proving.{answer_members}
+use Rattle.chip_check.specs.Answer.{answer_members}
 
 -- another piece
 pub then_piece : (old x y z w : List ℕ) → z ≡ old ++ x → w ≡ z ++ y → w ≡ old ++ (x ++ y)

@@ -2,9 +2,9 @@ use Rattle.std.proofs.Common.{◌++◌}
 use Rattle.std.specs.Prelude.{codes}
 use Rattle.std.specs.Fmt.{decimal}
 use Rattle.chip_check.specs.Json.{quoted}
-use Rattle.chip_bench.specs.Proving.{answer_members, answer_object, answer_word}
-use Rattle.chip_bench.proofs.AnswerLemmas.{last_piece, then_piece}
-use Rattle.chip_bench.proofs.answer.Finding.push_object.Goals as goal
+use Rattle.chip_check.specs.Answer.{answer_members, answer_object, answer_word}
+use Rattle.chip_check.proofs.AnswerPieces.{last_piece, then_piece}
+use Rattle.chip_check.proofs.answer.PropertyAnswer.push_object.Goals as goal
 
 pub returns : goal.returns
 unfolding answer_object
