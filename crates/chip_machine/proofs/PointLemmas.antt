@@ -211,10 +211,6 @@ any_below_longer test n (suc m) h none = ⊎_elim
     or_false true = refl
     or_false false = refl
 
-pub any_below_start : (test : ℕ → Bool) → any_below test 0 ≡ false
-unfolding any_below
-any_below_start test = refl
-
 -- ---- scrolls
 
 pub scrolled_down_where : (n : ℕ) (f g : ℕ → ℕ → Bool) → ((c r : ℕ) → c < 128 → r < 64 → f c r ≡ (nat_le n r && g c (r - n))) → points_where f ≡ scrolled_down n (points_where g)

@@ -92,10 +92,6 @@ pub line_of : (high : Bool) (line row : ℕ) → scale high * line ≤ row → r
 line_of true line row low up = omega arith
 line_of false line row low up = omega arith
 
-pub line_below : (high : Bool) (line end : ℕ) → line < end → scale high * end ≤ 64 → scale high * line + scale high ≤ 64
-line_below true line end h on_screen = omega arith
-line_below false line end h on_screen = omega arith
-
 pub scale_step : (high : Bool) (line : ℕ) → scale high * (line + 1) ≡ scale high * line + scale high
 scale_step true line = omega arith
 scale_step false line = omega arith

@@ -1,5 +1,5 @@
 -- Tokens that end with a sign, and bytes without the blanks at their end.
-use Rattle.std.proofs.Common.{◌≡◌, ℕ, suc, ◌+◌, Bool, true, false, if◌then◌else◌, List, [], ◌∷◌, ◌++◌, length, drop, reverse, Some, None, refl, sym, ◌∙◌, ap, arith}
+use Rattle.std.proofs.Common.{◌≡◌, ℕ, suc, ◌+◌, Bool, true, false, if◌then◌else◌, List, [], ◌∷◌, ◌++◌, drop, reverse, Some, None, refl, sym, ◌∙◌, ap, arith}
 use Rattle.std.specs.Prelude.{option_map}
 use Rattle.std.specs.List.{prefix_len}
 use Rattle.std.proofs.lemmas.List.{reverse-append, reverse-reverse}
@@ -31,15 +31,6 @@ pub enclosed_by : (begin end : ℕ) (first : Lexeme) (inside : List Lexeme) (las
     → ts ≡ first ∷ rest → rest ≡ inside ++ last ∷ [] → is_sign_of begin first ≡ a → is_sign_of end last ≡ b
     → enclosed begin end ts ≡ (if a then (if b then Some inside else None) else None)
 enclosed_by begin end first inside last ts rest a b e h p q = rw (e, h, ended_by end inside last, p, q) refl
-
-pub enclosed_one : (begin end : ℕ) (first : Lexeme) (ts rest : List Lexeme)
-    → ts ≡ first ∷ rest → length rest ≡ 0 → enclosed begin end ts ≡ None
-enclosed_one begin end first ts [] e h = rw e (same (is_sign_of begin first))
-  where
-    same : (b : Bool) → (if b then ended end [] else None) ≡ None
-    same true = refl
-    same false = refl
-enclosed_one begin end first ts (u ∷ rest) e h = absurd (omega arith)
 
 one_more : (n : ℕ) → 1 + n ≡ suc n
 one_more n = omega arith

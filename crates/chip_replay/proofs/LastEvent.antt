@@ -66,10 +66,6 @@ key_within key from step m low high =
       | Greater ↦ λ p h. absurd (false≢true (sym h))
     ] refl low
 
-from_within : (key from : ℕ) (m : Moment) → m.key ≡ key → is_gt (moment_cmp (moment key from) m) ≡ false → from ≤ m.step
-from_within key from m e low =
-    not_after from m.step (ap (λ r. is_gt (ordering_then r (nat_cmp from m.step))) (nat_cmp_is key m.key Equal (sym e)) ∙ low)
-
 step_within : (key step : ℕ) (m : Moment) → m.key ≡ key → is_gt (moment_cmp m (moment key step)) ≡ false → m.step ≤ step
 step_within key step m e high =
     not_after m.step step (ap (λ r. is_gt (ordering_then r (nat_cmp m.step step))) (nat_cmp_is m.key key Equal e) ∙ high)

@@ -3,7 +3,7 @@ use Rattle.std.proofs.Common.{◌≡◌, ℕ, suc, ◌+◌, ◌-◌, ◌<◌, �
 use Rattle.std.specs.List.{flat_map, insert, remove}
 use Rattle.std.proofs.lemmas.Bool.{cases_lt}
 use Rattle.std.proofs.lemmas.List.{places, same_lists, get_or_default, nil_from_length, drop_all, take-append-drop, take-set, drop-set-lt, take_all, take_more, append_assoc, append-nil, set-append_left, set-append_right}
-use Rattle.std.proofs.lemmas.List.Edits.{length-remove, get_or-insert_below, get_or-insert_at, length-insert, insert-append_left, insert-append_right, remove-append_left, remove-append_right}
+use Rattle.std.proofs.lemmas.List.Edits.{length-remove, get_or-insert_below, length-insert, insert-append_left, insert-append_right, remove-append_left, remove-append_right}
 use Rattle.std.proofs.lemmas.List.Concat.{flat_map-append, get_or-flat_map}
 use Rattle.std.proofs.lemmas.List.Folds.{length-flat_map-take}
 use Rattle.std.proofs.Math.Seq.{drop-cons, take-suc-set}
@@ -25,9 +25,6 @@ read_at xs i x l read d = get_or_default xs i d x l ∙ sym read
 -- an element is replaced, and another put after it
 pub first_part : {A : Type 0} (xs : List A) (i : ℕ) (y z d : A) → i < length xs → get_or (insert (set xs i y) (i + 1) z) i d ≡ y
 first_part xs i y z d l = get_or-insert_below (set xs i y) (i + 1) z d i (omega arith) (omega (arith, length-set xs i y)) ∙ get_or-set_same xs i y d l
-
-pub second_part : {A : Type 0} (xs : List A) (i : ℕ) (y z d : A) → i < length xs → get_or (insert (set xs i y) (i + 1) z) (i + 1) d ≡ z
-second_part xs i y z d l = get_or-insert_at (set xs i y) (i + 1) z d (omega (arith, length-set xs i y))
 
 pub length-parted : {A : Type 0} (xs : List A) (i : ℕ) (y z : A) → i < length xs → length (insert (set xs i y) (i + 1) z) ≡ length xs + 1
 length-parted xs i y z l = length-insert (set xs i y) (i + 1) z (omega (arith, length-set xs i y)) ∙ ap (λ n. n + 1) (length-set xs i y)

@@ -45,9 +45,6 @@ strip_length l = strip_length_by _ l
 pub reply_kept : (s : Session) (line : List ℕ) → reply s (take KEPT_LEN line) ≡ reply s line
 reply_kept s line = ⊎_elim (λ (long : KEPT_LEN < length line). reply_long s _ _ (rw length-take (omega arith)) (omega arith)) (λ (short : length line ≤ KEPT_LEN). ap (reply s) (take_all KEPT_LEN line short)) (cases_lt KEPT_LEN (length line))
 
-pub after_kept : (s : Session) (line : List ℕ) → after s (take KEPT_LEN line) ≡ after s line
-after_kept s line = ⊎_elim (λ (long : KEPT_LEN < length line). after_long s _ _ (rw length-take (omega arith)) (omega arith)) (λ (short : length line ≤ KEPT_LEN). ap (after s) (take_all KEPT_LEN line short)) (cases_lt KEPT_LEN (length line))
-
 long_kept : (line : List ℕ) → KEPT_LEN < length line → COMMAND_BYTES < length (strip_carriage_return (take KEPT_LEN line))
 long_kept line long = omega (arith, strip_length (take KEPT_LEN line), length-take KEPT_LEN line)
 

@@ -1,8 +1,8 @@
 -- What a writer holds after one write upon another.
-use Rattle.std.proofs.Common.{◌≡◌, ℕ, List, [], ◌++◌, take, drop, Option, Some, None, refl, sym, ◌∙◌, ap, append_assoc}
+use Rattle.std.proofs.Common.{◌≡◌, ℕ, List, ◌++◌, take, drop, Option, Some, None, sym, ◌∙◌, ap, append_assoc}
 use Rattle.std.specs.Io.KnownBytes.{Keeps, Appends}
-use Rattle.std.proofs.KnownBytes.{Appends-kept, Appends-nil, Appends-trans}
-use Rattle.std.proofs.lemmas.List.{append-nil, take-append-drop}
+use Rattle.std.proofs.KnownBytes.{Appends-trans}
+use Rattle.std.proofs.lemmas.List.{take-append-drop}
 
 -- known bytes stay known
 pub appends_known : (a b : Option (List ℕ)) (before x : List ℕ) → a ≡ Some before → Appends a b x → b ≡ Some (before ++ x)
@@ -24,18 +24,9 @@ pub record Written (held holds : Option (List ℕ)) (bytes rest : List ℕ) : Ty
   pub split : bytes ≡ front ++ rest
   pub appended : Appends held holds front
 
-pub written_none : (held : Option (List ℕ)) (bytes : List ℕ) → Written held held bytes bytes
-written_none held bytes = record { front = []; split = refl; appended = Appends-nil held }
-
 pub written_more : (held holds next : Option (List ℕ)) (bytes rest : List ℕ) (n : ℕ) → Written held holds bytes rest → Appends holds next (take n rest) → Written held next bytes (drop n rest)
 written_more held holds next bytes rest n w p = record {
   front = w.front ++ take n rest;
   split = w.split ∙ ap (λ l. w.front ++ l) (sym (take-append-drop n rest)) ∙ sym (append_assoc w.front (take n rest) (drop n rest));
   appended = Appends-trans held holds next w.front (take n rest) w.appended p;
 }
-
-pub written_kept : (held holds next : Option (List ℕ)) (bytes rest : List ℕ) → Written held holds bytes rest → Keeps holds next → Written held next bytes rest
-written_kept held holds next bytes rest w p = record { front = w.front; split = w.split; appended = Appends-kept held holds next w.front w.appended p }
-
-pub written_all : (held holds : Option (List ℕ)) (bytes rest : List ℕ) → rest ≡ [] → Written held holds bytes rest → Appends held holds bytes
-written_all held holds bytes rest e w = rw (w.split ∙ ap (λ l. w.front ++ l) e ∙ append-nil w.front) w.appended

@@ -2,6 +2,8 @@
 use Rattle.std.specs.Prelude.{ℕ, ◌+◌, ◌==◌, ◌&&◌, ◌||◌, not, Bool, if◌then◌else◌, nat_le, nat_lt, List, Option, Some, None}
 use Rattle.std.specs.List.{list_any}
 use Rattle.chip_lang.specs.declared.limits.TheConstants.{MEMORY_BYTES}
+use Rattle.chip_warnings.specs.declared.marks.Naming.{Naming}
+use Rattle.chip_warnings.specs.declared.marks.Naming.TheVariants.{Jump, Point}
 use Rattle.chip_warnings.specs.declared.seen.Seen.{Seen}
 use Rattle.chip_warnings.specs.Seen.{base_of, holds_of, is_code, is_data, target_of}
 
@@ -19,20 +21,20 @@ places_jumped_to base = if base == 4096 || base == 8192 then 1 else (if base == 
 abbrev pub places_pointed_at : (base : ℕ) → ℕ
 places_pointed_at base = if base == 40960 then 1 else 0
 
+-- how many it names for something
+abbrev pub places_named : Naming → (base : ℕ) → ℕ
+places_named Jump base = places_jumped_to base
+places_named Point base = places_pointed_at base
+
 -- how many addresses, of something that may be an instruction
 abbrev pub places_of : (places : (base : ℕ) → ℕ) → Option ℕ → ℕ
 places_of places None = 0
 places_of places (Some base) = places base
 
--- a line is an instruction that may go to an address
-abbrev pub jumps_to : (address : ℕ) → Seen → Bool
-jumps_to address s =
-    is_among (target_of s.says) (places_of places_jumped_to (base_of s.says)) address
-
--- a line is an instruction that names an address as that of bytes
-abbrev pub points_at : (address : ℕ) → Seen → Bool
-points_at address s =
-    is_among (target_of s.says) (places_of places_pointed_at (base_of s.says)) address
+-- a line is an instruction that names an address for something
+abbrev pub names_at : Naming → (address : ℕ) → Seen → Bool
+names_at naming address s =
+    is_among (target_of s.says) (places_of (places_named naming) (base_of s.says)) address
 
 -- a store: LD B, Vx or LD [I], Vx
 abbrev pub is_store : Seen → Bool
@@ -48,7 +50,7 @@ has_store lines = list_any is_store lines
 
 -- some LD I names an address
 abbrev pub is_pointed_at : List Seen → (address : ℕ) → Bool
-is_pointed_at lines address = list_any (points_at address) lines
+is_pointed_at lines address = list_any (names_at Point address) lines
 
 -- some LD I names the address of a byte of an instruction
 abbrev pub is_code_pointed_at : List Seen → Seen → Bool
@@ -67,7 +69,7 @@ pub record Marked : Type 0 where
 abbrev pub marked_by : List Seen → Marked
 marked_by lines =
     record {
-      jumped = λ address. list_any (jumps_to address) lines;
+      jumped = λ address. list_any (names_at Jump address) lines;
       data_at = λ address.
           list_any (is_data_at address) lines
           && not (has_store lines && is_pointed_at lines address);

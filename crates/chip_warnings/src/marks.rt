@@ -4,7 +4,7 @@ ghost use Rattle.std.specs.Prelude.{◌≡◌, ◌<◌, ◌≤◌, ◌+◌, ◌&
 ghost use Rattle.std.specs.List.{list_any};
 ghost use Rattle.chip_lang.specs.declared.limits.TheConstants.{MEMORY_BYTES};
 ghost use Rattle.chip_warnings.specs.Seen.{base_of, is_code};
-ghost use Rattle.chip_warnings.specs.Marked.{is_among, is_data_at, is_store, jumps_to, marked_by, places_jumped_to, places_of, places_pointed_at, points_at, has_store};
+ghost use Rattle.chip_warnings.specs.Marked.{is_among, is_data_at, is_store, marked_by, names_at, places_named, places_of, has_store};
 ghost use Rattle.chip_warnings.specs.inner.Noted.{flag, marked_in};
 
 use crate::seen::Seen;
@@ -31,8 +31,8 @@ impl Marks {
     pub(crate) fn of(alloc: Global, lines: &[Seen]) -> Result<Marks, AllocError>
         ensures { IfOk result (λ marks. marked_in marks ≡ marked_by lines.now) }
     {
-        let pointed = places_pointed(alloc, lines)?;
-        let jumped = places_jumped(alloc, lines)?;
+        let pointed = places_named(alloc, lines, Naming::Point)?;
+        let jumped = places_named(alloc, lines, Naming::Jump)?;
         let data = places_of_data(alloc, lines)?;
         let writes = has_store(lines);
         let is_code_pointed = has_code_pointed(&pointed, lines);
@@ -67,26 +67,23 @@ impl Marks {
     }
 }
 
-/// For each address, whether some instruction may go to it.
-fn places_jumped(alloc: Global, lines: &[Seen]) -> Result<Vec<bool>, AllocError>
-    ensures { IfOk result (λ flags.
-        (a : ℕ) → flag flags.items a ≡ list_any (jumps_to a) lines.now) }
-{
-    let mut flags = vec![in alloc; false; MEMORY_BYTES]?;
-    for seen in lines {
-        mark(&mut flags, seen.says.target(), places_jumped_to(seen));
-    }
-    Ok(flags)
+/// What an instruction names addresses for.
+#[derive(Clone, Copy)]
+pub(crate) enum Naming {
+    /// It may go to them.
+    Jump,
+    /// They are those of bytes.
+    Point,
 }
 
-/// For each address, whether some instruction names it as that of bytes.
-fn places_pointed(alloc: Global, lines: &[Seen]) -> Result<Vec<bool>, AllocError>
+/// For each address, whether some instruction names it for that.
+fn places_named(alloc: Global, lines: &[Seen], naming: Naming) -> Result<Vec<bool>, AllocError>
     ensures { IfOk result (λ flags.
-        (a : ℕ) → flag flags.items a ≡ list_any (points_at a) lines.now) }
+        (a : ℕ) → flag flags.items a ≡ list_any (names_at naming a) lines.now) }
 {
     let mut flags = vec![in alloc; false; MEMORY_BYTES]?;
     for seen in lines {
-        mark(&mut flags, seen.says.target(), places_pointed_at(seen));
+        mark(&mut flags, seen.says.target(), places_of(naming, seen));
     }
     Ok(flags)
 }
@@ -116,27 +113,17 @@ fn note_data(numbers: &mut [usize], number: usize, seen: &Seen)
     }
 }
 
-/// How many addresses an instruction may go to, from the one in its word on.
-fn places_jumped_to(seen: &Seen) -> usize
-    ensures value { result ≡ places_of places_jumped_to (base_of seen.now.says) }
+/// How many addresses an instruction names for something, from the one in its word on.
+fn places_of(naming: Naming, seen: &Seen) -> usize
+    ensures value { result ≡ places_of (places_named naming) (base_of seen.now.says) }
     ensures bound { result ≤ 256 }
 {
-    match seen.says.base() {
+    match (naming, seen.says.base()) {
         // JP, CALL, JP V0
-        Some(base) if base == 0x1000 || base == 0x2000 => 1,
-        Some(base) if base == 0xB000 => 256,
-        _ => 0,
-    }
-}
-
-/// How many addresses an instruction names as those of bytes.
-fn places_pointed_at(seen: &Seen) -> usize
-    ensures value { result ≡ places_of places_pointed_at (base_of seen.now.says) }
-    ensures bound { result ≤ 256 }
-{
-    match seen.says.base() {
+        (Naming::Jump, Some(base)) if base == 0x1000 || base == 0x2000 => 1,
+        (Naming::Jump, Some(base)) if base == 0xB000 => 256,
         // LD I
-        Some(base) if base == 0xA000 => 1,
+        (Naming::Point, Some(base)) if base == 0xA000 => 1,
         _ => 0,
     }
 }
