@@ -49,7 +49,19 @@ impl Report {
         if !has_passed {
             let mut details = Vec::new(alloc);
             push_failure(alloc, &mut details, file, case, verdict)?;
-            self.push_details(alloc, &details)?;
+            // Lines are comments in the Test Anything Protocol. The last one has its end too.
+            let mut start = 0;
+            for (end, byte) in details.iter().enumerate() {
+                if *byte == b'\n' {
+                    if self.is_tap {
+                        self.text.extend_from_slice(b"# ")?;
+                    }
+                    let line = details.get(start..end).unwrap_or(&[]);
+                    push_as_shown(alloc, &mut self.text, line)?;
+                    self.text.push(b'\n')?;
+                    start = end + 1;
+                }
+            }
         }
         Ok(())
     }
@@ -92,24 +104,6 @@ impl Report {
             push_tap_text(alloc, &mut self.text, case.name)?;
         }
         self.text.push(b'\n')?;
-        Ok(())
-    }
-
-    // Adds lines as they are shown, which are comments in the Test Anything Protocol. The last one has
-    // its end too.
-    fn push_details(&mut self, alloc: Global, details: &[u8]) -> Result<(), AllocError> {
-        let mut start = 0;
-        for (end, byte) in details.iter().enumerate() {
-            if *byte == b'\n' {
-                if self.is_tap {
-                    self.text.extend_from_slice(b"# ")?;
-                }
-                let line = details.get(start..end).unwrap_or(&[]);
-                push_as_shown(alloc, &mut self.text, line)?;
-                self.text.push(b'\n')?;
-                start = end + 1;
-            }
-        }
         Ok(())
     }
 }

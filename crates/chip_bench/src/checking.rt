@@ -142,25 +142,11 @@ impl Checker {
             Ok(source) => source,
             Err(error) => return self.unopened(alloc, name, error),
         };
-        let warnings = self.warnings(alloc, &source, watcher)?;
+        let covered = self.covered(alloc, &source, watcher)?;
+        let coverage = covered.as_ref().map(|covered| covered.coverage());
+        let warnings = warnings(alloc, &source, self.quirks, self.allowed, coverage)?;
         let text = self.text_of(alloc, name, &source, &warnings)?;
         Ok(Answer::on(&source, text))
-    }
-
-    // The warnings of a source.
-    fn warnings<W: Watcher>(
-        self,
-        alloc: Global,
-        source: &Source,
-        watcher: &mut W,
-    ) -> Result<Vec<Warning>, AllocError> {
-        match self.covered(alloc, source, watcher)? {
-            Some(covered) => {
-                let coverage = Some(covered.coverage());
-                warnings(alloc, source, self.quirks, self.allowed, coverage)
-            }
-            None => warnings(alloc, source, self.quirks, self.allowed, None),
-        }
     }
 
     // What key scripts execute of a source's image, where that is asked for.

@@ -8,7 +8,7 @@ ghost use Rattle.chip_session.specs.Settings.{default_settings};
 ghost use Rattle.chip_bench.specs.Running.{AnswersScript, RunsSession, status_of, failure_status, AreFaulty, IsWithoutArguments};
 ghost use Rattle.chip_bench.specs.inner.Reads.{IsUsage};
 ghost use Rattle.chip_bench.specs.inner.Written.{IsFoundWritten, IsImageWritten};
-ghost use Rattle.chip_bench.specs.Doing.{Assembles, AssemblesBy, Debugs, Disassembles, Does, Ends, Performs, PrintsText, Runs, ShowsHelp, ShowsVersion, Tells};
+ghost use Rattle.chip_bench.specs.Doing.{Assembles, AssemblesBy, Debugs, Does, Ends, Performs, PrintsText, Runs, ShowsHelp, ShowsVersion, Tells};
 ghost use Rattle.chip_arguments.specs.CommandArguments.{argument_faults};
 ghost use Rattle.std.specs.Io.KnownBytes.{Keeps};
 ghost use Rattle.std.specs.IoError.{error_kind};
@@ -170,8 +170,7 @@ fn perform<'a, F: FileAccess + Clock, I: Read, O: Write, E: Write>(
             let given = Given {
                 source: *source,
                 is_image: *is_image,
-                is_typed: system.host.has_typist(*is_quiet),
-                name_seed: system.host.name_seed,
+                is_quiet: *is_quiet,
             };
             debug(system, given, settings, input, output, errors)
         }
@@ -183,7 +182,11 @@ fn perform<'a, F: FileAccess + Clock, I: Read, O: Write, E: Write>(
             tell(system, Table::Symbols, *source, *is_hex, input, output)
         }
         CommandLine::Check(arguments) => check(system, arguments, input, output, errors),
-        CommandLine::Dis { image } => dis(system, *image, input, output, errors),
+        CommandLine::Dis { image } => {
+            // A source of the image, whose image it is.
+            let source = read_given(system, *image, true, input, errors)?;
+            print(&source, Ending::Done, output)
+        }
         CommandLine::Run(arguments) => run(system, arguments, input, output, errors),
         CommandLine::Trace(arguments) => trace(system, arguments, input, output, errors),
         CommandLine::Picture(arguments) => picture(system, arguments, input, output, errors),
@@ -222,8 +225,8 @@ fn show_help<'a, O: Write>(
 struct Given<'a> {
     source: Option<&'a str>,
     is_image: bool,
-    is_typed: bool,
-    name_seed: u64,
+    /// Whether who types the script wants nothing said of it.
+    is_quiet: bool,
 }
 
 // The settings are judged before SOURCE is read.
@@ -239,11 +242,12 @@ fn debug<'a, F: FileAccess, I: Read, O: Write, E: Write>(
         given.entry.source given.entry.is_image arguments.now result }
 {
     let settings = settings_of(system.alloc, arguments)?;
-    let seeded = settings.with_name_seed(given.name_seed);
+    let host = system.host;
+    let seeded = settings.with_name_seed(host.name_seed);
     let empty = Begun {
         source: b"",
         name: given.source,
-        is_typed: given.is_typed,
+        is_typed: host.is_typed && host.has_reader && !given.is_quiet,
     };
     match given.source {
         Some(name) => {
@@ -324,21 +328,6 @@ fn tell<'a, F: FileAccess, I: Read, O: Write>(
         }
         Err(error) => refuse_source(error, output),
     }
-}
-
-// `dis`: a source of an image, whose image it is.
-fn dis<'a, F: FileAccess, I: Read, O: Write, E: Write>(
-    system: &System<'_, F>,
-    image: &'a str,
-    input: &mut Counted<I>,
-    output: &mut Counted<O>,
-    errors: &mut E,
-) -> Result<Ending, Failure<'a>>
-    ensures { Disassembles I.remaining O.contents input.old input.new output.old output.new
-        image.entry result }
-{
-    let source = read_given(system, image, true, input, errors)?;
-    print(&source, Ending::Done, output)
 }
 
 fn run<'a, F: FileAccess, I: Read, O: Write, E: Write>(

@@ -247,7 +247,15 @@ impl<'p, 'a> Search<'p, 'a> {
             start,
             question,
         } = *self;
-        let bounds = bounds_of(&arguments.search, ticks_of(arguments));
+        let ticks = if arguments.is_covering {
+            // What is marked in the listing is executed at the rate.
+            Ticks::AtRate
+        } else if arguments.search.is_any_speed {
+            Ticks::FreeWithAll
+        } else {
+            Ticks::Free
+        };
+        let bounds = bounds_of(&arguments.search, ticks);
         let explored = chip_explore::explore(system.alloc, start, question, &bounds, teller);
         let place = if arguments.is_image {
             Vec::new(system.alloc)
@@ -276,18 +284,6 @@ pub(crate) fn bounds_of(arguments: &SearchArguments<'_>, ticks: Ticks) -> Bounds
         states: arguments.states as usize,
         is_deep: arguments.is_deep,
         ticks,
-    }
-}
-
-// How a search takes the ticks. Where the listing is asked for they are at the rate alone, so that
-// what is marked is executed at the rate.
-fn ticks_of(arguments: &ExploreArguments<'_>) -> Ticks {
-    if arguments.is_covering {
-        Ticks::AtRate
-    } else if arguments.search.is_any_speed {
-        Ticks::FreeWithAll
-    } else {
-        Ticks::Free
     }
 }
 

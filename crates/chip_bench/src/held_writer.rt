@@ -1,5 +1,5 @@
 //! A writer that holds bytes back, and gives them up where a write or a flush fails.
-ghost use Rattle.std.specs.Prelude.{◌≡◌, ◌+◌, ◌<◌, ◌≤◌, ◌↔◌, [], ◌++◌, length, IsTrue, IfOk, IfErr, OnOk, OnErr, vec_len, vec_capacity};
+ghost use Rattle.std.specs.Prelude.{◌≡◌, ◌<◌, ◌≤◌, ◌↔◌, [], length, IsTrue, IfOk, IfErr, OnOk, OnErr};
 ghost use Rattle.std.specs.IoError.{error_kind};
 ghost use Rattle.std.specs.Io.{WritesAtMost};
 ghost use Rattle.std.specs.Io.KnownBytes.{Keeps, WriteAppends};
@@ -189,7 +189,10 @@ impl<W: Write> Write for HeldWriter<W> {
                 return self.inner.write(buf);
             }
         }
-        hold(&mut self.held, buf);
+        // There is room for them.
+        let Ok(()) = self.held.extend_from_slice(buf) else {
+            unreachable!()
+        };
         Ok(buf.len())
     }
 
@@ -205,15 +208,4 @@ impl<W: Write> Write for HeldWriter<W> {
         self.write_held()?;
         self.inner.flush()
     }
-}
-
-// Adds bytes for which there is room.
-fn hold(held: &mut Vec<u8>, bytes: &[u8])
-    requires { vec_len held.old + length bytes.now ≤ vec_capacity held.old }
-    ensures items { held.new.items ≡ held.old.items ++ bytes.now }
-    ensures room { vec_capacity held.old ≤ vec_capacity held.new }
-{
-    let Ok(()) = held.extend_from_slice(bytes) else {
-        unreachable!()
-    };
 }

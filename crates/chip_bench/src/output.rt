@@ -1,6 +1,5 @@
 //! What each command reads and prints, from the bytes of a source.
-ghost use Rattle.std.specs.Prelude.{◌≡◌, ◌++◌, Err, IfErr, IfOk, IsErr};
-ghost use Rattle.chip_session.specs.Text.{full_stop};
+ghost use Rattle.std.specs.Prelude.{◌≡◌, Err, IfErr, IfOk, IsErr};
 ghost use Rattle.chip_asm.specs.Program.{image_of};
 ghost use Rattle.chip_bench.specs.Printing.{Prints, ending_with, Refuses, printed, printed_faults, printed_run, printed_picture, printed_table, unanswered, unopened_text, Printed};
 ghost use Rattle.chip_bench.specs.Running.{AnswersScript};
@@ -65,23 +64,17 @@ pub(crate) fn tabulate(
         (Table::Symbols, _, None) => faults(alloc, source),
         (Table::Symbols, false, Some(_)) => Ok(Answer::on(source, symbols_answer(alloc, source)?)),
         (Table::Symbols, true, Some(_)) => {
-            let table = hex_symbols(alloc, source)?;
-            Ok(Answer::on(source, with_stop(table)?))
+            let mut table = hex_symbols(alloc, source)?;
+            table.extend_from_slice(b".\n")?;
+            Ok(Answer::on(source, table))
         }
         (Table::Listing, false, _) => Ok(Answer::on(source, listing_answer(alloc, source)?)),
         (Table::Listing, true, _) => {
-            let table = hex_listing(alloc, source)?;
-            Ok(Answer::on(source, with_stop(table)?))
+            let mut table = hex_listing(alloc, source)?;
+            table.extend_from_slice(b".\n")?;
+            Ok(Answer::on(source, table))
         }
     }
-}
-
-// A table and the full stop below it.
-fn with_stop(mut table: Vec<u8>) -> Result<Vec<u8>, AllocError>
-    ensures { IfOk result (λ ended. ended.items ≡ table.items ++ full_stop) }
-{
-    table.extend_from_slice(b".\n")?;
-    Ok(table)
 }
 
 /// `explain`: the page on a code, or all codes.

@@ -1,5 +1,5 @@
 //! `prove`: what searches over all key scripts answer of the properties that a source states.
-ghost use Rattle.std.specs.Prelude.{◌≡◌, ◌⊎◌, ◌<◌, ◌||◌, [], ℕ, List, Ok, Some, None, true, IfOk, IfErr, IfSome, OnOk, ◌++◌, filter, length, slice_get, false, position, ◌==◌, ◌+◌};
+ghost use Rattle.std.specs.Prelude.{◌≡◌, ◌⊎◌, ◌<◌, ◌||◌, [], ℕ, List, Ok, Some, None, true, IfOk, IfErr, IfSome, filter, length, slice_get, false, position, ◌==◌, ◌+◌};
 ghost use Rattle.std.specs.List.{flat_map, list_any, remove};
 ghost use Rattle.chip_explore.specs.Answers.{Answers};
 ghost use Rattle.chip_explore.specs.OneOf.{told_of};
@@ -478,34 +478,23 @@ impl<'p, 'a, F: FileAccess> Prover<'p, 'a, F> {
         ensures { IfOk result (λ text. text.items ≡ flat_map
             (printed_head self.now.arguments.now self.now.source.now.lines explored.now) heads.now) }
     {
+        let arguments = self.arguments;
+        let is_at_any_speed = arguments.search.is_any_speed && explored.is_at_any_speed;
         let mut text = Vec::new(self.system.alloc);
         for head in heads {
-            self.push_answer(&mut text, *head, explored)?;
+            let answer = PropertyAnswer {
+                kind: head.kind,
+                outcome: &explored.outcome,
+                is_at_any_speed,
+            };
+            let place = PropertyPlace {
+                name: arguments.search.source.as_bytes(),
+                line: head.line,
+                text: self.text_at(head.line),
+            };
+            answer.push(self.system.alloc, &mut text, arguments.is_json, &place)?;
         }
         Ok(text)
-    }
-
-    fn push_answer(
-        &self,
-        text: &mut Vec<u8>,
-        head: Head,
-        explored: &Explored,
-    ) -> Result<(), AllocError>
-        ensures { OnOk result (text.new.items ≡ text.old.items
-            ++ printed_head self.now.arguments.now self.now.source.now.lines explored.now head) }
-    {
-        let arguments = self.arguments;
-        let answer = PropertyAnswer {
-            kind: head.kind,
-            outcome: &explored.outcome,
-            is_at_any_speed: arguments.search.is_any_speed && explored.is_at_any_speed,
-        };
-        let place = PropertyPlace {
-            name: arguments.search.source.as_bytes(),
-            line: head.line,
-            text: self.text_at(head.line),
-        };
-        answer.push(self.system.alloc, text, arguments.is_json, &place)
     }
 
     /// The text of the property of a line.

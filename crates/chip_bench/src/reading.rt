@@ -170,20 +170,17 @@ pub(crate) fn as_source<'a, E: Write>(
         }
         return Ok(source_of_image(alloc, &bytes)?);
     }
-    if looks_like_image(&bytes) {
+    // A control byte among the first ones that neither a text has nor the language takes for a blank, as it
+    // does 26, is one of an image.
+    if bytes.iter().take(FIRST_BYTES).any(|byte| *byte < b' '
+        && !matches!(*byte, b'\t' | b'\n' | b'\r' | 0x0c | 0x1a | 0x1b))
+    {
         let _ = write!(
             errors,
             "chipbench: {name} looks like an image; --image runs it as it is\n"
         );
     }
     Ok(bytes)
-}
-
-// Whether one of the first bytes is a control byte that neither a text has nor the language takes for a
-// blank, as it does 26.
-fn looks_like_image(bytes: &[u8]) -> bool {
-    bytes.iter().take(FIRST_BYTES).any(|byte| *byte < b' '
-        && !matches!(*byte, b'\t' | b'\n' | b'\r' | 0x0c | 0x1a | 0x1b))
 }
 
 // The bytes of a file, or of the standard input where the name is `-`.

@@ -1,7 +1,7 @@
 //! Where in a source a search found what it looked for.
 ghost use Rattle.std.specs.Prelude.{◌<◌};
 
-use chip_asm::{LineView, Source};
+use chip_asm::Source;
 use chip_explore::{KeyEvent, Met, Outcome};
 use chip_lang::tokens;
 use chip_machine::Machine;
@@ -37,11 +37,18 @@ pub(crate) fn place_text(
     let Some(address) = address_at(alloc, start, rate, events, *step)? else {
         return Ok(text);
     };
-    if let Some(line) = line_at(source, address) {
-        text.extend_from_slice(b", line ")?;
-        push_decimal(&mut text, line.number() as u64)?;
-        text.extend_from_slice(b": ")?;
-        text.extend_from_slice(statement_of(alloc, line.text())?)?;
+    for number in 1..=source.lines() {
+        if let Some(line) = source.line(number)
+            && line.is_active()
+            && line.size() > 0
+            && line.address() == address as usize
+        {
+            text.extend_from_slice(b", line ")?;
+            push_decimal(&mut text, number as u64)?;
+            text.extend_from_slice(b": ")?;
+            text.extend_from_slice(statement_of(alloc, line.text())?)?;
+            break;
+        }
     }
     Ok(text)
 }
@@ -69,18 +76,6 @@ fn address_at(
         Err(AtError::OutOfMemory) => Err(AllocError),
         Err(AtError::StepTooLarge) => Ok(None),
     }
-}
-
-// The first line of code at an address.
-fn line_at(source: &Source, address: u16) -> Option<LineView<'_>> {
-    for index in 0..source.lines() {
-        if let Some(line) = source.line(index + 1) {
-            if line.is_active() && line.size() > 0 && line.address() == address as usize {
-                return Some(line);
-            }
-        }
-    }
-    None
 }
 
 // The text of a line's statement, from its first token behind a label to its last, which no comment is.

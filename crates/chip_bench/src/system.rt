@@ -1,5 +1,5 @@
 //! What the program runs on: memory, files, and what it is told of them.
-ghost use Rattle.std.specs.Prelude.{◌≡◌, ◌<◌, ◌≤◌, length, IfOk, IfErr, OnOk};
+ghost use Rattle.std.specs.Prelude.{◌≤◌, length, IfOk, IfErr, OnOk};
 ghost use Rattle.chip_bench.specs.Doing.{IsFileWritten};
 ghost use Rattle.chip_bench.specs.Running.{IsUnread, IsUnreadWithin};
 
@@ -19,13 +19,6 @@ pub struct Host {
     pub has_reader: bool,
     /// Whether somebody types the input, as at a terminal.
     pub is_typed: bool,
-}
-
-impl Host {
-    // Whether somebody types the script, reads what is said of it, and wants that.
-    pub(crate) fn has_typist(self, is_quiet: bool) -> bool {
-        self.is_typed && self.has_reader && !is_quiet
-    }
 }
 
 /// The system that the program runs on.
@@ -54,7 +47,10 @@ impl<'s, F: FileAccess> System<'s, F> {
         ensures err { IfErr result (IsUnreadWithin most name.entry) }
     {
         let bytes = self.read(name, most.saturating_add(1))?;
-        unless_longer(bytes, name, most)
+        if bytes.len() > most as usize {
+            return Err(Failure::TooLong(name, most));
+        }
+        Ok(bytes)
     }
 
     /// Writes a file atomically. A file of the names that are taken stays.
@@ -73,16 +69,4 @@ impl<'s, F: FileAccess> System<'s, F> {
             Err(error) => Err(Failure::CannotWrite(name, error)),
         }
     }
-}
-
-// The bytes that were read of a file, unless these are over so many.
-fn unless_longer<'a>(bytes: Vec<u8>, name: &'a str, most: u32) -> Result<Vec<u8>, Failure<'a>>
-    ensures ok { IfOk result (λ kept. (kept ≡ bytes) × (length bytes.items ≤ most)) }
-    ensures err { IfErr result (λ why. (why ≡ Failure.TooLong name.entry most)
-        × (most < length bytes.items)) }
-{
-    if bytes.len() > most as usize {
-        return Err(Failure::TooLong(name, most));
-    }
-    Ok(bytes)
 }

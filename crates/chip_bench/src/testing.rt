@@ -13,7 +13,6 @@ use crate::system::System;
 use chip_arguments::TestArguments;
 use chip_cases::{Case, FileFault, Given, misplaced_refusal, read_cases, updated_text};
 use chip_session::Counted;
-use std::alloc::AllocError;
 use std::io::Write;
 
 /// `test`: carries out the cases of the files, one file after another, and prints what failed.
@@ -24,14 +23,15 @@ pub(crate) fn test_files<'a, F: FileAccess, O: Write>(
 ) -> Result<Ending, Failure<'a>>
     ensures { Tests arguments.now result }
 {
+    let names: &[&'a str] = &arguments.files;
     let mut report = Report::new(system.alloc, arguments.is_tap);
-    let has_passed = report_files(
-        system,
-        &arguments.files,
-        arguments.is_update,
-        &mut report,
-        output,
-    )?;
+    let mut has_passed = true;
+    for name in names {
+        let passes = test_file(system, name, arguments.is_update, &mut report)?;
+        has_passed = has_passed && passes;
+        print(&report.text, Ending::Done, output)?;
+        report.text.clear();
+    }
     report.push_counts()?;
     print(&report.text, Ending::Done, output)?;
     Ok(if has_passed {
@@ -39,27 +39,6 @@ pub(crate) fn test_files<'a, F: FileAccess, O: Write>(
     } else {
         Ending::Faulty
     })
-}
-
-// Carries out the cases of files, prints the outcomes file by file, and says whether all pass.
-fn report_files<'a, F: FileAccess, O: Write>(
-    system: &System<'_, F>,
-    names: &[&'a str],
-    is_update: bool,
-    report: &mut Report,
-    output: &mut Counted<O>,
-) -> Result<bool, Failure<'a>>
-    ensures ok { IfOk result (JudgesAll JudgesFile names.now) }
-    ensures err { IfErr result IsHindrance }
-{
-    let mut has_passed = true;
-    for name in names {
-        let passes = test_file(system, name, is_update, report)?;
-        has_passed = has_passed && passes;
-        print(&report.text, Ending::Done, output)?;
-        report.text.clear();
-    }
-    Ok(has_passed)
 }
 
 // Carries out the cases of a file, and says whether all pass.
@@ -109,18 +88,11 @@ fn test_cases<'a, F: FileAccess>(
         let verdict = test_case(system, name, case)?;
         has_passed = has_passed && verdict.has_passed();
         report.push_case(system.alloc, name, case, &verdict)?;
-        if let Verdict::Answered(given) = verdict {
-            push_all(others, given)?;
+        if let Verdict::Answered(mut given) = verdict {
+            others.append(&mut given)?;
         }
     }
     Ok(has_passed)
-}
-
-fn push_all(others: &mut Vec<Given>, given: Vec<Given>) -> Result<(), AllocError> {
-    for answer in given {
-        others.push(answer)?;
-    }
-    Ok(())
 }
 
 // Carries out a case on the source, the key events and the settings that its lines ask for.

@@ -2,7 +2,7 @@
 ghost use Rattle.std.specs.Prelude.{◌≡◌, ◌++◌, OnOk};
 ghost use Rattle.std.specs.Fmt.{decimal};
 ghost use Rattle.std.specs.List.{flat_map};
-ghost use Rattle.chip_check.specs.Answer.{answer_line, answer_members, answer_object, answer_text, answer_word, answer_words, further_event, is_bad, key_event, key_events, met_at, met_words, never_words, unmet_up_to, unmet_words};
+ghost use Rattle.chip_check.specs.Answer.{answer_members, answer_object, answer_text, answer_word, answer_words, further_event, is_bad, key_event, key_events, met_at, met_words, never_words, unmet_up_to, unmet_words};
 
 use crate::json::push_quoted;
 use chip_explore::{KeyEvent, Outcome};
@@ -45,17 +45,8 @@ impl PropertyAnswer<'_> {
             self.now.is_at_any_speed self.now.outcome.now) }
     {
         if is_json {
-            self.push_object(alloc, text, place)
-        } else {
-            self.push_line(text, place)
+            return self.push_object(alloc, text, place);
         }
-    }
-
-    fn push_line(&self, text: &mut Vec<u8>, place: &PropertyPlace<'_>) -> Result<(), AllocError>
-        ensures { OnOk result (text.new.items ≡ text.old.items ++ answer_line place.now.name.now
-            place.now.line place.now.text.now
-            (answer_words self.now.kind self.now.is_at_any_speed self.now.outcome.now)) }
-    {
         text.extend_from_slice(place.name)?;
         text.extend_from_slice(b":")?;
         push_decimal(text, place.line as u64)?;

@@ -1,8 +1,10 @@
 use Rattle.std.proofs.lemmas.Result.{err_from_is_err_and}
-use Rattle.std.proofs.Common.{◌∙◌, ap, refl, inl, inr, Err}
+use Rattle.std.proofs.Common.{◌≡◌, ◌∙◌, ap, refl, inl, inr, true, Err}
 use Rattle.chip_bench.specs.Doing.{IsUnexplained}
+use Rattle.chip_bench.specs.Printing.{Prints, printed}
+use Rattle.chip_bench.specs.declared.ending.Ending.TheVariants.{Done}
 use Rattle.chip_bench.specs.inner.Reads.{printed_by}
-use Rattle.chip_bench.proofs.DoingLemmas.{does_it, fails}
+use Rattle.chip_bench.proofs.DoingLemmas.{does_it, fails, given_else, given_then}
 use Rattle.chip_bench.proofs.entry.perform.Goals as goal
 
 pub returns-in-Debug : goal.returns-in-Debug
@@ -30,10 +32,25 @@ returns-in-Check g c =
     does_it g.I.Read.remaining g.O.Write.contents c.args.input.now c.check.new.input c.args.output.now c.check.new.output c.args.system.now.host.takes_color c.args.line.now _ c.check.result
     c.in-Check.is c.check.ensures
 
-pub returns-in-Dis : goal.returns-in-Dis
-returns-in-Dis g c =
-    does_it g.I.Read.remaining g.O.Write.contents c.args.input.now c.dis.new.input c.args.output.now c.dis.new.output c.args.system.now.host.takes_color c.args.line.now _ c.dis.result
-    c.in-Dis.is c.dis.ensures
+pub returns-in_err-source-in-Dis : goal.returns-in_err-source-in-Dis
+returns-in_err-source-in-Dis g c =
+    let output = c.args.output.now in
+    let p = err_from_is_err_and c.from_residual.result c.from_residual.ensures.1 in
+    does_it g.I.Read.remaining g.O.Write.contents c.args.input.now c.read_given.new.input output output c.args.system.now.host.takes_color c.args.line.now _ c.from_residual.result
+    c.in-Dis.is
+    (given_else g.I.Read.remaining c.args.input.now c.read_given.new.input (output ≡ output) true c.in-Dis.image
+    (λ source. Prints g.O.Write.contents output output (printed source Done)) c.from_residual.result refl _ (p.1 ∙ ap (λ e. Err e) p.2)
+    c.in_err-source-in-Dis.ensures.err)
+
+pub returns-in_ok-source-in-Dis : goal.returns-in_ok-source-in-Dis
+returns-in_ok-source-in-Dis g c =
+    let output = c.args.output.now in
+    let new = c.print.new.output in
+    does_it g.I.Read.remaining g.O.Write.contents c.args.input.now c.read_given.new.input output new c.args.system.now.host.takes_color c.args.line.now _ c.print.result
+    c.in-Dis.is
+    (given_then g.I.Read.remaining c.args.input.now c.read_given.new.input (new ≡ output) true c.in-Dis.image
+    (λ source. Prints g.O.Write.contents output new (printed source Done)) c.print.result c.in_ok-source-in-Dis.source.items c.in_ok-source-in-Dis.ensures.ok
+    (rw c.deref.ensures.value at c.print.ensures))
 
 pub returns-in-Run : goal.returns-in-Run
 returns-in-Run g c =
@@ -57,10 +74,10 @@ returns-in-Test g c =
 
 pub returns-in_err-answer-in-Explain : goal.returns-in_err-answer-in-Explain
 returns-in_err-answer-in-Explain g c =
-    let p = err_from_is_err_and c.from_residual.result c.from_residual.ensures.1 in
-    does_it g.I.Read.remaining g.O.Write.contents c.args.input.now c.args.input.now c.args.output.now c.args.output.now c.args.system.now.host.takes_color c.args.line.now _ c.from_residual.result
+    let p = err_from_is_err_and c.from_residual-in_err-answer-in-Explain.result c.from_residual-in_err-answer-in-Explain.ensures.1 in
+    does_it g.I.Read.remaining g.O.Write.contents c.args.input.now c.args.input.now c.args.output.now c.args.output.now c.args.system.now.host.takes_color c.args.line.now _ c.from_residual-in_err-answer-in-Explain.result
     c.in-Explain.is
-    (inr (fails (IsUnexplained c.in-Explain.code) c.from_residual.result _ (p.1 ∙ ap (λ e. Err e) p.2) c.in_err-answer-in-Explain.ensures.err, refl), refl)
+    (inr (fails (IsUnexplained c.in-Explain.code) c.from_residual-in_err-answer-in-Explain.result _ (p.1 ∙ ap (λ e. Err e) p.2) c.in_err-answer-in-Explain.ensures.err, refl), refl)
 
 pub returns-in_ok-answer-in-Explain : goal.returns-in_ok-answer-in-Explain
 returns-in_ok-answer-in-Explain g c =
