@@ -6,9 +6,6 @@ use Rattle.chip_asm.specs.Program.{image_of}
 use Rattle.chip_asm.specs.declared.refusal.OpenError.{OpenError}
 use Rattle.chip_asm.specs.declared.refusal.OpenError.TheVariants as unopened
 use Rattle.std.specs.Borrow.{Bor}
-use Rattle.chip_session.specs.KeyFile.{IsKeyFault}
-use Rattle.chip_session.specs.declared.key_file.KeyFileError.{KeyFileError}
-use Rattle.chip_session.specs.declared.key_file.KeyFileError.TheVariants.{Line, OutOfMemory}
 use Rattle.chip_session.specs.KeyFile.{key_fault, session_under}
 use Rattle.chip_session.specs.IsAnswer.{IsUnanswered}
 use Rattle.chip_session.specs.Session.{Session, session_of}
@@ -17,7 +14,7 @@ use Rattle.chip_session.specs.Tally.{Tally}
 use Rattle.chip_session.specs.declared.refusal.Refusal.{Refusal}
 use Rattle.chip_session.specs.declared.refusal.Refusal.TheVariants.{AnswerMemory}
 use Rattle.chip_bench.specs.Doing.{AssemblesBy, FromSource, GivesSource, Outcome}
-use Rattle.chip_bench.specs.Printing.{IfOpens, Printed, Prints, PrintsSuch, Refuses, UnlessRefused, WithSession, answer_or_why, both_answers, keys_failure, printed, unanswered, unopened_text}
+use Rattle.chip_bench.specs.Printing.{IfOpens, Printed, Prints, PrintsSuch, Refuses, UnlessRefused, WithSession, answer_or_why, both_answers, printed, unanswered, unopened_text}
 use Rattle.chip_bench.specs.inner.Written.{IsFoundWritten, IsImageWritten}
 use Rattle.chip_bench.specs.inner.Reads.{IsRefused, IsSessionOf, IsUnmade, IsUnopened, printed_by}
 use Rattle.chip_bench.specs.declared.output.Answer.{Answer}
@@ -135,12 +132,11 @@ session_is settings source keys file opened under opens is same made later = rec
   is = rw (is, same) at later;
 }
 
--- or why they can't be made
-pub unmade_is : (settings : SessionSettings) (source keys file : List ℕ) (opened : Session) (name : Bor (List ℕ)) (error : KeyFileError) →
-    open_fault source ≡ None → opened ≡ session_of settings source → file ≡ keys → IsKeyFault (key_fault opened file) error →
-    IsUnmade settings source keys (keys_failure name error)
-unmade_is settings source keys file opened name (Line number code) opens is same fault = inr (opens, rw (is, same) at fault)
-unmade_is settings source keys file opened name OutOfMemory opens is same fault = inl refl
+-- or one of their lines is refused
+pub unmade_is : (settings : SessionSettings) (source keys file : List ℕ) (opened : Session) (line : ℕ × List ℕ) → open_fault source ≡ None →
+    opened ≡ session_of settings source → file ≡ keys → key_fault opened file ≡ Some line →
+    (open_fault source ≡ None) × (key_fault (session_of settings source) keys ≡ Some line)
+unmade_is settings source keys file opened line opens is same fault = (opens, rw (is, same) at fault)
 
 pub false_is_true : ◌≡◌ {A = Bool} false true → ⊥
 false_is_true h = cc

@@ -9,7 +9,6 @@ use Rattle.chip_asm.specs.declared.refusal.OpenError.TheVariants as unopened
 use Rattle.chip_check.specs.Check.{IsChecked}
 use Rattle.chip_check.specs.Json.{IsCheckJson, unopened_object}
 use Rattle.chip_session.specs.Answers.{answer_to, faults_text, listing_text, symbols_text}
-use Rattle.std.specs.Borrow.{Bor}
 use Rattle.chip_session.specs.KeyFile.{key_fault, session_under}
 use Rattle.chip_session.specs.Refusals.{refusal_code}
 use Rattle.chip_session.specs.Serving.{BeginsWith}
@@ -26,8 +25,6 @@ use Rattle.chip_bench.specs.declared.ending.Failure.{Failure}
 use Rattle.chip_bench.specs.declared.output.Table.{Table}
 use Rattle.chip_bench.specs.declared.output.Table.TheVariants.{Listing, Symbols}
 use Rattle.chip_bench.specs.declared.ending.Failure.TheVariants as failure
-use Rattle.chip_session.specs.declared.key_file.KeyFileError.{KeyFileError}
-use Rattle.chip_session.specs.declared.key_file.KeyFileError.TheVariants.{Line, OutOfMemory}
 use Rattle.chip_session.specs.Pictures.{picture_asked}
 use Rattle.chip_session.specs.declared.picture.PictureForm.{PictureForm}
 use Rattle.chip_session.specs.declared.question.Question.TheVariants.{Registers, Screen}
@@ -121,11 +118,6 @@ printed_run session step =
 abbrev pub printed_picture : Session → ℕ → PictureForm → Printed
 printed_picture session step form =
     answer_or_why (picture_asked session form step) (printed_faults session.lines)
-
--- the failure of a key file of that name
-abbrev pub keys_failure : Bor (List ℕ) → KeyFileError → Failure
-keys_failure name (Line number code) = failure.BadKeys name number (record { 0 = code })
-keys_failure name OutOfMemory = failure.OutOfMemory
 
 module _ {W : Type 0} (contents : W → Option (List ℕ)) (old new : Tally W) where
   -- What a command that prints this did: all of it, or a front where a write failed, or nothing for

@@ -2,10 +2,10 @@
 ghost use Rattle.std.specs.Prelude.{IfErr, IfOk};
 ghost use Rattle.chip_bench.specs.inner.Reads.{IsSessionOf, IsUnmade, IsUnopened};
 
-use crate::ending::Failure;
+use crate::ending::{Code, Failure};
 use crate::reading::KeyFile;
 use chip_asm::OpenError;
-use chip_session::{Bench, Settings, insert_keys};
+use chip_session::{Bench, KeyFileError, Settings, insert_keys};
 use std::alloc::Global;
 
 /// A session on a source under the key events of a file, or why the source doesn't open.
@@ -23,7 +23,10 @@ pub(crate) fn open_under<'a>(
     match Bench::open(alloc, source, settings) {
         Ok(mut bench) => match insert_keys(alloc, &mut bench, &keys.bytes) {
             Ok(()) => Ok(Ok(bench)),
-            Err(error) => Err(keys.failure(error)),
+            Err(KeyFileError::OutOfMemory) => Err(Failure::OutOfMemory),
+            Err(KeyFileError::Line(number, code)) => {
+                Err(Failure::BadKeys(keys.name, number, Code(code)))
+            }
         },
         Err(error) => Ok(Err(error)),
     }

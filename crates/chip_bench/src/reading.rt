@@ -4,10 +4,9 @@ ghost use Rattle.chip_lang.specs.declared.limits.TheConstants.{IMAGE_BYTES};
 ghost use Rattle.chip_views.specs.Dis.{source_of_image};
 ghost use Rattle.chip_bench.specs.SettingArguments.{settings_asked, tape_asked};
 ghost use Rattle.chip_bench.specs.inner.Reads.{IsAsked, IsGiven, IsKeysUnread, IsNotGiven, IsNotTaken, IsTaken, IsUnasked};
-ghost use Rattle.chip_bench.specs.Printing.{keys_failure};
 ghost use Rattle.chip_bench.specs.Doing.{GivesSource, IsSourceUnread};
 
-use crate::ending::{Code, Failure};
+use crate::ending::Failure;
 use crate::file_access::FileAccess;
 use crate::limits::KEY_FILE_BYTES;
 use crate::system::System;
@@ -15,7 +14,7 @@ use chip_arguments::{RunArguments, SettingArguments};
 use chip_asm::limits::SOURCE_BYTES;
 use chip_files::read_most;
 use chip_machine::limits::IMAGE_BYTES;
-use chip_session::{Counted, KeyFileError, Settings, tape_of};
+use chip_session::{Counted, Settings, tape_of};
 use chip_views::source_of_image;
 use hex::FromHexError;
 use std::alloc::Global;
@@ -72,17 +71,6 @@ fn tape_bytes<'a>(alloc: Global, arguments: &SettingArguments<'_>) -> Result<Vec
 pub(crate) struct KeyFile<'a> {
     pub(crate) name: &'a str,
     pub(crate) bytes: Vec<u8>,
-}
-
-impl<'a> KeyFile<'a> {
-    pub(crate) fn failure(&self, error: KeyFileError) -> Failure<'a>
-        ensures { result ≡ keys_failure self.now.name error }
-    {
-        match error {
-            KeyFileError::Line(number, code) => Failure::BadKeys(self.name, number, Code(code)),
-            KeyFileError::OutOfMemory => Failure::OutOfMemory,
-        }
-    }
 }
 
 // What a run is asked on: a source, a file of key events and settings.

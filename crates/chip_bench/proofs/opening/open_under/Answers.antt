@@ -1,3 +1,4 @@
+use Rattle.std.proofs.Common.{inr}
 use Rattle.chip_bench.proofs.OpenedLemmas.{session_is, unmade_is}
 use Rattle.chip_bench.proofs.opening.open_under.Goals as goal
 
@@ -8,5 +9,6 @@ returns-in-Ok-insert_keys-clause-opened c =
 
 pub returns-in-Ok-clause-err : goal.returns-in-Ok-clause-err
 returns-in-Ok-clause-err c =
-    rw c.failure.ensures (unmade_is c.args.settings c.args.source.now c.args.keys.now.bytes.items c.deref.result.now c.in-Ok.bench.session c.args.keys.now.name
-    c.in-Err-insert_keys.error c.in-Ok.ensures.ok.0 c.in-Ok.ensures.ok.1 c.deref.ensures.value c.in-Err-insert_keys.ensures.fault)
+    inr (unmade_is c.args.settings c.args.source.now c.args.keys.now.bytes.items c.deref.result.now c.in-Ok.bench.session
+    (c.in-Err-Line.number, c.in-Err-Line.code.now) c.in-Ok.ensures.ok.0 c.in-Ok.ensures.ok.1 c.deref.ensures.value
+    (rw c.in-Err-Line.field-0-is at c.in-Err-Line.ensures.fault))
