@@ -1,5 +1,5 @@
 -- The cases of files: the answers of a case, and whether all pass.
-use Rattle.std.proofs.Common.{◌≡◌, ◌≢◌, ◌⊎◌, inl, inr, ℕ, zero, suc, ◌+◌, ◌<◌, ◌≤◌, ◌==◌, ◌&&◌, Bool, true, false, List, [], ◌∷◌, drop, length, map, get_or, Some, None, Result, Ok, Err, IfOk, refl, sym, ap, ◌∙◌, subst, arith, add-one, drop-cons, eqb-true}
+use Rattle.std.proofs.Common.{◌≡◌, ◌≢◌, ◌⊎◌, inl, inr, ℕ, zero, suc, ◌+◌, ◌<◌, ◌≤◌, ◌==◌, ◌&&◌, Bool, true, false, List, [], ◌∷◌, drop, length, map, get_or, Some, None, refl, sym, ap, ◌∙◌, subst, arith, add-one, drop-cons, eqb-true}
 use Rattle.std.specs.Prelude.{◌↔◌, IsTrue}
 use Rattle.std.proofs.lemmas.List.{drop_all, get_or-map, length-map}
 use Rattle.chip_asm.specs.Lines.{open_fault}
@@ -9,12 +9,14 @@ use Rattle.chip_cases.specs.Matching.{IsAnswered}
 use Rattle.chip_cases.specs.Steps.{Expectation, expectation_of}
 use Rattle.chip_cases.specs.declared.case.Step.{Step}
 use Rattle.chip_cases.specs.declared.update.Given.{Given}
-use Rattle.chip_session.specs.KeyFile.{key_fault, session_under}
-use Rattle.chip_session.specs.Session.{Session, session_of}
+use Rattle.chip_session.specs.Session.{Session}
 use Rattle.chip_session.specs.Settings.{SessionSettings}
-use Rattle.chip_bench.specs.Testing.{CasePasses, JudgesAll, Passes, PassesUnder, has_passed}
+use Rattle.chip_bench.specs.Testing.{CasePasses, JudgesAll, Passes}
+use Rattle.chip_bench.specs.declared.ending.Code.{Code}
+use Rattle.chip_bench.specs.declared.ending.Failure.TheVariants as failure
+use Rattle.chip_bench.specs.inner.Reads.{IsSessionOf, IsUnmade}
+use Rattle.std.specs.Borrow.{Bor}
 use Rattle.chip_session.specs.Transcript.{after, reply}
-use Rattle.chip_bench.specs.declared.case_run.Verdict.{Verdict}
 
 module _ (start : Session) (steps : List Step) where
   -- the answers so far are as expected just where all are that are left
@@ -64,33 +66,25 @@ nothing_there : (others : List Given) → (length others == 0) ≡ true → othe
 nothing_there [] e = refl
 nothing_there (given ∷ others) e = absurd (let n : length (given ∷ others) ≡ 0 = eqb-true (length (given ∷ others)) 0 e in omega arith)
 
--- under the key events of a file
-pub passes_under : (session under : Session) (file : List ℕ) (steps : List Expectation) (others : List Given) → key_fault session file ≡ None
-    → under ≡ session_under session file → (others ≡ []) ↔ Passes under steps → ((length others == 0) ≡ true) ↔ PassesUnder session file steps
-passes_under session under file steps others none is same = (
-  λ e. record { keys = none; answers = subst (λ s. Passes s steps) is (same.0 (nothing_there others e)) },
-  λ p. ap (λ l. length l == 0) (same.1 (subst (λ s. Passes s steps) (sym is) p.answers)),
+-- the source opens, and all key events can be made
+pub passes_case : (settings : SessionSettings) (source keys : List ℕ) (steps : List Expectation) (under : Session) (others : List Given) →
+    IsSessionOf settings source keys under → (others ≡ []) ↔ Passes under steps → ((length others == 0) ≡ true) ↔ CasePasses settings source keys steps
+passes_case settings source keys steps under others of same = (
+  λ e. record { opens = of.opens; made = of.made; answers = subst (λ s. Passes s steps) of.is (same.0 (nothing_there others e)) },
+  λ p. ap (λ l. length l == 0) (same.1 (subst (λ s. Passes s steps) (sym of.is) p.answers)),
 )
 
-pub passes_not_under : (session : Session) (file : List ℕ) (steps : List Expectation) (line : ℕ × List ℕ) → key_fault session file ≡ Some line
-    → (false ≡ true) ↔ PassesUnder session file steps
-passes_not_under session file steps line fault =
-    (λ no. absurd (let n : false ≡ true = no in cc), λ p. absurd (let n : Some line ≡ None = sym fault ∙ p.keys in cc))
+-- one of them can't
+pub unmade_case : (settings : SessionSettings) (source keys : List ℕ) (steps : List Expectation) (name : Bor (List ℕ)) (number : ℕ) (code : Code) →
+    IsUnmade settings source keys (failure.BadKeys name number code) → (false ≡ true) ↔ CasePasses settings source keys steps
+unmade_case settings source keys steps name number code (inl short) = absurd (not_short short)
+  where
+    not_short : failure.BadKeys name number code ≡ failure.OutOfMemory → ⊥
+    not_short h = cc
+unmade_case settings source keys steps name number code (inr (opens, fault)) =
+    (λ no. absurd (let n : false ≡ true = no in cc), λ p. absurd (let n : Some (number, code.0.now) ≡ None = sym fault ∙ p.made in cc))
 
--- on a source
-pub passes_case : (settings : SessionSettings) (source keys : List ℕ) (steps : List Expectation) (session : Session) (passes : Bool) → open_fault source ≡ None
-    → session ≡ session_of settings source → IsTrue passes ↔ PassesUnder session keys steps → IsTrue passes ↔ CasePasses settings source keys steps
-passes_case settings source keys steps session passes opens is same = (
-  λ e. record { opens = opens; passes = subst (λ s. PassesUnder s keys steps) is (same.0 e) },
-  λ p. same.1 (subst (λ s. PassesUnder s keys steps) (sym is) p.passes),
-)
-
-pub passes_case_if_ok : {E : Type 0} (settings : SessionSettings) (source keys : List ℕ) (steps : List Expectation) (session : Session) (result : Result Verdict E)
-    → open_fault source ≡ None → session ≡ session_of settings source → IfOk result (λ verdict. IsTrue (has_passed verdict) ↔ PassesUnder session keys steps)
-    → IfOk result (λ verdict. IsTrue (has_passed verdict) ↔ CasePasses settings source keys steps)
-passes_case_if_ok settings source keys steps session (Ok verdict) opens is same = passes_case settings source keys steps session (has_passed verdict) opens is same
-passes_case_if_ok settings source keys steps session (Err e) opens is same = tt
-
+-- it doesn't open
 pub not_case : (settings : SessionSettings) (source keys : List ℕ) (steps : List Expectation) (fault : OpenError) → fault ≢ unopened.OutOfMemory
     → (fault ≡ unopened.OutOfMemory) ⊎ (open_fault source ≡ Some fault) → (false ≡ true) ↔ CasePasses settings source keys steps
 not_case settings source keys steps fault other (inl memory) = absurd (other memory)

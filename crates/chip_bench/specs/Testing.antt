@@ -41,17 +41,13 @@ Passes session (step ∷ steps) =
     IsAnswered step.expected (reply session step.command)
     × Passes (after session step.command) steps
 
--- under the key events of a file, all of which can be made
-pub record PassesUnder (session : Session) (file : List ℕ) (steps : List Expectation) : Type 0 where
-  pub keys : key_fault session file ≡ None
-  pub answers : Passes (session_under session file) steps
-
--- A case passes where its source opens, its key events can be made, and each answer of its session
--- is as expected.
+-- A case passes where its source opens, its key events can all be made, and each answer of its
+-- session under them is as expected.
 pub record CasePasses (settings : SessionSettings) (source keys : List ℕ)
     (steps : List Expectation) : Type 0 where
   pub opens : open_fault source ≡ None
-  pub passes : PassesUnder (session_of settings source) keys steps
+  pub made : key_fault (session_of settings source) keys ≡ None
+  pub answers : Passes (session_under (session_of settings source) keys) steps
 
 -- all answers were as expected
 abbrev pub has_passed : Verdict → Bool

@@ -1,12 +1,14 @@
 //! A case that is carried out: the answers of its session, beside those that are expected.
 ghost use Rattle.std.specs.Prelude.{◌≡◌, ◌↔◌, false, [], IsTrue, IfOk, OnOk, map};
 ghost use Rattle.chip_cases.specs.Steps.{expectation_of};
-ghost use Rattle.chip_bench.specs.Testing.{CasePasses, Passes, PassesUnder, has_passed};
+ghost use Rattle.chip_bench.specs.Testing.{CasePasses, Passes, has_passed};
 
-use crate::ending::Code;
+use crate::ending::{Code, Failure};
+use crate::opening::open_under;
+use crate::reading::KeyFile;
 use chip_asm::OpenError;
 use chip_cases::{Given, Step, is_answered, is_refusal};
-use chip_session::{Bench, KeyFileError, Settings, insert_keys, respond};
+use chip_session::{Bench, Settings, respond};
 use std::alloc::{AllocError, Global};
 
 /// How a case ended.
@@ -41,39 +43,23 @@ pub(crate) fn run_case(
     alloc: Global,
     source: &[u8],
     settings: Settings,
-    keys: &[u8],
+    keys: &KeyFile<'_>,
     steps: &[Step<'_>],
 ) -> Result<Verdict, AllocError>
     ensures { IfOk result (λ verdict. IsTrue (has_passed verdict)
-        ↔ CasePasses settings source.now keys.now (map expectation_of steps.now)) }
+        ↔ CasePasses settings source.now keys.now.bytes.items (map expectation_of steps.now)) }
 {
-    match Bench::open(alloc, source, settings) {
-        Ok(mut bench) => {
-            let verdict = run_under(alloc, &mut bench, keys, steps);
-            // A case's bench goes before the next one's is opened.
-            drop(bench);
-            verdict
+    match open_under(alloc, source, keys, settings) {
+        Ok(Ok(mut bench)) => {
+            let others = other_answers(alloc, &mut bench, steps)?;
+            Ok(Verdict::Answered(others))
         }
-        Err(error) => match error {
+        Ok(Err(error)) => match error {
             OpenError::OutOfMemory => Err(AllocError),
             _ => Ok(Verdict::Unopened(error)),
         },
-    }
-}
-
-fn run_under(
-    alloc: Global,
-    bench: &mut Bench,
-    keys: &[u8],
-    steps: &[Step<'_>],
-) -> Result<Verdict, AllocError>
-    ensures { IfOk result (λ verdict. IsTrue (has_passed verdict)
-        ↔ PassesUnder bench.old.session keys.now (map expectation_of steps.now)) }
-{
-    match insert_keys(alloc, bench, keys) {
-        Ok(()) => Ok(Verdict::Answered(other_answers(alloc, bench, steps)?)),
-        Err(KeyFileError::OutOfMemory) => Err(AllocError),
-        Err(KeyFileError::Line(number, code)) => Ok(Verdict::BadKeys(number, Code(code))),
+        Err(Failure::BadKeys(_, number, code)) => Ok(Verdict::BadKeys(number, code)),
+        Err(_) => Err(AllocError),
     }
 }
 

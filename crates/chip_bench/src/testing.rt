@@ -9,6 +9,7 @@ use crate::ending::{Ending, Failure, TestFault};
 use crate::file_access::FileAccess;
 use crate::limits::TEST_FILE_BYTES;
 use crate::output::print;
+use crate::reading::KeyFile;
 use crate::system::System;
 use chip_arguments::TestArguments;
 use chip_cases::{Case, FileFault, Given, misplaced_refusal, read_cases, updated_text};
@@ -106,6 +107,7 @@ fn test_case<'a, F: FileAccess>(
 {
     let settings = case_settings(system.alloc, name, &case.setup)?;
     let source = case_source(system, name, case.setup.source)?;
-    let keys = case_keys(system, name, case.setup.keys)?;
+    let bytes = case_keys(system, name, case.setup.keys)?;
+    let keys = KeyFile { name, bytes };
     Ok(run_case(system.alloc, &source, settings, &keys, &case.steps)?)
 }

@@ -7,10 +7,10 @@ returns-clause-ok g c =
       arguments = asked.0;
       settings = c.in_ok-settings.settings;
       source = c.in_ok-source.source.items;
-      keys = c.in_ok-keys.keys.items;
+      keys = c.in_ok-bytes.bytes.items;
       set_by = asked.1;
       settings_are = asked.2;
       source_is = c.in_ok-source.ensures.ok;
-      keys_are = c.in_ok-keys.ensures.ok;
-      judged = rw (c.deref.ensures.value, c.deref-2.ensures.value, c.deref-3.ensures.value) at c.in_ok-run_case.ensures;
+      keys_are = c.in_ok-bytes.ensures.ok;
+      judged = rw (c.deref.ensures.value, c.deref-2.ensures.value) at c.in_ok-run_case.ensures;
     }
