@@ -25,7 +25,6 @@ use Rattle.chip_asm.specs.Program.{image_of, symbols_of}
 use Rattle.chip_asm.specs.declared.refusal.OpenError.{OpenError}
 use Rattle.chip_lang.specs.declared.limits.TheConstants.{IMAGE_BYTES}
 use Rattle.chip_views.specs.Dis.{source_of_image}
-use Rattle.chip_views.specs.declared.picture.Letters.{Letters}
 use Rattle.chip_views.specs.declared.picture.Letters.TheVariants.{Blocks, Plain}
 use Rattle.chip_arguments.specs.CommandArguments.{AsksFor}
 use Rattle.chip_session.specs.Session.{Session}
@@ -212,10 +211,6 @@ abbrev pub IsUnexplained : Option (Bor (List ℕ)) → Failure → Type 0
 IsUnexplained None why = IsShort why
 IsUnexplained (Some code) why = IsShort why ⊎ (IsExplained code.now None × (why ≡ failure.NoPage code))
 
--- which characters stand for the points of a picture
-abbrev pub letters_of : Bool → Letters
-letters_of ascii = if ascii then Plain else Blocks
-
 -- What is read. `Unwritten` says that nothing was written.
 module _ {R : Type 0} (remaining : R → Option (List ℕ)) (in_old in_new : Tally R)
     (Unwritten : Type 0) where
@@ -299,7 +294,7 @@ module _ {W : Type 0} (contents : W → Option (List ℕ)) (out_old out_new : Ta
       → Session → Outcome → Type 0
   PicturesBy arguments None None session ended =
       Prints contents out_old out_new
-      (printed_picture session arguments.run.steps (form.Text (letters_of arguments.ascii))) ended
+      (printed_picture session arguments.run.steps (form.Text (if arguments.ascii then Plain else Blocks))) ended
   PicturesBy arguments (Some bitmap) None session ended =
       WritesPicture (printed_picture session arguments.run.steps form.Bitmap) bitmap ended
   PicturesBy arguments None (Some png) session ended =

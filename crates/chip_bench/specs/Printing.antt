@@ -147,7 +147,6 @@ module _ {W : Type 0} (contents : W → Option (List ℕ)) (old new : Tally W) w
   abbrev pub RefusesKeys : ℕ × List ℕ → Result Ending Failure → Type 0
   RefusesKeys line (Err (failure.BadKeys name number code)) =
       (line ≡ (number, code.0.now)) × (new ≡ old)
-  RefusesKeys line (Err failure.OutOfMemory) = new ≡ old
   RefusesKeys line _ = ⊥
 
   -- What was printed passes a test, or memory ran out before.

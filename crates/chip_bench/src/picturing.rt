@@ -1,6 +1,7 @@
 //! `picture`: the screen after some steps, printed or written to files.
-ghost use Rattle.std.specs.Prelude.{◌≡◌, Ok};
-ghost use Rattle.chip_bench.specs.Doing.{Pictures, PicturesBy, WritesPicture, letters_of};
+ghost use Rattle.std.specs.Prelude.{◌≡◌, Ok, if◌then◌else◌};
+ghost use Rattle.chip_views.specs.declared.picture.Letters.TheVariants.{Blocks, Plain};
+ghost use Rattle.chip_bench.specs.Doing.{Pictures, PicturesBy, WritesPicture};
 ghost use Rattle.chip_bench.specs.Printing.{printed_picture};
 ghost use Rattle.chip_bench.specs.inner.Written.{IsSomeWritten};
 
@@ -46,7 +47,7 @@ pub(crate) fn picture<'a, F: FileAccess, I: Read, O: Write, E: Write>(
 
 // Which characters stand for the points.
 fn letters_of(ascii: bool) -> Letters
-    ensures { result ≡ letters_of ascii }
+    ensures { result ≡ (if ascii then Plain else Blocks) }
 {
     if ascii {
         Letters::Plain
