@@ -1,6 +1,6 @@
 -- What each command did, from what its steps did.
 use Rattle.std.proofs.Common.{◌≡◌, ◌⊎◌, inl, inr, ℕ, Bool, true, false, List, [], ◌++◌, append_assoc, Option, Some, None, Result, Ok, Err, IfOk, IfErr, length, ◌≤◌, refl, sym, ◌∙◌, ap, subst}
-use Rattle.std.specs.Prelude.{IsErrAnd}
+use Rattle.std.specs.Prelude.{IsErrAnd, MatchOption}
 use Rattle.std.specs.Borrow.{Bor}
 use Rattle.chip_asm.specs.Lines.{lines_of, open_fault}
 use Rattle.chip_asm.specs.Program.{image_of}
@@ -24,7 +24,8 @@ use Rattle.chip_bench.specs.declared.ending.Ending.TheVariants.{Done}
 use Rattle.chip_bench.specs.declared.ending.Failure.{Failure}
 use Rattle.chip_bench.specs.declared.ending.Failure.TheVariants as failure
 use Rattle.chip_bench.specs.declared.reading.AskedRun.{AskedRun}
-use Rattle.chip_bench.proofs.RunningLemmas.{unsettled}
+use Rattle.chip_session.specs.declared.server.ServeError.TheVariants as fault
+use Rattle.chip_bench.proofs.RunningLemmas.{stays_put}
 
 -- settings that there are not, or no memory for them
 abbrev pub Unsettles : Option SessionSettings → Failure → Type 0
@@ -216,7 +217,14 @@ module _ {R W : Type 0} (remaining : R → Option (List ℕ)) (contents : W → 
   -- there are no settings for a session
   pub debugs_unsettled : (source : Option (Bor (List ℕ))) (is_image : Bool) (arguments : SettingArguments) (ended : Outcome) (why : Failure) → ended ≡ Err why →
       Unsettles (settings_asked arguments) why → Debugs remaining contents input input output output source is_image arguments ended
-  debugs_unsettled None is_image arguments ended why e u = unsettled remaining contents (settings_asked arguments) why ended input output e u
+  debugs_unsettled None is_image arguments ended why e u = by_asked (settings_asked arguments) u
+    where
+      by_asked : (asked : Option SessionSettings) → Unsettles asked why →
+          MatchOption asked (Declined remaining input input (output ≡ output) IsUnsettled ended)
+          (λ settings. AnswersScript remaining contents settings [] input input output output ended)
+      by_asked None u = unsettles remaining input input (output ≡ output) refl None (λ settings ended. ⊥) ended why e refl u
+      by_asked (Some settings) (inl m) = (Err fault.OutOfMemory, (e ∙ ap (λ f. Err f) m, stays_put remaining contents settings input output))
+      by_asked (Some settings) (inr b) = absurd (let n : Some settings ≡ None = b.1 in cc)
   debugs_unsettled (Some name) is_image arguments ended why e u = unsettles remaining input input (output ≡ output) refl (settings_asked arguments) _ ended why e refl u
 
   -- the file can't be read

@@ -8,7 +8,7 @@ use Rattle.chip_asm.specs.declared.refusal.OpenError.TheVariants as unopened
 use Rattle.chip_session.specs.Settings.{SessionSettings, default_settings}
 use Rattle.chip_session.specs.Serving.{Exchanges}
 use Rattle.chip_bench.specs.Printing.{Refuses}
-use Rattle.chip_bench.specs.Running.{AnswersAs, AnswersIfAsked, AnswersScript, Converses, Declines, RunsSession, result_after, status_of}
+use Rattle.chip_bench.specs.Running.{AnswersAs, AnswersScript, Converses, Declines, RunsSession, result_after, status_of}
 use Rattle.chip_session.specs.Tally.{Tally, failures_after_flush}
 use Rattle.chip_bench.specs.declared.ending.Ending.{Ending}
 use Rattle.chip_bench.specs.declared.ending.Failure.{Failure}
@@ -54,7 +54,7 @@ empty_opens = refl
 
 module _ {R W : Type 0} (remaining : R → Option (List ℕ)) (contents : W → Option (List ℕ)) where
   -- nothing was read or written as memory ran out
-  stays_put : (settings : SessionSettings) (input : Tally R) (output : Tally W) →
+  pub stays_put : (settings : SessionSettings) (input : Tally R) (output : Tally W) →
       Converses remaining contents settings [] input input output output (Err fault.OutOfMemory)
   stays_put settings input output = record {
     transcript = exchanges_none _ _ _ (λ all. (0, refl));
@@ -62,19 +62,6 @@ module _ {R W : Type 0} (remaining : R → Option (List ℕ)) (contents : W → 
     reader_failed = refl;
     writer_failed = refl;
   }
-
-  -- there are no settings
-  pub unsettled : (asked : Option SessionSettings) (why : Failure) (result : Result Ending Failure) (input : Tally R) (output : Tally W) →
-      result ≡ Err why → (why ≡ failure.OutOfMemory) ⊎ ((why ≡ failure.BadTape) × (asked ≡ None)) →
-      AnswersIfAsked remaining contents [] input input output output asked result
-  unsettled None why result input output e (inl m) = (inr (e ∙ ap (λ f. Err f) m), refl, refl)
-  unsettled None why result input output e (inr b) = (inl (e ∙ ap (λ f. Err f) b.0), refl, refl)
-  unsettled (Some settings) why result input output e (inl m) =
-      (Err fault.OutOfMemory, (e ∙ ap (λ f. Err f) m, stays_put settings input output))
-  unsettled (Some settings) why result input output e (inr b) = absurd (some_is_none b.1)
-    where
-      some_is_none : Some settings ≡ None → ⊥
-      some_is_none h = cc
 
   -- the empty source opens unless memory runs out
   declined : (settings : SessionSettings) (in_old in_new : Tally R) (out_old out_mid : Tally W) (e : OpenError) (ended : Result Ending Failure) →

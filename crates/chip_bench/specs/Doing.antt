@@ -40,7 +40,7 @@ use Rattle.chip_bench.specs.declared.tracing.Shown.{Shown}
 use Rattle.chip_pages.specs.Pages.{IsContents, IsExplained}
 use Rattle.chip_arguments.specs.Version.{version_text}
 use Rattle.chip_bench.specs.Printing.{IsPrintedCheckOf, Printed, IfOpens, Streams, WithSession, WritesFront, PrintsSuch, Prints, printed_faults, printed_picture, printed, printed_run, printed_table}
-use Rattle.chip_bench.specs.Running.{AnswersIfAsked, AnswersScript, IsUnread, IsUnreadWithin, source_bytes_read, status_of}
+use Rattle.chip_bench.specs.Running.{AnswersScript, IsUnread, IsUnreadWithin, source_bytes_read, status_of}
 use Rattle.chip_bench.specs.declared.limits.TheConstants.{KEY_FILE_BYTES, TRACE_FILE_BYTES}
 use Rattle.chip_bench.specs.SettingArguments.{settings_asked}
 use Rattle.chip_session.specs.Settings.{SessionSettings}
@@ -445,11 +445,12 @@ module _ {R W : Type 0} (remaining : R → Option (List ℕ)) (contents : W → 
 -- What is done.
 module _ {R W : Type 0} (remaining : R → Option (List ℕ)) (contents : W → Option (List ℕ))
     (in_old in_new : Tally R) (out_old out_new : Tally W) where
-  -- `debug`: without a source, a session on the empty one
+  -- `debug`: without a source, a session on the empty one, unless the settings are bad
   abbrev pub Debugs : Option (Bor (List ℕ)) → (is_image : Bool) → SettingArguments → Outcome → Type 0
   Debugs None is_image arguments ended =
-      AnswersIfAsked remaining contents [] in_old in_new out_old out_new
-      (settings_asked arguments) ended
+      MatchOption (settings_asked arguments)
+      (Declined remaining in_old in_new (out_new ≡ out_old) IsUnsettled ended)
+      (λ settings. AnswersScript remaining contents settings [] in_old in_new out_old out_new ended)
   Debugs (Some name) is_image arguments ended =
       IfSettled remaining in_old in_new (out_new ≡ out_old) (settings_asked arguments) (λ settings.
       FromFile remaining in_old in_new (out_new ≡ out_old) name

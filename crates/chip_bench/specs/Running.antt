@@ -90,18 +90,6 @@ module _ {R W : Type 0} (remaining : R → Option (List ℕ)) (contents : W → 
   abbrev pub AnswersScript : Result Ending Failure → Type 0
   AnswersScript result = (served : Result Unit ServeError) × AnswersAs result served
 
--- The same where the arguments ask for these settings. Where they ask for none, the tape is bad;
--- either way memory may be short. Then nothing was read or written.
-module _ {R W : Type 0} (remaining : R → Option (List ℕ)) (contents : W → Option (List ℕ))
-    (source : List ℕ)
-    (in_old in_new : Tally R) (out_old out_new : Tally W) where
-  abbrev pub AnswersIfAsked : Option SessionSettings → Result Ending Failure → Type 0
-  AnswersIfAsked (Some settings) result =
-      AnswersScript remaining contents settings source in_old in_new out_old out_new result
-  AnswersIfAsked None result =
-      ((result ≡ Err failure.BadTape) ⊎ (result ≡ Err failure.OutOfMemory)) × (in_new ≡ in_old)
-      × (out_new ≡ out_old)
-
 -- The program without arguments: a session on the empty source, which opens unless memory runs out.
 -- `flushed` says whether the flush at the end went well; one that failed is counted.
 module _ {R W : Type 0} (remaining : R → Option (List ℕ)) (contents : W → Option (List ℕ))
