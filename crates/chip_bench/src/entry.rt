@@ -1,14 +1,12 @@
 //! The program behind `main`.
 ghost use Rattle.std.specs.Prelude.{◌≡◌, [], ◌∷◌, ◌⊎◌, map, Ok};
-ghost use Rattle.clap.specs.Words.{kind_of};
 ghost use Rattle.chip_asm.specs.Program.{image_of};
-ghost use Rattle.chip_arguments.specs.Version.{version_text};
-ghost use Rattle.chip_bench.specs.Printing.{Prints, printed, printed_table};
+ghost use Rattle.chip_bench.specs.Printing.{printed_table};
 ghost use Rattle.chip_session.specs.Settings.{default_settings};
 ghost use Rattle.chip_bench.specs.Running.{AnswersScript, RunsSession, status_of, failure_status, AreFaulty, IsWithoutArguments};
 ghost use Rattle.chip_bench.specs.inner.Reads.{IsUsage};
 ghost use Rattle.chip_bench.specs.inner.Written.{IsFoundWritten, IsImageWritten};
-ghost use Rattle.chip_bench.specs.Doing.{Assembles, AssemblesBy, Debugs, Does, Ends, Performs, PrintsText, Runs, ShowsHelp, ShowsVersion, Tells};
+ghost use Rattle.chip_bench.specs.Doing.{Assembles, AssemblesBy, Debugs, Does, Ends, Performs, Runs, ShowsHelp, ShowsVersion, Tells};
 ghost use Rattle.chip_arguments.specs.CommandArguments.{argument_faults};
 ghost use Rattle.std.specs.Io.KnownBytes.{Keeps};
 ghost use Rattle.std.specs.IoError.{error_kind};
@@ -143,7 +141,13 @@ fn carry_out<'a, F: FileAccess + Clock, S: AsStr, I: Read, O: Write, E: Write>(
             mem::forget(line);
             ended
         }
-        Err(help) if !help.use_stderr() => show_help(system.alloc, &help, output),
+        Err(help) if !help.use_stderr() => match help.kind() {
+            ErrorKind::DisplayVersion => deliver(version(system.alloc), output),
+            _ => {
+                let text = format!(in system.alloc; "{help}")?;
+                print(text.as_bytes(), Ending::Done, output)
+            }
+        },
         Err(fault) => Err(Failure::from(fault)),
     }
 }
@@ -196,26 +200,6 @@ fn perform<'a, F: FileAccess + Clock, I: Read, O: Write, E: Write>(
         CommandLine::Explain { code } => {
             let answer = explain(system.alloc, *code)?;
             deliver(Ok(answer), output)
-        }
-    }
-}
-
-// Prints help or the version, of which only the version's text is known to contracts.
-fn show_help<'a, O: Write>(
-    alloc: Global,
-    help: &clap::Error,
-    output: &mut Counted<O>,
-) -> Result<Ending, Failure<'a>>
-    ensures version { kind_of help.now ≡ ErrorKind.DisplayVersion
-        → Prints O.contents output.old output.new (printed version_text Ending.Done) result }
-    ensures help { kind_of help.now ≡ ErrorKind.DisplayHelp
-        → PrintsText O.contents output.old output.new result }
-{
-    match help.kind() {
-        ErrorKind::DisplayVersion => deliver(version(alloc), output),
-        _ => {
-            let text = format!(in alloc; "{help}")?;
-            print(text.as_bytes(), Ending::Done, output)
         }
     }
 }
