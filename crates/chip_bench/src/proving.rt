@@ -354,7 +354,12 @@ impl<'p, 'a, F: FileAccess> Prover<'p, 'a, F> {
             return Ok(told);
         }
         let next = self.next(&left, teller);
-        let told = told.after(&next.explored);
+        let told = Told {
+            states: told.states.max(next.explored.states),
+            is_short: told.is_short || next.explored.is_short,
+            is_late: told.is_late || next.explored.is_stopped,
+            ..told
+        };
         match next.place {
             Some(place) => {
                 let head = left.take(place);
@@ -620,18 +625,6 @@ impl Told {
             Ending::Faulty
         } else {
             Ending::Done
-        }
-    }
-
-    /// After another search.
-    fn after(self, explored: &Explored) -> Told
-        ensures { result.is_bad ≡ self.is_bad }
-    {
-        Told {
-            states: self.states.max(explored.states),
-            is_short: self.is_short || explored.is_short,
-            is_late: self.is_late || explored.is_stopped,
-            ..self
         }
     }
 }

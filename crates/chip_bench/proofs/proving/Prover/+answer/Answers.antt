@@ -5,7 +5,7 @@ use Rattle.chip_bench.proofs.NextLemmas.{at_each, at_place, is_within}
 use Rattle.chip_bench.proofs.PropertiesLemmas.{even_after, fewer, no_heads}
 use Rattle.chip_bench.proofs.ProvingLemmas.{comes_all, comes_all_stopped, comes_none, comes_on, comes_stopped, comes_unwritten, others_left}
 use Rattle.chip_bench.proofs.proving.Prover.+answer.Goals as goal
-use Rattle.chip_bench.proofs.proving.Prover.+answer.Goals.{then-told, else-told, then-told-2, else-told-2}
+use Rattle.chip_bench.proofs.proving.Prover.+answer.Goals.{then-told-3, else-told-3, then-told-4, else-told-4}
 
 pub returns-then-is_empty : goal.returns-then-is_empty
 returns-then-is_empty g t c = λ asked is.
@@ -56,14 +56,14 @@ returns-in-Some g t c = λ asked is.
     let within = is_within c.next-next.result.place c.in-Some.place (length c.args.left.heads.items) (sym c.in-Some.is) c.next-next.ensures.within in
     let took = c.take-head.ensures in
     let bad = c.in_ok-is_bad-in-Some.is_bad in
-    let now : c.if-told.told ≡ (c.after-told.result.is_bad || bad) = elim c.if-told.branch [
-      | then-told w ↦ w.told-is ∙ w.if-told.true ∙ sym (ap (λ b. b || bad) w.if-told.true)
-      | else-told w ↦ w.told-is ∙ sym (ap (λ b. b || bad) w.if-told.false)
+    let now : c.if-told-3.told ≡ (c.args.told.is_bad || bad) = elim c.if-told-3.branch [
+      | then-told-3 w ↦ w.told-is ∙ w.if-told-3.true ∙ sym (ap (λ b. b || bad) w.if-told-3.true)
+      | else-told-3 w ↦ w.told-is ∙ sym (ap (λ b. b || bad) w.if-told-3.false)
     ] in
     comes_on p.arguments.now p.source.now.lines p.rate p.keys p.start.now g.O.Write.contents asked c.args.left c.take-head.new.self next.explored c.in-Some.place
     c.take-head.result is says took.head within took.heads took.properties c.args.output.now c.tell.new.output
-    c.in_ok-is_bad-in-Some.ensures.written c.answer.new.output c.args.told.is_bad c.if-told.told bad c.answer.result c.in_ok-is_bad-in-Some.ensures.bad
-    (now ∙ ap (λ b. b || bad) c.after-told.ensures)
+    c.in_ok-is_bad-in-Some.ensures.written c.answer.new.output c.args.told.is_bad c.if-told-3.told bad c.answer.result c.in_ok-is_bad-in-Some.ensures.bad
+    now
     (c.answer.ensures (remove asked c.in-Some.place)
     (others_left p.arguments.now p.source.now.lines p.rate p.keys p.start.now g.O.Write.contents asked c.args.left c.take-head.new.self next.explored c.in-Some.place
     c.take-head.result is says took.head within took.heads took.properties))
@@ -75,7 +75,7 @@ returns-in_err-is_bad-in-None g t c = λ asked is.
     let each = at_each p.arguments.now p.rate p.keys p.start.now asked next (c.next-next.ensures.right asked is) (sym c.in-None.is) in
     let e = err_from_is_err_and c.from_residual-in_err-is_bad-in-None.result c.from_residual-in_err-is_bad-in-None.ensures.1 in
     comes_all_stopped p.arguments.now p.source.now.lines p.rate p.keys p.start.now g.O.Write.contents c.args.output.now c.tell-in-None.new.output asked
-    c.deref.result.now next.explored c.args.told c.after-told.result (c.deref.ensures.value ∙ is.heads) each
+    c.deref.result.now next.explored c.args.told c.args.told (c.deref.ensures.value ∙ is.heads) each
     c.from_residual-in_err-is_bad-in-None.result _ (e.1 ∙ ap (λ why. Err why) e.2) c.in_err-is_bad-in-None.ensures.written
 
 pub returns : goal.returns
@@ -84,10 +84,10 @@ returns g t c = λ asked is.
     let next = c.next-next.result in
     let each = at_each p.arguments.now p.rate p.keys p.start.now asked next (c.next-next.ensures.right asked is) (sym c.in-None.is) in
     let bad = c.in_ok-is_bad-in-None.is_bad in
-    let now : c.if-told-2.result ≡ (c.after-told.result.is_bad || bad) = elim c.if-told-2.branch [
-      | then-told-2 w ↦ w.result-is ∙ w.if-told-2.true ∙ sym (ap (λ b. b || bad) w.if-told-2.true)
-      | else-told-2 w ↦ w.result-is ∙ sym (ap (λ b. b || bad) w.if-told-2.false)
+    let now : c.if-told-4.result ≡ (c.args.told.is_bad || bad) = elim c.if-told-4.branch [
+      | then-told-4 w ↦ w.result-is ∙ w.if-told-4.true ∙ sym (ap (λ b. b || bad) w.if-told-4.true)
+      | else-told-4 w ↦ w.result-is ∙ sym (ap (λ b. b || bad) w.if-told-4.false)
     ] in
     comes_all p.arguments.now p.source.now.lines p.rate p.keys p.start.now g.O.Write.contents c.args.output.now c.tell-in-None.new.output asked
     c.deref.result.now next.explored c.args.told _ (c.deref.ensures.value ∙ is.heads) each
-    bad c.in_ok-is_bad-in-None.ensures.bad c.in_ok-is_bad-in-None.ensures.written (now ∙ ap (λ b. b || bad) c.after-told.ensures)
+    bad c.in_ok-is_bad-in-None.ensures.bad c.in_ok-is_bad-in-None.ensures.written now
