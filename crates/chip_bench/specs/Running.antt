@@ -1,5 +1,5 @@
 -- What a run of the program reads, writes and answers (own).
-use Rattle.std.specs.Prelude.{◌≡◌, ◌≢◌, ◌⊎◌, ℕ, ◌+◌, Bool, List, [], Option, Some, None, Result, Ok, Err, if◌then◌else◌}
+use Rattle.std.specs.Prelude.{◌≡◌, ◌≢◌, ◌⊎◌, ℕ, ◌+◌, Bool, List, [], Option, Some, Result, Ok, Err, if◌then◌else◌}
 use Rattle.chip_asm.specs.Lines.{open_fault}
 use Rattle.chip_asm.specs.declared.limits.TheConstants.{SOURCE_BYTES}
 use Rattle.chip_asm.specs.declared.refusal.OpenError.{OpenError}
