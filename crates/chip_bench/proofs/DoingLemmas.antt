@@ -1,17 +1,16 @@
 -- What each command did, from what its steps did.
-use Rattle.std.proofs.Common.{◌≡◌, ◌⊎◌, inl, inr, ℕ, Bool, true, false, List, [], ◌++◌, append_assoc, Option, Some, None, Result, Ok, Err, IfOk, IfErr, length, ◌≤◌, refl, sym, ◌∙◌, ap, subst}
+use Rattle.std.proofs.Common.{◌≡◌, ◌⊎◌, inl, inr, ℕ, Bool, true, false, List, [], ◌++◌, append_assoc, Option, Some, None, Result, Ok, Err, IfErr, length, ◌≤◌, refl, sym, ◌∙◌, ap, subst}
 use Rattle.std.specs.Prelude.{IsErrAnd, MatchOption}
 use Rattle.std.specs.Borrow.{Bor}
 use Rattle.chip_asm.specs.Lines.{lines_of, open_fault}
 use Rattle.chip_asm.specs.Program.{image_of}
-use Rattle.chip_lang.specs.declared.limits.TheConstants.{IMAGE_BYTES}
 use Rattle.chip_views.specs.Dis.{source_of_image}
-use Rattle.chip_bench.specs.Doing.{AsSource, Assembles, AssemblesBy, Debugs, Declined, Does, FromGiven, FromKeys, FromSource, GivesSource, IfSettled, IsExplanation, IsImageRefused, IsShort, IsSourceUnread, IsUnexplained, IsUnsettled, Outcome, Pictures, PicturesBy, Runs, Tells, Traces, TracesBy, WithAsked}
-use Rattle.chip_bench.specs.inner.Reads.{IsAsked, IsGiven, IsKeysUnread, IsNotGiven, IsNotTaken, IsTaken, IsUnasked}
+use Rattle.chip_bench.specs.Doing.{AsSource, Assembles, AssemblesBy, Debugs, Declined, Does, FromGiven, FromKeys, FromSource, IfSettled, IsExplanation, IsImageRefused, IsShort, IsSourceUnread, IsUnexplained, IsUnsettled, Outcome, Pictures, PicturesBy, Runs, Tells, Traces, TracesBy, WithAsked}
+use Rattle.chip_bench.specs.inner.Reads.{IsAsked, IsGiven, IsNotGiven, IsNotTaken, IsTaken, IsUnasked}
 use Rattle.chip_pages.specs.Pages.{IsExplained}
 use Rattle.chip_bench.specs.Printing.{IfOpens, Printed, Prints, WithSession, printed, printed_run}
 use Rattle.chip_arguments.specs.declared.command_line.PictureArguments.{PictureArguments}
-use Rattle.chip_bench.specs.Running.{AnswersScript, IsUnread, IsUnreadWithin}
+use Rattle.chip_bench.specs.Running.{AnswersScript, IsUnreadWithin}
 use Rattle.chip_bench.specs.declared.limits.TheConstants.{KEY_FILE_BYTES}
 use Rattle.chip_session.specs.Settings.{SessionSettings}
 use Rattle.chip_bench.specs.SettingArguments.{settings_asked}
@@ -57,15 +56,6 @@ module _ {R : Type 0} (remaining : R → Option (List ℕ)) (in_old in_new : Tal
   pub source_unread : (name : Bor (List ℕ)) (Did : List ℕ → Outcome → Type 0) (ended : Outcome) (why : Failure) → ended ≡ Err why →
       IsSourceUnread in_old in_new name why → FromSource remaining in_old in_new Unwritten name Did ended
   source_unread name Did ended why e w = inr (fails (IsSourceUnread in_old in_new name) ended why e w, quiet)
-
-  pub source_read : (name : Bor (List ℕ)) (bytes text : List ℕ) (Did : List ℕ → Outcome → Type 0) (ended : Outcome) → text ≡ bytes →
-      GivesSource remaining in_old in_new name.now bytes → Did text ended → FromSource remaining in_old in_new Unwritten name Did ended
-  source_read name bytes text Did ended same gives did = inl (bytes, gives, subst (λ (t : List ℕ). Did t ended) same did)
-
-  pub keys_unread : (keys : Option (Bor (List ℕ))) (Did : List ℕ → Outcome → Type 0) (ended : Outcome) (why : Failure) → ended ≡ Err why →
-      in_new ≡ in_old → IsKeysUnread keys why → FromKeys remaining in_old in_new Unwritten keys Did ended
-  keys_unread None Did ended why e same w = absurd w
-  keys_unread (Some name) Did ended why e same w = inr (declines (IsUnreadWithin KEY_FILE_BYTES name) ended why e w same)
 
   pub keys_read : (keys : Option (Bor (List ℕ))) (bytes : List ℕ) (Did : List ℕ → Outcome → Type 0) (ended : Outcome) →
       (keys ≡ None → bytes ≡ []) → length bytes ≤ KEY_FILE_BYTES → Did bytes ended → FromKeys remaining in_old in_new Unwritten keys Did ended
@@ -153,39 +143,6 @@ module _ {R : Type 0} (remaining : R → Option (List ℕ)) (in_old in_new : Tal
       asked_next remaining in_old in_new (Unit {0}) V (Err why) ended (λ Why h. (fails Why ended why e h, quiet)) arguments
       (λ settings keys source done. ⊥) Did (λ settings keys source none. absurd none) is
 
-module _ {R : Type 0} (remaining : R → Option (List ℕ)) (in_old in_new : Tally R) (is_image : Bool) (name : Bor (List ℕ)) where
-  -- bytes were read, and they are a source
-  pub given_is : {E : Type 0} {S : Type 0} (items : S → List ℕ) (bytes : List ℕ) (result : Result S E) → GivesSource remaining in_old in_new name.now bytes →
-      IfOk result (λ source. IsTaken is_image name bytes (items source)) →
-      IfOk result (λ source. IsGiven remaining in_old in_new is_image name (items source))
-  given_is items bytes (Ok source) gives taken = inl (bytes, gives, taken)
-  given_is items bytes (Err e) gives taken = tt
-
-  -- or they are refused
-  pub given_not : {S : Type 0} (bytes : List ℕ) (result : Result S Failure) → GivesSource remaining in_old in_new name.now bytes →
-      IfErr result (IsNotTaken is_image name bytes) → IfErr result (IsNotGiven remaining in_old in_new is_image name)
-  given_not bytes (Ok source) gives refused = tt
-  given_not bytes (Err why) gives refused = inl (bytes, gives, refused)
-
-  -- no bytes were read
-  pub given_unread : {S : Type 0} (result : Result S Failure) (why : Failure) → result ≡ Err why → IsSourceUnread in_old in_new name why →
-      IfErr result (IsNotGiven remaining in_old in_new is_image name)
-  given_unread {S} result why e w =
-      subst (λ (r : Result S Failure). IfErr r (IsNotGiven remaining in_old in_new is_image name)) (sym e)
-      (source_unread remaining in_old in_new (Unit {0}) tt name (AsSource is_image name (Unit {0}) (λ source ended. ⊥)) (Err why) why refl w)
-
--- the source that an image is
-pub taken_image : {E : Type 0} {S : Type 0} (items : S → List ℕ) (name : Bor (List ℕ)) (image : List ℕ) (result : Result S E) →
-    IfOk result (λ source. (length image ≤ IMAGE_BYTES) × (items source ≡ source_of_image image)) →
-    IfOk result (λ source. IsTaken true name image (items source))
-taken_image items name image (Ok source) is = inl (is.0, sym is.1)
-taken_image items name image (Err e) is = tt
-
-pub taken_not : {S : Type 0} (name : Bor (List ℕ)) (image : List ℕ) (result : Result S Failure) → IfErr result (IsImageRefused name image) →
-    IfErr result (IsNotTaken true name image)
-taken_not name image (Ok source) is = tt
-taken_not name image (Err why) is = inr (is, tt)
-
 module _ {R W : Type 0} (remaining : R → Option (List ℕ)) (contents : W → Option (List ℕ)) (in_old in_new : Tally R) (out_old out_new : Tally W) where
   -- a session on the bytes of a file
   pub debugs_file : (source : Option (Bor (List ℕ))) (is_image : Bool) (name : Bor (List ℕ)) (arguments : SettingArguments) (settings : SessionSettings)
@@ -201,12 +158,6 @@ module _ {R W : Type 0} (remaining : R → Option (List ℕ)) (contents : W → 
       by_kind false is = rw is script
       by_kind true (inl (short, is)) = inl (short, rw is script)
       by_kind true (inr (none, _)) = absurd none
-
-  -- on the empty source
-  pub debugs_none : (source : Option (Bor (List ℕ))) (is_image : Bool) (arguments : SettingArguments) (settings : SessionSettings) (ended : Outcome) → source ≡ None →
-      settings_asked arguments ≡ Some settings → AnswersScript remaining contents settings [] in_old in_new out_old out_new ended →
-      Debugs remaining contents in_old in_new out_old out_new source is_image arguments ended
-  debugs_none source is_image arguments settings ended none asked script = rw (none, asked) script
 
   pub does_it : (takes_color : Bool) (asked other : CommandLine) (ended : Outcome) → asked ≡ other →
       Does remaining contents in_old in_new out_old out_new takes_color other ended → Does remaining contents in_old in_new out_old out_new takes_color asked ended
@@ -226,13 +177,6 @@ module _ {R W : Type 0} (remaining : R → Option (List ℕ)) (contents : W → 
       by_asked (Some settings) (inl m) = (Err fault.OutOfMemory, (e ∙ ap (λ f. Err f) m, stays_put remaining contents settings input output))
       by_asked (Some settings) (inr b) = absurd (let n : Some settings ≡ None = b.1 in cc)
   debugs_unsettled (Some name) is_image arguments ended why e u = unsettles remaining input input (output ≡ output) refl (settings_asked arguments) _ ended why e refl u
-
-  -- the file can't be read
-  pub debugs_unread : (source : Option (Bor (List ℕ))) (is_image : Bool) (name : Bor (List ℕ)) (arguments : SettingArguments) (settings : SessionSettings)
-      (ended : Outcome) (why : Failure) → ended ≡ Err why → source ≡ Some name → settings_asked arguments ≡ Some settings → IsUnread name why →
-      Debugs remaining contents input input output output source is_image arguments ended
-  debugs_unread source is_image name arguments settings ended why e some asked w =
-      rw (some, asked) (inl (inr (declines remaining input input (output ≡ output) refl (IsUnread name) ended why e w refl)))
 
   -- it is an image that is refused
   pub debugs_refused : (source : Option (Bor (List ℕ))) (is_image : Bool) (name : Bor (List ℕ)) (arguments : SettingArguments) (settings : SessionSettings)

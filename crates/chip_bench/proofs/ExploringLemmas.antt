@@ -27,7 +27,7 @@ use Rattle.chip_bench.specs.declared.ending.Failure.TheVariants as failure
 use Rattle.chip_bench.specs.inner.Reads.{IsGiven, IsNotGiven}
 use Rattle.chip_bench.specs.inner.Sets.{IsBadSets}
 use Rattle.chip_bench.specs.inner.Written.{IsNamedWritten, IsScriptWritten}
-use Rattle.chip_bench.proofs.DoingLemmas.{Unsettles, declines, fails, given_else, given_then, settles, unsettles}
+use Rattle.chip_bench.proofs.DoingLemmas.{declines, fails, given_else, given_then, settles}
 
 some_is_none : {k : ℕ} → Some k ≡ None → ⊥
 some_is_none h = cc
@@ -77,12 +77,6 @@ module _ {R W : Type 0} (remaining : R → Option (List ℕ)) (contents : W → 
 
   abbrev WithIts : SessionSettings → Outcome → Type 0
   WithIts settings = WithSets remaining in_old in_new (out_new ≡ out_old) arguments (Did settings)
-
-  -- there are no settings
-  pub explores_unsettled : (why : Failure) → ended ≡ Err why → in_new ≡ in_old → out_new ≡ out_old → Unsettles (settings_asked arguments.search.settings) why →
-      Explores remaining contents in_old in_new out_old out_new arguments ended
-  explores_unsettled why e same quiet u =
-      unsettles remaining in_old in_new (out_new ≡ out_old) quiet (settings_asked arguments.search.settings) WithIts ended why e same u
 
   -- a set is bad
   pub explores_bad : (settings : SessionSettings) (why : Failure) → settings_asked arguments.search.settings ≡ Some settings → ended ≡ Err why → in_new ≡ in_old →

@@ -106,10 +106,6 @@ place_within k count (Later events step met.Address covered) e = cc
 place_within k count (Within n) e = cc
 place_within k count Never e = cc
 
-pub met_within : (count : ℕ) (outcome : Outcome) (place : Option ℕ) → place ≡ met_property outcome count → IfSome place (λ n. n < count)
-met_within count outcome (Some k) met = place_within k count outcome met
-met_within count outcome None met = tt
-
 pub is_within : (place : Option ℕ) (k count : ℕ) → Some k ≡ place → IfSome place (λ n. n < count) → k < count
 is_within place k count is within = rw (sym is) at within
 

@@ -1,5 +1,5 @@
 -- What is printed of a source that opens.
-use Rattle.std.proofs.Common.{◌≡◌, ◌∙◌, ◌⊎◌, inl, inr, ap, ℕ, Bool, false, true, List, Option, None, Some, Result, Ok, Err, IfErr, IfOk, refl, subst, sym}
+use Rattle.std.proofs.Common.{◌≡◌, ◌∙◌, inl, inr, ap, ℕ, Bool, false, true, List, Option, None, Some, Result, Ok, Err, IfErr, IfOk, refl, subst, sym}
 use Rattle.std.specs.Prelude.{IsErr, IsOkAnd}
 use Rattle.chip_asm.specs.Lines.{lines_of, open_fault}
 use Rattle.chip_asm.specs.Program.{image_of}

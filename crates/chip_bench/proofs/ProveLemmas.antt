@@ -1,5 +1,5 @@
 -- What the command `prove` did with a source.
-use Rattle.std.proofs.Common.{◌≡◌, ◌⊎◌, inl, inr, ℕ, Bool, true, false, List, Option, Some, None, Ok, Err, refl, sym, ◌∙◌, ap, subst}
+use Rattle.std.proofs.Common.{◌≡◌, ◌⊎◌, inl, inr, ℕ, true, false, List, Option, Some, None, Err, refl, sym, ◌∙◌, ap, subst}
 use Rattle.std.specs.Prelude.{option_copied}
 use Rattle.chip_arguments.specs.declared.command_line.ProveArguments.{ProveArguments}
 use Rattle.chip_asm.specs.Lines.{lines_of, open_fault}
@@ -13,20 +13,17 @@ use Rattle.chip_session.specs.Settings.{SessionSettings}
 use Rattle.chip_session.specs.Tally.{Tally}
 use Rattle.chip_bench.specs.Doing.{Fails, FromSource, GivesSource, IfSet, IfSettled, IsBadSet, IsShort, IsSourceUnread, Outcome, Proves, ProvesBy, ProvesWith, image_if_opened, image_in}
 use Rattle.chip_bench.specs.Exploring.{AsksSet, key_named, usual_keys}
-use Rattle.chip_bench.specs.Printing.{IsCheckText, IsPrintedCheckOf, Prints, PrintsSuch, ending_with, printed, unopened_check}
+use Rattle.chip_bench.specs.Printing.{IsCheckText, IsPrintedCheckOf, Prints, ending_with, printed, unopened_check}
 use Rattle.chip_bench.specs.SettingArguments.{settings_asked}
 use Rattle.chip_bench.specs.declared.ending.Ending.TheVariants.{Faulty}
 use Rattle.chip_bench.specs.declared.ending.Failure.{Failure}
 use Rattle.chip_bench.specs.declared.ending.Failure.TheVariants as failure
-use Rattle.chip_bench.proofs.DoingLemmas.{Unsettles, declines, fails, settles, source_unread, unsettles}
+use Rattle.chip_bench.proofs.DoingLemmas.{Unsettles, declines, fails, source_unread, unsettles}
 
 module _ {W : Type 0} (contents : W → Option (List ℕ)) (out_old out_new : Tally W) (arguments : ProveArguments) (settings : SessionSettings) (keys : ℕ)
     (bytes : List ℕ) (ended : Outcome) where
   abbrev pub By : Option (List ℕ) → Type 0
   By image = ProvesBy contents out_old out_new arguments settings keys image bytes ended
-
-  abbrev pub Faulted : Type 0
-  Faulted = PrintsSuch contents out_old out_new (IsPrintedCheckOf arguments.is_json false true arguments.search.source.now (open_fault bytes) (lines_of bytes)) ended
 
   -- memory ran out
   pub by_short : (image : Option (List ℕ)) → ended ≡ Err failure.OutOfMemory → out_new ≡ out_old → By image

@@ -116,13 +116,6 @@ module _ {W : Type 0} (contents : W → Option (List ℕ)) where
       counted = f.counted;
     }
 
-    pub all_more : {T : Type 0} (result : Result T Failure) (why : Failure) → result ≡ Err why → WritesAll contents old new a result
-        → WritesAll contents old new (a ++ b) result
-    all_more (Ok value) why e w = cc
-    all_more (Err failure.Output) why e w = breaks_more w
-    all_more (Err failure.OutOfMemory) why e w = front_more w
-    all_more (Err _) why e w = absurd w
-
 -- ---- properties by their places
 
 map_remove : {A B : Type 0} (f : A → B) (xs : List A) (i : ℕ) → remove (map f xs) i ≡ map f (remove xs i)

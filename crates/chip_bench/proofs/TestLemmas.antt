@@ -96,9 +96,6 @@ module _ {A : Type 0} (Judges : A → Bool → Type 0) (xs : List A) where
   abbrev pub JudgesSoFar : ℕ → Bool → Type 0
   JudgesSoFar place passes = (others : Bool) → JudgesAll Judges (drop place xs) others → JudgesAll Judges xs (passes && others)
 
-  pub judges_none : JudgesSoFar 0 true
-  judges_none others judged = judged
-
   associates : (a b c : Bool) → (a && (b && c)) ≡ ((a && b) && c)
   associates true b c = refl
   associates false b c = refl

@@ -1,7 +1,5 @@
 -- What a command prints part by part, and what `trace` prints.
-use Rattle.std.proofs.Common.{◌≡◌, ◌⊎◌, inl, inr, ℕ, ◌<◌, Bool, true, false, List, [], ◌∷◌, ◌++◌, append_assoc, append-nil, Option, Some, None, Result, Ok, Err, refl, sym, ◌∙◌, ap, take, drop, length, arith}
-use Rattle.chip_asm.specs.Program.{image_of}
-use Rattle.chip_asm.specs.declared.refusal.OpenError.TheVariants as unopened
+use Rattle.std.proofs.Common.{◌≡◌, inl, inr, ℕ, ◌<◌, Bool, true, false, List, [], ◌∷◌, ◌++◌, append_assoc, append-nil, Option, Some, None, Result, Ok, Err, refl, sym, ◌∙◌, ap, take, drop, length, arith}
 use Rattle.chip_bench.specs.Doing.{ShowsTrace}
 use Rattle.chip_bench.specs.Printing.{Printed, Prints, Streams, WritesFront, printed, printed_faults, unanswered}
 use Rattle.chip_session.specs.Session.{Session}
@@ -14,12 +12,11 @@ use Rattle.chip_bench.specs.declared.ending.Ending.TheVariants.{Done}
 use Rattle.chip_bench.specs.declared.ending.Failure.{Failure}
 use Rattle.chip_bench.specs.declared.ending.Failure.TheVariants as failure
 use Rattle.chip_session.specs.declared.refusal.Refusal.{Refusal}
-use Rattle.chip_session.specs.declared.refusal.Refusal.TheVariants.{NoImage}
 use Rattle.chip_bench.specs.declared.tracing.Shown.{Shown}
 use Rattle.chip_lang.specs.Meter.{one_more}
 use Rattle.chip_trace.specs.Lines.{newline_ended}
 use Rattle.std.specs.Io.KnownBytes.{Appends}
-use Rattle.std.specs.Prelude.{IsTrue, ◌↔◌, is_none}
+use Rattle.std.specs.Prelude.{IsTrue, ◌↔◌}
 use Rattle.std.proofs.lemmas.Bool.{cases_lt}
 use Rattle.std.proofs.lemmas.Grind.{flat_map-append}
 use Rattle.std.proofs.lemmas.List.{drop_all, length-drop, take-append-drop}
@@ -48,14 +45,6 @@ module _ {W : Type 0} (contents : W → Option (List ℕ)) (old new : Tally W) w
       rw refused (streams_prints (unanswered why (printed_faults session.lines)) result prints)
   refused_trace shown (Some theirs) session why result refused prints =
       rw refused (inl (unanswered why (printed_faults session.lines), refl, prints))
-
--- there is an image where there is a trace
-pub has_image : (session : Session) (shown : Shown) → trace_refusal session shown ≡ None → is_none (image_of session.lines) ≡ false
-has_image session shown e = by (image_of session.lines) refl
-  where
-    by : (image : Option (List ℕ)) → image_of session.lines ≡ image → is_none (image_of session.lines) ≡ false
-    by None i = absurd (let r : Some NoImage ≡ None = rw i at e in cc)
-    by (Some bytes) i = rw i refl
 
 -- no line remains after the last ones
 pub none_left : (all : List (List ℕ)) (most : ℕ) (more : Bool) → more ≡ false → IsTrue more ↔ (most < length all) → drop most all ≡ []

@@ -1,4 +1,4 @@
-use Rattle.std.proofs.Common.{◌∙◌, List, ℕ, codes, ap}
+use Rattle.std.proofs.Common.{List, ℕ, codes, ap}
 use Rattle.chip_bench.specs.Printing.{printed}
 use Rattle.chip_arguments.specs.declared.commands.TheConstants.{VERSION}
 use Rattle.chip_bench.specs.declared.ending.Ending.TheVariants.{Done}

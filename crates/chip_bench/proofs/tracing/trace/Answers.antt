@@ -1,9 +1,9 @@
 use Rattle.std.proofs.lemmas.Result.{err_from_is_err_and}
-use Rattle.std.proofs.Common.{rules, ◌≡◌, ◌∙◌, ap, refl, sym, subst, Err, None, Some, List, ℕ, inl, inr}
+use Rattle.std.proofs.Common.{rules, ◌≡◌, ◌∙◌, ap, refl, subst, Err, None, Some, List, ℕ, inl, inr}
 use Rattle.std.specs.Str.Lines.{lines}
 use Rattle.chip_trace.specs.Header.{header_fault}
 use Rattle.chip_trace.specs.declared.form.Form.TheVariants.{Fields}
-use Rattle.chip_bench.specs.Doing.{ShowsTrace, TracesBeside, shown_beside, shown_by}
+use Rattle.chip_bench.specs.Doing.{ShowsTrace, TracesBeside, shown_by}
 use Rattle.chip_bench.specs.Printing.{WithSession}
 use Rattle.chip_bench.specs.Running.{IsUnreadWithin}
 use Rattle.chip_bench.specs.Tracing.{below_machine, header_of, lines_after}
