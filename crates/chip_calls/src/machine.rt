@@ -9,8 +9,8 @@
 //!   addresses that it touched. `steps FROM COUNT KEYS`: so many steps at once, of which the first
 //!   has the number FROM and each tenth ticks; `first-touch ADDRESS` asks which touched it first.
 //! - `forgotten PARTS [KEYS]`: what is forgotten after the next step with these keys down, where
-//!   these parts are before it: `i`, `screen`, a register's digit or `all`. Where that step reads
-//!   some of them, `reads` with these.
+//!   these parts are before it: `i`, or `near` where it is known to be where digits stand, `screen`, a
+//!   register's digit or `all`. Where that step needs some of them, `needs` with these.
 //! - `poke ADDRESS BYTE`, `exchange ADDRESS OLD NEW`: other bytes in the memory.
 //! - `keep`: keeps a copy. `swap`: goes on with the kept machine, and keeps this one. `take`: takes
 //!   the state of the kept one. `same-memory`: whether both have the same memory.
@@ -228,6 +228,7 @@ fn parts_of(words: &str) -> Result<Forgotten, Refused> {
         let part = match word {
             "all" => Forgotten::all(),
             "i" => Forgotten::index(),
+            "near" => Forgotten::index().alone(0),
             "screen" => Forgotten::screen(),
             _ => Forgotten::register(register_of(word)?),
         };
@@ -248,7 +249,7 @@ fn register_of(word: &str) -> Result<Reg, Refused> {
     }
 }
 
-/// What is forgotten after the next step, or what that step reads.
+/// What is forgotten after the next step, or what that step needs.
 fn push_forgotten(out: &mut Reply, machine: &mut Machine, rest: &str) -> Result<(), Refused> {
     let (words, keys) = split_word(rest);
     let keys = if keys.is_empty() {
@@ -259,7 +260,7 @@ fn push_forgotten(out: &mut Reply, machine: &mut Machine, rest: &str) -> Result<
     match machine.forgotten_after(parts_of(words)?, keys) {
         Ok(after) => push_parts(out, after),
         Err(read) => {
-            out.text("reads ");
+            out.text("needs ");
             push_parts(out, read);
         }
     }
@@ -268,7 +269,7 @@ fn push_forgotten(out: &mut Reply, machine: &mut Machine, rest: &str) -> Result<
 
 /// The names of some parts.
 fn push_parts(out: &mut Reply, parts: Forgotten) {
-    if parts == Forgotten::nothing() {
+    if parts.is_nothing() {
         out.text("nothing");
         return;
     }
@@ -280,14 +281,17 @@ fn push_parts(out: &mut Reply, parts: Forgotten) {
             blank = " ";
         }
     }
-    if parts.has_index() {
-        out.text(blank);
-        out.text("i");
-        blank = " ";
-    }
-    if parts.has_screen() {
-        out.text(blank);
-        out.text("screen");
+    for (has_part, name) in [
+        (parts.has_index(), "i"),
+        (parts.has_far(), "far"),
+        (parts.has_screen(), "screen"),
+        (parts.has_bytes(), "bytes"),
+    ] {
+        if has_part {
+            out.text(blank);
+            out.text(name);
+            blank = " ";
+        }
     }
 }
 

@@ -1,10 +1,11 @@
 -- States that are alike in all but what is forgotten.
-use Rattle.std.proofs.Common.{◌≡◌, ◌==◌, ◌-◌, ℕ, Bool, true, false, is_some, nat_le, slice_set, ap, sym, ◌∙◌, refl, arith}
+use Rattle.std.proofs.Common.{◌≡◌, ◌==◌, ◌-◌, ◌<◌, ℕ, Bool, true, false, inl, inr, is_some, nat_le, slice_set, ap, subst, sym, ◌∙◌, refl, arith}
 use Rattle.std.proofs.lemmas.Bool.{and_right}
 use Rattle.std.proofs.lemmas.List.{get_or-set_other, length-set}
 use Rattle.std.proofs.lemmas.Nat.Bits.{bit_at-zero}
-use Rattle.chip_machine.specs.Forgotten.{AreWithin, has_byte, has_part, register_part, index_part, screen_part}
-use Rattle.chip_machine.specs.Relevant.{Alike}
+use Rattle.chip_machine.specs.Forgotten.{AreWithin, far_part, has_byte, has_part, register_part, index_part, screen_part}
+use Rattle.chip_machine.specs.Relevant.{Alike, AreNear}
+use Rattle.chip_machine.specs.declared.limits.TheConstants.{DIGITS_END}
 use Rattle.chip_machine.specs.State.{Core, State, IsProper, with_memory}
 use Rattle.chip_explore.specs.declared.setting.Setting.{Setting}
 use Rattle.chip_explore.specs.inner.Delays.{AlikeTicks, with_delay}
@@ -41,9 +42,19 @@ alike_same s proper =
       count = refl;
       registers = λ going x known. refl;
       index = λ going known. refl;
+      near = λ going known. inl refl;
       screen = λ going known. refl;
       memory = λ going at known. refl;
     }
+
+near_turned : (i j : ℕ) → AreNear i j → AreNear j i
+near_turned i j (inl same) = inl (sym same)
+near_turned i j (inr low) = inr (low.1, low.0)
+
+near_through : (i j k : ℕ) → AreNear i j → AreNear j k → AreNear i k
+near_through i j k (inl same) there = subst (λ (n : ℕ). AreNear n k) (sym same) there
+near_through i j k (inr low) (inl same) = inr (low.0, subst (λ (n : ℕ). n < DIGITS_END) same low.1)
+near_through i j k (inr low) (inr more) = inr (low.0, more.1)
 
 module _ (f : ℕ) (a b : State) (h : Alike f a b) where
   pub same_stop : is_some a.core.stopped ≡ is_some b.core.stopped
@@ -59,6 +70,7 @@ module _ (f : ℕ) (a b : State) (h : Alike f a b) where
         count = sym h.count;
         registers = λ going x known. sym (h.registers (same_stop ∙ going) x known);
         index = λ going known. sym (h.index (same_stop ∙ going) known);
+        near = λ going known. near_turned a.core.index b.core.index (h.near (same_stop ∙ going) known);
         screen = λ going known. sym (h.screen (same_stop ∙ going) known);
         memory = λ going at known. sym (h.memory (same_stop ∙ going) at known);
       }
@@ -73,6 +85,7 @@ module _ (f : ℕ) (a b : State) (h : Alike f a b) where
         count = h.count;
         registers = λ going x known. h.registers going x (unless (has_part f (register_part x)) (has_part g (register_part x)) (within.parts (register_part x)) known);
         index = λ going known. h.index going (unless (has_part f index_part) (has_part g index_part) (within.parts index_part) known);
+        near = λ going known. h.near going (unless (has_part f far_part) (has_part g far_part) (within.parts far_part) known);
         screen = λ going known. h.screen going (unless (has_part f screen_part) (has_part g screen_part) (within.parts screen_part) known);
         memory = λ going at known. h.memory going at (unless (has_byte f at) (has_byte g at) (within.bytes at) known);
       }
@@ -87,6 +100,7 @@ module _ (f : ℕ) (a b : State) (h : Alike f a b) where
         count = h.count ∙ k.count;
         registers = λ going x known. h.registers going x known ∙ k.registers (sym same_stop ∙ going) x known;
         index = λ going known. h.index going known ∙ k.index (sym same_stop ∙ going) known;
+        near = λ going known. near_through a.core.index b.core.index c.core.index (h.near going known) (k.near (sym same_stop ∙ going) known);
         screen = λ going known. h.screen going known ∙ k.screen (sym same_stop ∙ going) known;
         memory = λ going at known. h.memory going at known ∙ k.memory (sym same_stop ∙ going) at known;
       }
@@ -105,6 +119,7 @@ alike_poked f a b at byte gone h =
       count = h.count;
       registers = h.registers;
       index = h.index;
+      near = h.near;
       screen = h.screen;
       memory = λ going k known.
           get_or-set_other a.memory at k byte 0 (λ same. let here = ap (has_byte f) same in absurd (cc))

@@ -6,7 +6,7 @@ use Rattle.std.proofs.lemmas.Bool.{cases_lt, eqb-true}
 use Rattle.std.proofs.lemmas.Nat.Bits.{bit_at-zero}
 use Rattle.chip_machine.specs.Block.{ticks}
 use Rattle.chip_machine.specs.Choices.{IsChoice, IsWithin, Represents}
-use Rattle.chip_machine.specs.Forgotten.{IsUnread, IsForgottenAfter, next_instr}
+use Rattle.chip_machine.specs.Forgotten.{IsUnneeded, IsForgottenAfter, next_instr}
 use Rattle.chip_machine.specs.Relevant.{Alike, AlikeSteps, DrawsGrow}
 use Rattle.chip_machine.specs.State.{Core, State, IsProper}
 use Rattle.chip_machine.specs.Step.{effect_at, is_key_down, next, perform, settle, step_of, with_reg}
@@ -18,7 +18,7 @@ use Rattle.chip_explore.specs.Target.{met_in}
 use Rattle.chip_explore.proofs.Asked.{goals_known, goals_same, met_same}
 use Rattle.chip_explore.proofs.Halted.{goals_stopped}
 use Rattle.chip_explore.proofs.Alike.{same_stop, through_member, ticks_same}
-use Rattle.chip_explore.proofs.Delays.{Delayed, after_delayed, alike_silent, delayed_step, read_step, ticked_step, timed_reads, unread_delayed, within_bound, with_timers}
+use Rattle.chip_explore.proofs.Delays.{Delayed, after_delayed, alike_silent, delayed_step, read_step, ticked_step, timed_reads, unneeded_delayed, within_bound, with_timers}
 use Rattle.chip_explore.specs.declared.limits.TheConstants.{MOST_QUIET_STEPS}
 use Rattle.chip_explore.specs.declared.setting.Setting.{Setting}
 use Rattle.chip_explore.specs.inner.Cover.{meets_goals, phase, tick_at, View, IsFine, forgotten_at, Joins, SafeFor, Safe, GoesBy, GoesTo, IsTaken}
@@ -68,7 +68,7 @@ ticking_run rate held start (suc t) = ap (λ (s : State). step_of s (held t) (ti
 
 module _ (alike : AlikeSteps) (grow : DrawsGrow) where
   -- the same step of two states, of which the first is one of a search
-  module _ (p : Setting) (f after : ℕ) (a s : State) (keys : ℕ) (tick : Bool) (unread : IsUnread f a) (low_a : a.core.draws < 2 ^ 64 - 1) (low_s : s.core.draws < 2 ^ 64 - 1) where
+  module _ (p : Setting) (f after : ℕ) (a s : State) (keys : ℕ) (tick : Bool) (unneeded : IsUnneeded f a) (low_a : a.core.draws < 2 ^ 64 - 1) (low_s : s.core.draws < 2 ^ 64 - 1) where
     -- where the search has the timers tick as the run does
     rated : p.free ≡ false → (ours : Bool) → ours ≡ tick → AlikeTicks p f a s → IsForgottenAfter f a (step_of a keys ours).core.pc after
         → AlikeTicks p after (step_of a keys ours) (step_of s keys tick)
@@ -78,7 +78,7 @@ module _ (alike : AlikeSteps) (grow : DrawsGrow) where
           delay = (step_of a keys ours).core.delay;
           most = omega arith;
           exact = λ _. refl;
-          alike = subst (λ (t : Bool). Alike after (step_of a keys ours) (step_of s keys t)) is (alike f after a s keys ours same unread is_after low_a low_s);
+          alike = subst (λ (t : Bool). Alike after (step_of a keys ours) (step_of s keys t)) is (alike f after a s keys ours same unneeded is_after low_a low_s);
         }
 
     -- where it has free ticks: after a step without a tick, of the state with the delay timer of the run
@@ -92,7 +92,7 @@ module _ (alike : AlikeSteps) (grow : DrawsGrow) where
         let whole : step_of (with_delay d a) keys tick ≡ with_timers t.delay t.sound next = t.is ∙ ap (with_timers t.delay t.sound) delayed.is in
         let there : next.core.pc ≡ (step_of (with_delay d a) keys tick).core.pc = sym (ap (λ (b : State). b.core.pc) whole) in
         let made : Alike after (step_of (with_delay d a) keys tick) (step_of s keys tick) =
-        alike f after (with_delay d a) s keys tick same (unread_delayed a d low f unread)
+        alike f after (with_delay d a) s keys tick same (unneeded_delayed a d low f unneeded)
         (subst (λ (pc : ℕ). IsForgottenAfter f (with_delay d a) pc after) there (after_delayed a d low f next.core.pc after is_after)) low_a low_s in
         record {
           delay = t.delay;
@@ -211,22 +211,22 @@ module _ (alike : AlikeSteps) (grow : DrawsGrow) where
             }
 
         after : (f : ℕ) (a : State) (u : ℕ) → u ≤ t → phase p u ≡ phase p t → AlikeTicks p f a s → Ended a s → (is_some a.core.stopped ≡ false → are_goals_known p f a ≡ true)
-            → IsUnread f a → a.core.draws < 2 ^ 64 - 1 → timed_register p a ≡ None → GoesTo p v f a (step_of a keys (tick_at p u)) u → Later
-        after f a u early phased same ended known unread drawn none to =
+            → IsUnneeded f a → a.core.draws < 2 ^ 64 - 1 → timed_register p a ≡ None → GoesTo p v f a (step_of a keys (tick_at p u)) u → Later
+        after f a u early phased same ended known unneeded drawn none to =
             let next =
-            untimed p f to.after a s keys (ticking t) unread drawn low p.free refl (a.core.delay == 0) refl none (tick_at p u) (same_tick p.free refl u phased) same to.is_after in
+            untimed p f to.after a s keys (ticking t) unneeded drawn low p.free refl (a.core.delay == 0) refl none (tick_at p u) (same_tick p.free refl u phased) same to.is_after in
             after_by a (step_of a keys (tick_at p u)) f u early phased to next
             (ended_by f to.after a s same ended (is_some a.core.stopped) refl known keys (tick_at p u) (ticking t) next)
 
         after_member : (f : ℕ) (a : State) (u : ℕ) → u ≤ t → phase p u ≡ phase p t → AlikeTicks p f a s → Ended a s → are_goals_known p f a ≡ true
-            → IsUnread f a → a.core.draws < 2 ^ 64 - 1 → (register : Option ℕ) → timed_register p a ≡ register → GoesBy register p v f a u → Later
-        after_member f a u early phased same ended known unread drawn None none goes_on =
-            after f a u early phased same ended (λ _. known) unread drawn none (goes_on keys within)
-        after_member f a u early phased same ended known unread drawn (Some x) reads goes_on =
+            → IsUnneeded f a → a.core.draws < 2 ^ 64 - 1 → (register : Option ℕ) → timed_register p a ≡ register → GoesBy register p v f a u → Later
+        after_member f a u early phased same ended known unneeded drawn None none goes_on =
+            after f a u early phased same ended (λ _. known) unneeded drawn none (goes_on keys within)
+        after_member f a u early phased same ended known unneeded drawn (Some x) reads goes_on =
             let to = goes_on same.delay same.most in
             let told = timed_reads p a x reads in
             after_by a (read_as same.delay a) f u early phased to
-            (timed p f to.after a s keys (ticking t) unread drawn low told.0 x told.1 same to.is_after)
+            (timed p f to.after a s keys (ticking t) unneeded drawn low told.0 x told.1 same to.is_after)
             (ended_read f to.after a s same ended x same.delay (step_of s keys (ticking t)) told.1)
 
         -- from a state at the end of some steps in a row
@@ -257,7 +257,7 @@ module _ (alike : AlikeSteps) (grow : DrawsGrow) where
             after_member (forgotten_at v place) (v.member place) (slice_index v.steps place) (omega arith) (joins.phased ∙ phased)
             (through_member p f (forgotten_at v place) (v.member place) a s joins.within joins.alike same)
             (λ stops. absurd (cc))
-            member.asked member.unread member.drawn (timed_register p (v.member place)) refl member.goes_on)
+            member.asked member.unneeded member.drawn (timed_register p (v.member place)) refl member.goes_on)
             ends
 
         next_by : (moves f : ℕ) (a : State) (u : ℕ) → moves ≤ MOST_QUIET_STEPS → u ≤ t → phase p u ≡ phase p t → AlikeTicks p f a s → Ended a s → SafeFor p v moves f a u → Later

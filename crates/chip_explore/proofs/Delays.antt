@@ -1,5 +1,5 @@
 -- Steps of a state with another value of the delay timer, and steps in which the timers tick.
-use Rattle.std.proofs.Common.{◌≡◌, ℕ, ◌+◌, ◌-◌, ◌*◌, ◌%◌, ◌≤◌, ◌==◌, ◌&&◌, Bool, true, false, not, List, length, Option, Some, None, Result, Ok, Err, nat_le, nat_lt, find, is_some, refl, ap, sym, subst, ◌∙◌, take, drop, if◌then◌else◌, arith}
+use Rattle.std.proofs.Common.{◌≡◌, ℕ, ◌+◌, ◌-◌, ◌*◌, ◌%◌, ◌<◌, ◌≤◌, ◌==◌, ◌&&◌, Bool, true, false, not, List, length, Option, Some, None, Result, Ok, Err, nat_le, nat_lt, find, is_some, refl, ap, sym, subst, ◌∙◌, take, drop, if◌then◌else◌, arith}
 use Rattle.std.proofs.lemmas.Bool.{eqb-true}
 use Rattle.std.specs.List.{range_with_len}
 use Rattle.std.specs.FinSet as set
@@ -9,7 +9,7 @@ use Rattle.chip_lang.specs.declared.instr.Instr.TheVariants as row
 use Rattle.chip_machine.specs.declared.limits.TheConstants.{LAST_WORD}
 use Rattle.chip_machine.specs.declared.stop.Stop.{Stop}
 use Rattle.chip_machine.specs.declared.stop.Stop.TheVariants as cause
-use Rattle.chip_machine.specs.Forgotten.{AreKept, IsForgottenAfter, IsUnread, is_in_row, loaded, next_instr, stored as written}
+use Rattle.chip_machine.specs.Forgotten.{AreKept, IsForgottenAfter, IsUnneeded, is_in_row, loaded, next_instr, stored as written}
 use Rattle.chip_machine.specs.Relevant.{Alike}
 use Rattle.chip_machine.specs.Scroll.{scrolled_down, scrolled_right, scrolled_left}
 use Rattle.chip_machine.specs.Sprite.{sprite_bytes}
@@ -156,15 +156,17 @@ module _ (s : State) (d : ℕ) (low : d ≤ s.core.delay) (f : ℕ) where
   counts : Counts (effect_at s) (effect_at (with_delay d s))
   counts = at_counts s.core d low (nat_lt LAST_WORD s.core.pc) (decode_of (word_at s.memory s.core.pc))
 
-  pub unread_delayed : IsUnread f s → IsUnread f (with_delay d s)
-  unread_delayed h =
-      record { parts = h.parts; fetched = h.fetched; loaded = subst (λ (n : ℕ). AreKept f s.core.index n) counts.0 h.loaded }
+  pub unneeded_delayed : IsUnneeded f s → IsUnneeded f (with_delay d s)
+  unneeded_delayed h =
+      record { parts = h.parts; fetched = h.fetched; drawn = λ on. subst (λ (n : ℕ). AreKept f s.core.index n) counts.0 (h.drawn on) }
 
   pub after_delayed : (to after : ℕ) → IsForgottenAfter f s to after → IsForgottenAfter f (with_delay d s) to after
   after_delayed to after h =
       record {
         parts = h.parts;
         bytes = λ at was unwritten. h.bytes at was (subst (λ (n : ℕ). is_in_row s.core.index n at ≡ false) (sym counts.1) unwritten);
+        loaded = λ place low. h.loaded place (subst (λ (n : ℕ). place < n) (sym counts.0) low);
+        stored = λ place low. h.stored place (subst (λ (n : ℕ). place < n) (sym counts.1) low);
       }
 
 -- a state is like another one but for a delay timer that is at most that one's
@@ -299,6 +301,7 @@ alike_silent f delay sound a b h =
       count = h.count;
       registers = h.registers;
       index = h.index;
+      near = h.near;
       screen = h.screen;
       memory = h.memory;
     }
@@ -313,6 +316,7 @@ alike_delayed f d a b h =
       count = h.count;
       registers = h.registers;
       index = h.index;
+      near = h.near;
       screen = h.screen;
       memory = h.memory;
     }

@@ -7,7 +7,7 @@ use Rattle.std.proofs.Math.Seq.{get_or-append_seam}
 use Rattle.std.proofs.Common.{◌==◌}
 use Rattle.std.proofs.lemmas.Nat.Bits.{bit_at_above}
 use Rattle.chip_machine.specs.Choices.{IsChoice}
-use Rattle.chip_machine.specs.Forgotten.{AreWithin, IsUnread}
+use Rattle.chip_machine.specs.Forgotten.{AreWithin, IsUnneeded}
 use Rattle.chip_machine.specs.Relevant.{Alike}
 use Rattle.chip_machine.specs.State.{State}
 use Rattle.chip_machine.specs.Step.{is_key_down, step_of}
@@ -112,7 +112,7 @@ still_taken p v w more j kept same taken =
     record {
       drawn = subst (λ (s : State). s.core.draws < 2 ^ 64 - 1) (sym member) taken.drawn;
       asked = subst (λ (m : ℕ). are_goals_known p m (w.member j) ≡ true) (sym forgotten) (subst (λ (s : State). are_goals_known p (forgotten_at v j) s ≡ true) (sym member) taken.asked);
-      unread = subst (λ (m : ℕ). IsUnread m (w.member j)) (sym forgotten) (subst (λ (s : State). IsUnread (forgotten_at v j) s) (sym member) taken.unread);
+      unneeded = subst (λ (m : ℕ). IsUnneeded m (w.member j)) (sym forgotten) (subst (λ (s : State). IsUnneeded (forgotten_at v j) s) (sym member) taken.unneeded);
       goes_on =
           subst (λ (m : ℕ). GoesOn p w m (w.member j) (slice_index w.steps j)) (sym forgotten)
           (subst (λ (s : State). GoesOn p w (forgotten_at v j) s (slice_index w.steps j)) (sym member)
@@ -305,16 +305,16 @@ leads_after p l m n two place step keys leads = still_goes p (view_of m) (view_o
 taken_by : (p : Setting) (l n : Members) → Goes p l n → (place step : ℕ) → place < length l.steps.items → (register : Option ℕ)
     → timed_register p ((view_of l).member place) ≡ register → ((view_of l).member place).core.draws < 2 ^ 64 - 1
     → are_goals_known p (forgotten_at (view_of l) place) ((view_of l).member place) ≡ true
-    → IsUnread (forgotten_at (view_of l) place) ((view_of l).member place)
+    → IsUnneeded (forgotten_at (view_of l) place) ((view_of l).member place)
     → GoesBy register p (view_of n) (forgotten_at (view_of l) place) ((view_of l).member place) step
     → slice_index n.steps.items place ≡ step → IsTaken p (view_of n) place
-taken_by p l n more place step kept register is drawn asked unread on same =
+taken_by p l n more place step kept register is drawn asked unneeded on same =
     let member : (view_of n).member place ≡ (view_of l).member place = same_member p l n more place kept in
     let forgotten : forgotten_at (view_of n) place ≡ forgotten_at (view_of l) place = same_forgotten p l n more place kept in
     record {
       drawn = subst (λ (s : State). s.core.draws < 2 ^ 64 - 1) (sym member) drawn;
       asked = subst (λ (f : ℕ). are_goals_known p f ((view_of n).member place) ≡ true) (sym forgotten) (subst (λ (s : State). are_goals_known p (forgotten_at (view_of l) place) s ≡ true) (sym member) asked);
-      unread = subst (λ (f : ℕ). IsUnread f ((view_of n).member place)) (sym forgotten) (subst (λ (s : State). IsUnread (forgotten_at (view_of l) place) s) (sym member) unread);
+      unneeded = subst (λ (f : ℕ). IsUnneeded f ((view_of n).member place)) (sym forgotten) (subst (λ (s : State). IsUnneeded (forgotten_at (view_of l) place) s) (sym member) unneeded);
       goes_on =
           subst (λ (f : ℕ). GoesOn p (view_of n) f ((view_of n).member place) (slice_index n.steps.items place)) (sym forgotten)
           (subst (λ (s : State). GoesOn p (view_of n) (forgotten_at (view_of l) place) s (slice_index n.steps.items place)) (sym member)
@@ -348,7 +348,7 @@ module _ (p : Setting) (l m n : Members) (one : Goes p l m) (two : Goes p m n) (
 
   pub all_taken : slice_index n.steps.items place ≡ step → IsTaken p (view_of n) place
   all_taken same =
-      taken_by p l n (goes_more p l m n one two) place step kept None has.untimed has.drawn has.asked has.unread on_and_on same
+      taken_by p l n (goes_more p l m n one two) place step kept None has.untimed has.drawn has.asked has.unneeded on_and_on same
 
 -- or each value of the delay timer
 pub all_read : (p : Setting) (l n : Members) → Goes p l n → (place step : ℕ) → place < length l.steps.items → (read : Reading)
@@ -356,7 +356,7 @@ pub all_read : (p : Setting) (l n : Members) → Goes p l n → (place step : �
     → ((value : ℕ) → value ≤ read.bound → LeadsAs p l n place step value)
     → slice_index n.steps.items place ≡ step → IsTaken p (view_of n) place
 all_read p l n more place step kept read has each same =
-    taken_by p l n more place step kept (Some read.register) has.timed has.drawn has.asked has.unread
+    taken_by p l n more place step kept (Some read.register) has.timed has.drawn has.asked has.unneeded
     (λ value low. each value (subst (λ (bound : ℕ). value ≤ bound) has.bound low))
     same
 

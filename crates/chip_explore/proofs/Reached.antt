@@ -4,7 +4,7 @@ use Rattle.std.proofs.Common.{Bor, ◌≡◌, ℕ, zero, suc, ◌+◌, ◌-◌, 
 use Rattle.std.specs.Int.Bits.{and_zero_l}
 use Rattle.chip_machine.specs.Block.{ticks}
 use Rattle.chip_machine.specs.Choices.{IsWithin}
-use Rattle.chip_machine.specs.Forgotten.{IsForgottenAfter, IsUnread}
+use Rattle.chip_machine.specs.Forgotten.{IsForgottenAfter, IsUnneeded}
 use Rattle.chip_machine.specs.Relevant.{AlikeSteps, DrawsGrow}
 use Rattle.chip_machine.specs.State.{State}
 use Rattle.chip_machine.specs.Step.{step_of}
@@ -110,12 +110,12 @@ module _ (alike : AlikeSteps) (grow : DrawsGrow) (p : Setting) (v : View) (ranks
   same_tick true u t phased = refl
   same_tick false u t phased = ap (λ (rest : ℕ). rest == 0) (rest_more p.rate u t phased)
 
-  module _ (f after : ℕ) (a : State) (u keys : ℕ) (unread : IsUnread f a) (free : IsOpen p a) (is_after : IsForgottenAfter f a (step_of a keys (tick_at p u)).core.pc after)
+  module _ (f after : ℕ) (a : State) (u keys : ℕ) (unneeded : IsUnneeded f a) (free : IsOpen p a) (is_after : IsForgottenAfter f a (step_of a keys (tick_at p u)).core.pc after)
       (held : ℕ → ℕ) (t : ℕ) (phased : phase p u ≡ phase p t) (below : t < end) (near : AlikeTicks p f a (ran held t)) where
     made : AlikeTicks p after (step_of a keys (tick_at p u)) (step_of (ran held t) keys (ticks p.rate t))
     made =
         let few = drawn held t in
-        untimed alike grow p f after a (ran held t) keys (ticks p.rate t) unread free.drawn (omega arith) p.free refl (a.core.delay == 0) refl free.untimed (tick_at p u)
+        untimed alike grow p f after a (ran held t) keys (ticks p.rate t) unneeded free.drawn (omega arith) p.free refl (a.core.delay == 0) refl free.untimed (tick_at p u)
         (same_tick p.free u t phased) near is_after
 
     made_run : AlikeTicks p after (step_of a keys (tick_at p u)) (ran (turned held t keys) (t + 1))

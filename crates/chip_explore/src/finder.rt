@@ -41,6 +41,8 @@ pub(crate) struct Origin {
     pub(crate) keys: u16,
     /// In how many such steps on the way keys were down.
     presses: u16,
+    /// The value of the delay timer that it read, where it can tell these apart.
+    pub(crate) value: u8,
 }
 
 impl Origin {
@@ -50,6 +52,7 @@ impl Origin {
         step: 0,
         keys: 0,
         presses: 0,
+        value: 0,
     };
 
     /// The place of the state before that step, if there was one.
@@ -175,6 +178,15 @@ impl Finder {
             step: u32::try_from(step).unwrap_or(u32::MAX),
             keys,
             presses: before.saturating_add(u16::from(keys != 0)),
+            value: 0,
+        }
+    }
+
+    /// Likewise by a step that reads this value of the delay timer.
+    pub(crate) fn origin_by(&mut self, place: usize, step: u64, value: u8) -> Origin {
+        Origin {
+            value,
+            ..self.origin(place, step, 0)
         }
     }
 

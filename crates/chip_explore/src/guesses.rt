@@ -1,4 +1,4 @@
-//! What of a state is taken to be read by no later step. Nothing is claimed of it: a step that reads
+//! What of a state is taken to be needed by no later step. Nothing is claimed of it: a step that needs
 //! some of it refutes it, and the search begins anew.
 
 use crate::backdrop::BytePatch;
@@ -59,30 +59,35 @@ impl Guesses {
         }
     }
 
-    /// Notes that a step read some of the bytes that are forgotten, where so many states are kept: they are
-    /// forgotten of no state in the next search.
-    pub(crate) fn note_read(&mut self, read: Forgotten, states: usize) {
-        if !self.is_refuted {
-            self.window.note_read(read, states);
-        }
+    /// Notes which bytes the next step of a machine stores, where so many states are kept: the answer is
+    /// whether the search is to begin anew with other bytes.
+    pub(crate) fn note_stores(&mut self, machine: &Machine, states: usize) -> bool {
+        let is_better = self.window.note_stores(machine, states);
+        self.is_refuted |= is_better;
+        is_better
+    }
+
+    /// Notes that a step needed some of the bytes that are forgotten, where so many states are kept: they are
+    /// forgotten of no state in the next search. The answer is whether that is new of one.
+    pub(crate) fn note_needed(&mut self, needed: Forgotten, states: usize) -> bool {
         self.is_refuted = true;
+        self.window.note_needed(needed, states)
     }
 
     /// Forgets nothing of any state, so that no step refutes that.
     pub(crate) fn give_up(&mut self) {
+        self.is_refuted = true;
         self.gives_up = true;
     }
 
-    /// Forgets less of the states at an address, of which some parts may be read: the answer is
-    /// whether it did. VF is forgotten where a sprite is drawn on a screen that is.
-    pub(crate) fn lower(&mut self, address: u16, read: Forgotten) -> bool {
+    /// Forgets less of the states at an address, of which some parts may be needed: the answer is
+    /// whether it did.
+    pub(crate) fn lower(&mut self, address: u16, needed: Forgotten) -> bool {
+        self.is_refuted = true;
         let Some(Some(guess)) = self.parts.get_mut(address as usize) else {
             return false;
         };
-        let mut rest = guess.without(read);
-        if rest == *guess && read.has_register(15) {
-            rest = guess.without(Forgotten::screen());
-        }
+        let rest = guess.without(needed);
         let is_less = rest != *guess;
         *guess = rest;
         is_less

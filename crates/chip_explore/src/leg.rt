@@ -1,4 +1,4 @@
-//! Some steps in a row that tell neither keys nor values of the delay timer apart, and read nothing
+//! Some steps in a row that tell neither keys nor values of the delay timer apart, and need nothing
 //! that is forgotten, nor do the properties that are asked of the states on the way.
 
 ghost use Rattle.std.specs.Prelude.{◌≡◌, ◌<◌, ◌≤◌, ◌-◌, ◌^◌, length, IfOk, IfSome, IsNone};
@@ -24,7 +24,7 @@ pub(crate) enum End {
     Halted,
     /// The next step can tell keys apart, or values of the delay timer, or the steps are many.
     Joined,
-    /// The next step reads something that is forgotten, or a property that is asked of the state does.
+    /// The next step needs something that is forgotten, or a property that is asked of the state does.
     Read,
 }
 
@@ -41,7 +41,7 @@ pub(crate) struct Runner {
     pub(crate) machine: Machine,
     /// The parts of its state that are forgotten.
     pub(crate) forgotten: Forgotten,
-    /// Those that were read where it ended last.
+    /// Those that were needed where it ended last.
     pub(crate) read: Forgotten,
     /// Whether its next step doesn't tell keys apart, nor values of the delay timer.
     pub(crate) is_quiet: bool,
@@ -68,7 +68,7 @@ impl Runner {
     }
 
     /// Makes steps from a step on up to the limit, to a stop, or to a state whose next step can
-    /// tell keys or values of the delay timer apart or reads something that is forgotten, and notes
+    /// tell keys or values of the delay timer apart or needs something that is forgotten, and notes
     /// the addresses of these steps and of that next one.
     pub(crate) fn run(
         &mut self,

@@ -25,6 +25,7 @@ mod search;
 mod searching;
 mod seen;
 mod setting;
+mod sources;
 mod sum;
 mod target;
 mod watcher;

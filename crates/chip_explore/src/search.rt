@@ -14,6 +14,7 @@ use crate::leg::{End, Runner};
 use crate::limits::{STATE_BYTES, STATES_TOLD, TURNS_ASKED};
 use crate::members::Members;
 use crate::setting::Setting;
+use crate::sources::Trail;
 use crate::sum::Sums;
 use crate::watcher::Watcher;
 use crate::ways::{Reading, Ways};
@@ -34,38 +35,6 @@ pub(crate) struct Search {
 }
 
 impl Search {
-    /// Notes that a step read some parts that are forgotten, after a state that was reached so: less
-    /// is forgotten of the last state on the way of which they were, or nothing of any where there is
-    /// no such state. After the first such step of a search others may have led to less already.
-    fn refute(&mut self, origin: Origin, read: Forgotten)
-        ensures { self.new.members ≡ self.old.members }
-    {
-        if read.has_bytes() {
-            let states = self.members.states.len();
-            return self.finder.guesses.note_read(read, states);
-        }
-        let is_first = !self.finder.guesses.is_refuted;
-        self.finder.guesses.is_refuted = true;
-        let mut way = origin;
-        for _state in 0..=self.finder.origins.len() {
-            let Some(place) = way.parent() else {
-                break;
-            };
-            if place >= self.members.states.len() || place >= self.finder.origins.len() {
-                break;
-            }
-            let is_less = self
-                .finder
-                .guesses
-                .lower(self.members.states[place].pc, read);
-            if is_less || !is_first {
-                return;
-            }
-            way = self.finder.origins[place];
-        }
-        self.finder.guesses.give_up();
-    }
-
     /// Keeps the state that the runner has at a step, unless one like it is kept.
     fn join(&mut self, setting: &Setting<'_>, step: u64, origin: Origin) -> Result<(), AllocError>
         requires rate { 0 < setting.now.rate }
@@ -82,7 +51,11 @@ impl Search {
         let parts = self.finder.parts_to_forget(setting, &self.runner);
         if !forgotten.is_within(parts) {
             self.members.lower_limit(setting, step);
-            self.refute(origin, forgotten.without(parts));
+            self.refute(
+                setting,
+                Trail { origin, to: step },
+                forgotten.without(parts),
+            );
             return Ok(());
         }
         self.runner.erase(parts, &self.members.base);
@@ -182,7 +155,14 @@ impl Search {
             End::Read => {
                 self.members.lower_limit(setting, leg.step);
                 if !(setting.is_strict && self.finder.has_bound(setting, &self.runner)) {
-                    self.refute(origin, self.runner.read);
+                    self.refute(
+                        setting,
+                        Trail {
+                            origin,
+                            to: leg.step,
+                        },
+                        self.runner.read,
+                    );
                 }
             }
         }
@@ -224,7 +204,7 @@ impl Search {
             Ok(after) => runner.forgotten = after,
             Err(read) => {
                 self.members.lower_limit(setting, step);
-                self.refute(origin, read);
+                self.refute(setting, Trail { origin, to: step }, read);
                 return Ok(false);
             }
         }
@@ -259,7 +239,7 @@ impl Search {
             ≤ length self.old.members.steps.items + 1 }
     {
         let runner = &mut self.runner;
-        let origin = self.finder.origin(place, step, 0);
+        let origin = self.finder.origin_by(place, step, value);
         if !self.members.load_read(
             place,
             read.register,
@@ -339,13 +319,14 @@ impl Search {
     }
 
     /// In which ways the next step of a state goes, unless it is not loaded, has drawn as many random
-    /// bytes as are counted, or its next step reads something that is forgotten.
+    /// bytes as are counted, or its next step needs something that is forgotten.
     fn ways(
         &mut self,
         setting: &Setting<'_>,
         place: usize,
         step: u64,
     ) -> Result<Option<Ways>, AllocError>
+        requires rate { 0 < setting.now.rate }
         requires holds { Holds setting.now self.old.members }
         requires kept { place < length self.old.members.steps.items }
         ensures same { self.new.members ≡ self.old.members }
@@ -365,7 +346,7 @@ impl Search {
         if !setting.are_goals_known(&runner.machine, forgotten) {
             let read = setting.asked_of(&runner.machine, forgotten);
             let origin = self.finder.origin(place, step, 0);
-            self.refute(origin, read);
+            self.refute(setting, Trail { origin, to: step }, read);
             return Ok(None);
         }
         match runner.machine.forgotten_after(forgotten, 0) {
@@ -379,7 +360,7 @@ impl Search {
             },
             Err(read) => {
                 let origin = self.finder.origin(place, step, 0);
-                self.refute(origin, read);
+                self.refute(setting, Trail { origin, to: step }, read);
                 Ok(None)
             }
         }

@@ -3,7 +3,7 @@
 ghost use Rattle.std.specs.Prelude.{◌≡◌, ◌+◌, ◌≤◌, length};
 
 use crate::kept::ROWS;
-use chip_machine::limits::MEMORY_BYTES;
+use chip_machine::limits::{DIGITS_END, MEMORY_BYTES};
 use chip_machine::{Forgotten, Machine};
 
 /// A quarter of the memory's bytes.
@@ -100,7 +100,8 @@ impl Sums {
         if !forgotten.has_screen() {
             state = add(state, screen);
         }
-        if !forgotten.has_index() {
+        let is_near = machine.index() < DIGITS_END;
+        if !forgotten.has_index() || !forgotten.has_far() && !is_near {
             state = add(state, u64::from(machine.index()));
         }
         state = add(state, u64::from(machine.pc()));

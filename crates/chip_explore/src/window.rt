@@ -1,5 +1,5 @@
 //! Which bytes of the memory are forgotten: those of a window that were seen to be stored, and not to be
-//! read later. Nothing is claimed of it.
+//! needed later. Nothing is claimed of it.
 
 use crate::backdrop::BytePatch;
 use crate::limits::{MOST_STATES_FOR_BYTES, STATES_FOR_A_SEARCH, STEPS_TRIED};
@@ -34,8 +34,8 @@ enum Seen {
     Unused,
     /// It was stored.
     Stored,
-    /// It was read where it was forgotten.
-    Read,
+    /// It was needed where it was forgotten.
+    Needed,
 }
 
 /// A window of the memory, and what was seen of each byte.
@@ -72,13 +72,20 @@ impl Window {
     fn try_run(&mut self, machine: &mut Machine, keys: u16) {
         let mut touch = Touch::new();
         for step in 0..STEPS_TRIED {
-            let index = machine.index();
-            for place in 0..bytes_stored(machine) {
-                self.note_stored(index.saturating_add(place));
-            }
+            let _is_new = self.note_next(machine);
             let down = if step % 32 < 16 { 0 } else { keys };
             machine.step(down, true, &mut touch);
         }
+    }
+
+    /// Notes which bytes the next step of a machine stores: the answer is whether one is new.
+    fn note_next(&mut self, machine: &Machine) -> bool {
+        let index = machine.index();
+        let mut is_new = false;
+        for place in 0..bytes_stored(machine) {
+            is_new |= self.note_stored(index.saturating_add(place));
+        }
+        is_new
     }
 
     /// Notes that a byte is stored: the answer is whether that is new.
@@ -104,22 +111,37 @@ impl Window {
         for patch in bytes {
             is_new |= self.note_stored(patch.at);
         }
-        is_new && !self.is_closed && self.best() != self.bytes && self.affords(states)
+        is_new && self.is_to_change(states)
     }
 
-    /// Notes that a step read some of those that are forgotten, where so many states are kept.
-    pub(crate) fn note_read(&mut self, read: Forgotten, states: usize) {
+    /// Notes which bytes the next step of a machine stores, where so many states are kept: the answer is
+    /// likewise.
+    pub(crate) fn note_stores(&mut self, machine: &Machine, states: usize) -> bool {
+        self.note_next(machine) && self.is_to_change(states)
+    }
+
+    /// Whether a search that keeps so many states is to begin anew with other bytes.
+    fn is_to_change(&mut self, states: usize) -> bool {
+        !self.is_closed && self.best() != self.bytes && self.affords(states)
+    }
+
+    /// Notes that a step needed some of those that are forgotten, where so many states are kept: the answer
+    /// is whether that is new of one.
+    pub(crate) fn note_needed(&mut self, needed: Forgotten, states: usize) -> bool {
+        let mut is_new = false;
         for place in 0..WINDOW_BYTES {
-            let at = usize::from(read.window()) + usize::from(place);
-            if read.has_byte(at)
+            let at = usize::from(needed.window()) + usize::from(place);
+            if needed.has_byte(at)
                 && let Some(seen) = self.seen.get_mut(at)
             {
-                *seen = Seen::Read;
+                is_new |= *seen != Seen::Needed;
+                *seen = Seen::Needed;
             }
         }
         if !self.affords(states) {
             self.is_closed = true;
         }
+        is_new
     }
 
     /// Whether a search that keeps so many states may begin anew for the bytes, which is noted then.
@@ -144,7 +166,7 @@ impl Window {
         };
     }
 
-    /// Those of the first window that has the most bytes that were stored, and not read.
+    /// Those of the first window that has the most bytes that were stored, and not needed.
     fn best(&self) -> Forgotten {
         let mut best = 0;
         let mut most: u16 = 0;
@@ -164,7 +186,7 @@ impl Window {
         self.stored_from(best)
     }
 
-    /// Those of a window that were stored, and not read.
+    /// Those of a window that were stored, and not needed.
     fn stored_from(&self, start: u16) -> Forgotten {
         let mut bytes = Forgotten::nothing();
         for place in 0..WINDOW_BYTES {

@@ -20,4 +20,4 @@ pub mod SpriteLemmas
 pub mod StartMemory
 pub mod StripeLemmas
 pub mod Ticks
-pub mod Unread
+pub mod Unneeded

@@ -2,11 +2,11 @@
 -- and put in.
 use Rattle.std.proofs.Common.{◌≡◌, ◌≢◌, ℕ, ◌-◌, ◌*◌, ◌/◌, ◌%◌, ◌^◌, ◌<◌, ◌≤◌, ◌==◌, ◌&&◌, ◌||◌, min, max, bit_and, bit_or, true, false, not, List, [], ◌∷◌, refl, sym, ap, ◌∙◌, inl, inr, arith, rules, eq-eqb, nat_le, subst, w32, w64, Bool}
 use Rattle.std.specs.Int.{bit_at, bit_not}
-use Rattle.std.specs.List.{list_all}
-use Rattle.std.proofs.lemmas.Bool.{agree_below_at, and_from, and_parts, and_right, cases_eq, cases_lt, eqb-true, leb-true, ne_eqb, not-true, not_from_false, or_cases, or_left, or_right}
+use Rattle.std.specs.List.{list_all, list_any}
+use Rattle.std.proofs.lemmas.Bool.{agree_below_at, and_from, and_parts, and_right, cases_eq, cases_lt, eqb-true, le-leb, leb-true, ne_eqb, not-true, not_from_false, or_cases, or_left, or_right}
 use Rattle.std.proofs.lemmas.Nat.{or_comm}
 use Rattle.std.proofs.lemmas.Nat.Bits.{bit_at-lt, bit_at-pow_other, bit_at-pow_same, bit_at-zero, bit_at_above, bit_at_and, bit_at_clear_other, bit_at_not, bit_at_or}
-use Rattle.chip_machine.specs.Forgotten.{first_registers, has_byte, has_part, is_forgotten_by, is_one_of}
+use Rattle.chip_machine.specs.Forgotten.{first_registers, has_byte, has_part, is_forgotten_by, is_one_forgotten, is_one_of}
 use Rattle.chip_machine.specs.inner.Masks.{mask_of}
 use Rattle.chip_machine.specs.inner.Packed.{AreSmall, bytes_packed, packed, parts_packed, window_packed}
 
@@ -22,9 +22,9 @@ mask_of_two p q low small =
     let shifted : 1 * 2 ^ p % 4294967296 ≡ 2 ^ p = search rules in
     ap (λ m. bit_or m (1 * 2 ^ q % 4294967296)) shifted ∙ ap (bit_or (2 ^ p)) (mask_of_one q small)
 
-pub mask_of_first : (x : ℕ) → x < 16 → 8 * 2 ^ x % 4294967296 - 4 ≡ mask_of (first_registers x)
+pub mask_of_first : (x : ℕ) → x < 16 → 16 * 2 ^ x % 4294967296 - 8 ≡ mask_of (first_registers x)
 mask_of_first x low =
-    eqb-true _ _ (agree_below_at (λ n. 8 * 2 ^ n % 4294967296 - 4 == mask_of (first_registers n)) (λ _. true) 16 x refl low)
+    eqb-true _ _ (agree_below_at (λ n. 16 * 2 ^ n % 4294967296 - 8 == mask_of (first_registers n)) (λ _. true) 16 x refl low)
 
 -- ---- their bits
 
@@ -67,6 +67,12 @@ all_off m (p ∷ ps) h =
     and_from _ _ (not_from_false _ (h p (or_left (p == p) (is_one_of ps p) (eq-eqb p p refl))))
     (all_off m ps (λ part one. h part (or_right (part == p) (is_one_of ps part) one)))
 
+none_on : (test : ℕ → Bool) (parts : List ℕ) → list_all (λ part. not (test part)) parts ≡ true → list_any test parts ≡ false
+none_on test [] h = refl
+none_on test (p ∷ ps) h =
+    let both = and_parts (not (test p)) (list_all (λ part. not (test part)) ps) h in
+    ap (λ b. b || list_any test ps) (not-true (test p) both.0) ∙ none_on test ps both.1
+
 -- a mask that has none of some bits
 none_in : (m : ℕ) (parts : List ℕ) → bit_and m (mask_of parts) ≡ 0 → list_all (λ part. not (has_bit m part)) parts ≡ true
 none_in m parts none =
@@ -100,6 +106,13 @@ within m n same part h =
     let one : bit_at m part ≡ 1 = on m part h in
     let both : bit_at n part ≡ max (bit_at m part) (bit_at n part) = ap (λ k. bit_at k part) (sym same) ∙ bit_at_or m n part in
     is_on n part (omega (arith, bit_at-lt n part))
+
+-- a mask with more bits
+with_more : (m n part : ℕ) → has_bit m part ≡ true → has_bit (bit_or m n) part ≡ true
+with_more m n part h = let one = on m part h in is_on _ part (bit_at_or m n part ∙ omega (arith, bit_at-lt n part))
+
+with_one : (m p : ℕ) → has_bit (bit_or m (2 ^ p)) p ≡ true
+with_one m p = is_on _ p (bit_at_or m (2 ^ p) p ∙ omega (arith, bit_at-pow_same p, bit_at-lt m p))
 
 -- a mask without one bit has the others
 without_one : (m p k : ℕ) → m < 2 ^ 64 → p < 64 → has_bit m k ≡ true → k ≢ p → has_bit (bit_and m (bit_not w64 (1 * 2 ^ p % 18446744073709551616))) k ≡ true
@@ -136,6 +149,9 @@ module _ (p w b v : ℕ) (is : packed p w b ≡ v) (small : AreSmall p w) where
   none_read parts none =
       subst (λ (m : ℕ). list_all (λ part. not (has_bit m part)) parts ≡ true) (sym parts_is) (none_in p parts none)
 
+  pub none_used : (parts : List ℕ) → bit_and p (mask_of parts) ≡ 0 → is_one_forgotten v parts ≡ false
+  none_used parts none = none_on (has_part v) parts (none_read parts none)
+
   -- the same with other parts, or other bytes in the window
   module _ (q c u : ℕ) (now : packed q w c ≡ u) (little : AreSmall q w) where
     pub left_or_spoilt : (set spoilt : List ℕ) → q ≡ bit_or (bit_and p (bit_not w32 (mask_of set))) (mask_of spoilt) → mask_of set < 2 ^ 32 → (part : ℕ)
@@ -144,6 +160,17 @@ module _ (p w b v : ℕ) (is : packed p w b ≡ v) (small : AreSmall p w) where
         let low : u % 2 ^ 32 ≡ q = ap (λ (n : ℕ). n % 2 ^ 32) (sym now) ∙ parts_packed q w c little.0 in
         let there = subst (λ (m : ℕ). (has_bit m part && not (is_one_of set part) || is_one_of spoilt part) ≡ true) parts_is h in
         subst (λ (m : ℕ). has_bit m part ≡ true) (sym (low ∙ made)) (left_in p set spoilt small.0 fits part there)
+
+    pub with_parts : (more : ℕ) → q ≡ bit_or p more → (part : ℕ) → has_part v part ≡ true → has_part u part ≡ true
+    with_parts more made part h =
+        let low : u % 2 ^ 32 ≡ q = ap (λ (n : ℕ). n % 2 ^ 32) (sym now) ∙ parts_packed q w c little.0 in
+        subst (λ (m : ℕ). has_bit m part ≡ true) (sym (low ∙ made)) (with_more p more part (sym (part_is part) ∙ h))
+
+    pub with_part : (part : ℕ) → part < 32 → q ≡ bit_or p (1 * 2 ^ part % 4294967296) → has_part u part ≡ true
+    with_part part fits made =
+        let low : u % 2 ^ 32 ≡ q = ap (λ (n : ℕ). n % 2 ^ 32) (sym now) ∙ parts_packed q w c little.0 in
+        let shifted : 1 * 2 ^ part % 4294967296 ≡ 2 ^ part = search rules in
+        subst (λ (m : ℕ). has_bit m part ≡ true) (sym (low ∙ made ∙ ap (bit_or p) shifted)) (with_one p part)
 
 -- the parts of one are all among those of another
 pub parts_within : (p q v u : ℕ) → v % 2 ^ 32 ≡ p → u % 2 ^ 32 ≡ q → bit_or p q ≡ q → (part : ℕ) → has_part v part ≡ true → has_part u part ≡ true
@@ -154,6 +181,17 @@ pub bytes_within : (w b c : ℕ) → bit_or b c ≡ c → (at : ℕ) → byte_by
 bytes_within w b c same at h =
     let both = and_parts (nat_le w at) (has_bit b (at - w)) h in
     and_from (nat_le w at) (has_bit c (at - w)) both.0 (within b c same (at - w) both.1)
+
+-- with the byte at an address
+pub byte_more : (w b more at : ℕ) → byte_by w b at ≡ true → byte_by w (bit_or b more) at ≡ true
+byte_more w b more at h =
+    let both = and_parts (nat_le w at) (has_bit b (at - w)) h in
+    and_from (nat_le w at) _ both.0 (with_more b more (at - w) both.1)
+
+pub byte_new : (w b at : ℕ) → w ≤ at → at - w < 64 → byte_by w (bit_or b (1 * 2 ^ (at - w) % 18446744073709551616)) at ≡ true
+byte_new w b at above low =
+    let shifted : 1 * 2 ^ (at - w) % 18446744073709551616 ≡ 2 ^ (at - w) = search rules in
+    and_from (nat_le w at) _ (le-leb w at above) (subst (λ (n : ℕ). has_bit (bit_or b n) (at - w) ≡ true) (sym shifted) (with_one b (at - w)))
 
 -- without the byte at an address
 pub byte_left : (w b a at : ℕ) → b < 2 ^ 64 → w ≤ a → a - w < 64 → byte_by w b at ≡ true → at ≢ a

@@ -2,20 +2,29 @@
 -- the memory, and what a step does with them.
 -- Source: own, by the table of the instructions.
 --     index_part       the number of I, of the screen and of register x
+--     far_part         the number of what is left of I where its value is forgotten: whether it is
+--                      where digits stand
 --     has_part         whether a part is among some, part k at bit k below bit 32
 --     window_of        the first address of which a byte may be among them, which stands above these
 --     has_byte         whether the byte at an address is, the first of the window at bit 48
---     reads            the parts on which something else than these parts themselves depends after
---                      an instruction
+--     needs            the parts on which more than other parts and bytes depends in an instruction:
+--                      where it leads to, which bytes it accesses, the delay timer, a key's number,
+--                      a flag register
+--     uses             the other parts that an instruction computes with
+--     spoils           the parts whose values come of those that it uses
+--     spoilt           these, where it uses one that is forgotten
 --     sets             the parts that have a value after an instruction that depends on none of them,
---                      unless it is read
---     spoils           the parts that depend on those that are forgotten, though they did not before
---     loaded, stored   how many bytes at I an effect reads and writes
+--                      but on those that it needs and uses
+--     loaded, stored   how many bytes at I an effect reads and writes: those that are read are put
+--                      in the first registers, or drawn
+--     draws            whether they are drawn
+--     stored_part      the part from which a byte comes that is written
 --     AreKept          none of so many bytes in a row is forgotten
 --     AreWithin        what is forgotten in one way is so in another one
---     IsUnread         the next step of a state reads nothing of what is forgotten
---     IsForgottenAfter all is forgotten that is so after the next step, which leads to a pc: of the
---                      bytes those that it doesn't write
+--     IsUnneeded       the next step of a state needs nothing of what is forgotten
+--     IsForgottenAfter all is forgotten that is so after the next step, which leads to a pc: the
+--                      registers that it loads with forgotten bytes too, and the bytes that it stores
+--                      from forgotten registers
 use Rattle.std.specs.Prelude.{◌≡◌, ℕ, ◌+◌, ◌-◌, ◌/◌, ◌%◌, ◌^◌, ◌<◌, ◌≤◌, ◌==◌, ◌&&◌, ◌||◌, Bool, true, false, not, List, [], ◌∷◌, length, Option, Some, None, nat_lt, nat_le, if◌then◌else◌}
 use Rattle.std.specs.List.{list_all, list_any, range_with_len}
 use Rattle.chip_lang.specs.Decoding.{decode_of}
@@ -32,8 +41,11 @@ index_part = 0
 abbrev pub screen_part : ℕ
 screen_part = 1
 
+abbrev pub far_part : ℕ
+far_part = 2
+
 abbrev pub register_part : ℕ → ℕ
-register_part x = x + 2
+register_part x = x + 3
 
 abbrev pub flag_part : ℕ
 flag_part = register_part 15
@@ -55,73 +67,98 @@ has_byte forgotten at =
 
 -- ---- by the rows of the table
 
--- a row that isn't here reads none of the parts. An ADD reads neither Vx nor I for itself, and
--- nothing depends on the sound timer. Where an ADD to I sets VF, that depends on I.
-unfoldable pub reads : Quirks → Instr → List ℕ
-reads q (row.SkipIfByte x byte) = register_part x ∷ []
-reads q (row.SkipUnlessByte x byte) = register_part x ∷ []
-reads q (row.SkipIfEqual x y) = register_part x ∷ register_part y ∷ []
-reads q (row.Copy x y) = register_part y ∷ []
-reads q (row.Or x y) = register_part x ∷ register_part y ∷ []
-reads q (row.And x y) = register_part x ∷ register_part y ∷ []
-reads q (row.Xor x y) = register_part x ∷ register_part y ∷ []
-reads q (row.Add x y) = register_part x ∷ register_part y ∷ []
-reads q (row.Subtract x y) = register_part x ∷ register_part y ∷ []
-reads q (row.ShiftRight x y) = register_part (if q.shifts_second then y else x) ∷ []
-reads q (row.SubtractFrom x y) = register_part x ∷ register_part y ∷ []
-reads q (row.ShiftLeft x y) = register_part (if q.shifts_second then y else x) ∷ []
-reads q (row.SkipUnlessEqual x y) = register_part x ∷ register_part y ∷ []
-reads q (row.JumpOffset address) =
+-- a row that isn't here needs none of the parts
+unfoldable pub needs : Quirks → Instr → List ℕ
+needs q (row.SkipIfByte x byte) = register_part x ∷ []
+needs q (row.SkipUnlessByte x byte) = register_part x ∷ []
+needs q (row.SkipIfEqual x y) = register_part x ∷ register_part y ∷ []
+needs q (row.SkipUnlessEqual x y) = register_part x ∷ register_part y ∷ []
+needs q (row.JumpOffset address) =
     register_part (if q.jumps_by_first then 0 else address / 256) ∷ []
-reads q (row.Draw x y n) = index_part ∷ register_part x ∷ register_part y ∷ []
-reads q (row.SkipIfKey x) = register_part x ∷ []
-reads q (row.SkipUnlessKey x) = register_part x ∷ []
-reads q (row.SetDelay x) = register_part x ∷ []
-reads q (row.AddIndex x) =
-    if q.flags_overflow then index_part ∷ register_part x ∷ [] else register_part x ∷ []
-reads q (row.SmallDigit x) = register_part x ∷ []
-reads q (row.BigDigit x) = register_part x ∷ []
-reads q (row.StoreDecimal x) = index_part ∷ register_part x ∷ []
-reads q (row.StoreRegisters x) = index_part ∷ first_registers x
-reads q (row.LoadRegisters x) = index_part ∷ []
-reads q (row.StoreFlags x) = first_registers x
-reads q instr = []
+needs q (row.Draw x y n) = far_part ∷ []
+needs q (row.SkipIfKey x) = register_part x ∷ []
+needs q (row.SkipUnlessKey x) = register_part x ∷ []
+needs q (row.SetDelay x) = register_part x ∷ []
+needs q (row.StoreDecimal x) = index_part ∷ far_part ∷ []
+needs q (row.StoreRegisters x) = index_part ∷ far_part ∷ []
+needs q (row.LoadRegisters x) = index_part ∷ far_part ∷ []
+needs q (row.StoreFlags x) = first_registers x
+needs q instr = []
 
--- `moved`: pc isn't where it was, so that a wait for a key has ended. VF is set where the screen is
--- known on which a sprite is drawn.
-unfoldable pub sets : Quirks → (moved : Bool) → (forgotten : ℕ) → Instr → List ℕ
-sets q moved forgotten row.ClearScreen = screen_part ∷ []
-sets q moved forgotten row.LowSize = if q.clears_at_size then screen_part ∷ [] else []
-sets q moved forgotten row.HighSize = if q.clears_at_size then screen_part ∷ [] else []
-sets q moved forgotten (row.LoadByte x byte) = register_part x ∷ []
-sets q moved forgotten (row.Copy x y) = register_part x ∷ []
-sets q moved forgotten (row.Or x y) =
-    if q.clears_flag then flag_part ∷ register_part x ∷ [] else register_part x ∷ []
-sets q moved forgotten (row.And x y) =
-    if q.clears_flag then flag_part ∷ register_part x ∷ [] else register_part x ∷ []
-sets q moved forgotten (row.Xor x y) =
-    if q.clears_flag then flag_part ∷ register_part x ∷ [] else register_part x ∷ []
-sets q moved forgotten (row.Add x y) = flag_part ∷ register_part x ∷ []
-sets q moved forgotten (row.Subtract x y) = flag_part ∷ register_part x ∷ []
-sets q moved forgotten (row.ShiftRight x y) = flag_part ∷ register_part x ∷ []
-sets q moved forgotten (row.SubtractFrom x y) = flag_part ∷ register_part x ∷ []
-sets q moved forgotten (row.ShiftLeft x y) = flag_part ∷ register_part x ∷ []
-sets q moved forgotten (row.LoadIndex address) = index_part ∷ []
-sets q moved forgotten (row.Random x byte) = register_part x ∷ []
-sets q moved forgotten (row.Draw x y n) =
-    if has_part forgotten screen_part then [] else flag_part ∷ []
-sets q moved forgotten (row.ReadDelay x) = register_part x ∷ []
-sets q moved forgotten (row.WaitKey x) = if moved then register_part x ∷ [] else []
-sets q moved forgotten (row.AddIndex x) = if q.flags_overflow then flag_part ∷ [] else []
-sets q moved forgotten (row.SmallDigit x) = index_part ∷ []
-sets q moved forgotten (row.BigDigit x) = index_part ∷ []
-sets q moved forgotten (row.LoadRegisters x) = first_registers x
-sets q moved forgotten (row.LoadFlags x) = first_registers x
-sets q moved forgotten instr = []
+-- an ADD of a number needs and uses nothing: what is forgotten of Vx stays so. Nothing depends on
+-- the sound timer.
+unfoldable pub uses : Quirks → Instr → List ℕ
+uses q (row.Copy x y) = register_part y ∷ []
+uses q (row.Or x y) = register_part x ∷ register_part y ∷ []
+uses q (row.And x y) = register_part x ∷ register_part y ∷ []
+uses q (row.Xor x y) = register_part x ∷ register_part y ∷ []
+uses q (row.Add x y) = register_part x ∷ register_part y ∷ []
+uses q (row.Subtract x y) = register_part x ∷ register_part y ∷ []
+uses q (row.ShiftRight x y) = register_part (if q.shifts_second then y else x) ∷ []
+uses q (row.SubtractFrom x y) = register_part x ∷ register_part y ∷ []
+uses q (row.ShiftLeft x y) = register_part (if q.shifts_second then y else x) ∷ []
+uses q (row.Draw x y n) =
+    index_part ∷ screen_part ∷ register_part x ∷ register_part y ∷ []
+uses q (row.AddIndex x) = index_part ∷ register_part x ∷ []
+uses q (row.SmallDigit x) = register_part x ∷ []
+uses q (row.BigDigit x) = register_part x ∷ []
+uses q instr = []
 
-unfoldable pub spoils : (forgotten : ℕ) → Instr → List ℕ
-spoils forgotten (row.Draw x y n) = if has_part forgotten screen_part then flag_part ∷ [] else []
-spoils forgotten instr = []
+-- a digit's address is among those of digits, whatever the digit is. A sum of I may be anywhere.
+unfoldable pub spoils : Quirks → Instr → List ℕ
+spoils q (row.Copy x y) = register_part x ∷ []
+spoils q (row.Or x y) = register_part x ∷ []
+spoils q (row.And x y) = register_part x ∷ []
+spoils q (row.Xor x y) = register_part x ∷ []
+spoils q (row.Add x y) = flag_part ∷ register_part x ∷ []
+spoils q (row.Subtract x y) = flag_part ∷ register_part x ∷ []
+spoils q (row.ShiftRight x y) = flag_part ∷ register_part x ∷ []
+spoils q (row.SubtractFrom x y) = flag_part ∷ register_part x ∷ []
+spoils q (row.ShiftLeft x y) = flag_part ∷ register_part x ∷ []
+spoils q (row.Draw x y n) = flag_part ∷ screen_part ∷ []
+spoils q (row.AddIndex x) =
+    if q.flags_overflow then flag_part ∷ index_part ∷ far_part ∷ []
+    else index_part ∷ far_part ∷ []
+spoils q (row.SmallDigit x) = index_part ∷ []
+spoils q (row.BigDigit x) = index_part ∷ []
+spoils q instr = []
+
+abbrev pub is_one_forgotten : (forgotten : ℕ) → List ℕ → Bool
+is_one_forgotten forgotten parts = list_any (has_part forgotten) parts
+
+abbrev pub spoilt : Quirks → (forgotten : ℕ) → Instr → List ℕ
+spoilt q forgotten instr =
+    if is_one_forgotten forgotten (uses q instr) then spoils q instr else []
+
+-- `moved`: pc isn't where it was, so that a wait for a key has ended
+unfoldable pub sets : Quirks → (moved : Bool) → Instr → List ℕ
+sets q moved row.ClearScreen = screen_part ∷ []
+sets q moved row.LowSize = if q.clears_at_size then screen_part ∷ [] else []
+sets q moved row.HighSize = if q.clears_at_size then screen_part ∷ [] else []
+sets q moved (row.LoadByte x byte) = register_part x ∷ []
+sets q moved (row.Copy x y) = register_part x ∷ []
+sets q moved (row.Or x y) =
+    if q.clears_flag then flag_part ∷ register_part x ∷ [] else register_part x ∷ []
+sets q moved (row.And x y) =
+    if q.clears_flag then flag_part ∷ register_part x ∷ [] else register_part x ∷ []
+sets q moved (row.Xor x y) =
+    if q.clears_flag then flag_part ∷ register_part x ∷ [] else register_part x ∷ []
+sets q moved (row.Add x y) = flag_part ∷ register_part x ∷ []
+sets q moved (row.Subtract x y) = flag_part ∷ register_part x ∷ []
+sets q moved (row.ShiftRight x y) = flag_part ∷ register_part x ∷ []
+sets q moved (row.SubtractFrom x y) = flag_part ∷ register_part x ∷ []
+sets q moved (row.ShiftLeft x y) = flag_part ∷ register_part x ∷ []
+sets q moved (row.LoadIndex address) = index_part ∷ far_part ∷ []
+sets q moved (row.Random x byte) = register_part x ∷ []
+sets q moved (row.Draw x y n) = flag_part ∷ []
+sets q moved (row.ReadDelay x) = register_part x ∷ []
+sets q moved (row.WaitKey x) = if moved then register_part x ∷ [] else []
+sets q moved (row.AddIndex x) = if q.flags_overflow then flag_part ∷ [] else []
+sets q moved (row.SmallDigit x) = index_part ∷ far_part ∷ []
+sets q moved (row.BigDigit x) = index_part ∷ far_part ∷ []
+sets q moved (row.LoadRegisters x) = first_registers x
+sets q moved (row.LoadFlags x) = first_registers x
+sets q moved instr = []
 
 -- ---- by the effect of a row
 
@@ -153,19 +190,29 @@ abbrev pub parts_by : (Instr → List ℕ) → Option Instr → List ℕ
 parts_by parts None = []
 parts_by parts (Some instr) = parts instr
 
--- the parts, the bytes at pc, and those at I
-pub record IsUnread (forgotten : ℕ) (s : State) : Type 0 where
+abbrev pub draws : Option Instr → Bool
+draws (Some (row.Draw x y n)) = true
+draws instr = false
+
+-- the byte of a place in the row that is written
+abbrev pub stored_part : Option Instr → (place : ℕ) → ℕ
+stored_part (Some (row.StoreDecimal x)) place = register_part x
+stored_part instr place = register_part place
+
+-- the parts, the bytes at pc, and those at I that are drawn
+pub record IsUnneeded (forgotten : ℕ) (s : State) : Type 0 where
   pub parts : list_all (λ part. not (has_part forgotten part))
-      (parts_by (reads s.core.quirks) (next_instr s)) ≡ true
+      (parts_by (needs s.core.quirks) (next_instr s)) ≡ true
   pub fetched : s.core.pc ≤ LAST_WORD → AreKept forgotten s.core.pc 2
-  pub loaded : AreKept forgotten s.core.index (loaded (effect_at s))
+  pub drawn : draws (next_instr s) ≡ true
+      → AreKept forgotten s.core.index (loaded (effect_at s))
 
 abbrev pub is_one_of : List ℕ → ℕ → Bool
 is_one_of parts part = list_any (λ p. part == p) parts
 
-abbrev pub is_forgotten_by : (forgotten : ℕ) → (set spoilt : List ℕ) → (part : ℕ) → Bool
-is_forgotten_by forgotten set spoilt part =
-    has_part forgotten part && not (is_one_of set part) || is_one_of spoilt part
+abbrev pub is_forgotten_by : (forgotten : ℕ) → (set spoiled : List ℕ) → (part : ℕ) → Bool
+is_forgotten_by forgotten set spoiled part =
+    has_part forgotten part && not (is_one_of set part) || is_one_of spoiled part
 
 -- whether an address is one of so many in a row
 abbrev pub is_in_row : (start count : ℕ) → (at : ℕ) → Bool
@@ -174,8 +221,14 @@ is_in_row start count at = nat_le start at && nat_lt at (start + count)
 -- `to` is where pc is after the step
 pub record IsForgottenAfter (before : ℕ) (s : State) (to after : ℕ) : Type 0 where
   pub parts : (part : ℕ) → is_forgotten_by before
-      (parts_by (sets s.core.quirks (not (to == s.core.pc)) before) (next_instr s))
-      (parts_by (spoils before) (next_instr s)) part ≡ true
+      (parts_by (sets s.core.quirks (not (to == s.core.pc))) (next_instr s))
+      (parts_by (spoilt s.core.quirks before) (next_instr s)) part ≡ true
       → has_part after part ≡ true
   pub bytes : (at : ℕ) → has_byte before at ≡ true
       → is_in_row s.core.index (stored (effect_at s)) at ≡ false → has_byte after at ≡ true
+  pub loaded : (place : ℕ) → place < loaded (effect_at s)
+      → has_byte before (s.core.index + place) ≡ true
+      → has_part after (register_part place) ≡ true
+  pub stored : (place : ℕ) → place < stored (effect_at s)
+      → has_part before (stored_part (next_instr s) place) ≡ true
+      → has_byte after (s.core.index + place) ≡ true

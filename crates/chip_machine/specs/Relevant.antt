@@ -4,21 +4,26 @@
 --                      through, and some parts and bytes that are forgotten; of a state that has
 --                      stopped, which stays as it is, no part that may be forgotten counts, nor does
 --                      a byte
+--     AreNear          two values of I that are the same, or both where digits stand
 --     AlikeSteps       the law: two states that are alike, with draws below the greatest count, still
---                      are after the same step, where it reads nothing that is forgotten, in what is
+--                      are after the same step, where it needs nothing that is forgotten, in what is
 --                      forgotten after it
 --     DrawsGrow        the law: a step draws one random byte at most
 --     QuietTick        the law: a step that leaves the delay timer at 0 does so whether the timers
 --                      tick or not
-use Rattle.std.specs.Prelude.{◌≡◌, ℕ, ◌+◌, ◌-◌, ◌%◌, ◌^◌, ◌<◌, ◌≤◌, Bool, true, false, [], length, is_some, slice_index}
+use Rattle.std.specs.Prelude.{◌≡◌, ℕ, ◌+◌, ◌-◌, ◌%◌, ◌^◌, ◌<◌, ◌≤◌, ◌⊎◌, Bool, true, false, [], length, is_some, slice_index}
 use Rattle.std.specs.FinSet as set
-use Rattle.chip_machine.specs.Forgotten.{has_byte, has_part, index_part, screen_part, register_part, IsUnread, IsForgottenAfter}
+use Rattle.chip_machine.specs.declared.limits.TheConstants.{DIGITS_END}
+use Rattle.chip_machine.specs.Forgotten.{has_byte, has_part, index_part, far_part, screen_part, register_part, IsUnneeded, IsForgottenAfter}
 use Rattle.chip_machine.specs.State.{Core, State, IsProper}
 use Rattle.chip_machine.specs.Step.{reg, step_of}
 
 -- all but the parts that may be forgotten, the sound timer and the random bytes used
 abbrev pub others : Core → Core
 others c = record c { registers = []; index = 0; lit = set.empty; sound = 0; draws = 0 }
+
+abbrev pub AreNear : ℕ → ℕ → Type 0
+AreNear i j = (i ≡ j) ⊎ ((i < DIGITS_END) × (j < DIGITS_END))
 
 pub record Alike (forgotten : ℕ) (a b : State) : Type 0 where
   pub proper : IsProper a
@@ -30,6 +35,8 @@ pub record Alike (forgotten : ℕ) (a b : State) : Type 0 where
       → has_part forgotten (register_part x) ≡ false → reg a.core x ≡ reg b.core x
   pub index : is_some a.core.stopped ≡ false → has_part forgotten index_part ≡ false
       → a.core.index ≡ b.core.index
+  pub near : is_some a.core.stopped ≡ false → has_part forgotten far_part ≡ false
+      → AreNear a.core.index b.core.index
   pub screen : is_some a.core.stopped ≡ false → has_part forgotten screen_part ≡ false
       → a.core.lit ≡ b.core.lit
   pub memory : is_some a.core.stopped ≡ false → (at : ℕ)
@@ -38,7 +45,7 @@ pub record Alike (forgotten : ℕ) (a b : State) : Type 0 where
 abbrev pub AlikeSteps : Type 0
 AlikeSteps =
     (before after : ℕ) (a b : State) (keys : ℕ) (tick : Bool) → Alike before a b
-    → IsUnread before a → IsForgottenAfter before a (step_of a keys tick).core.pc after
+    → IsUnneeded before a → IsForgottenAfter before a (step_of a keys tick).core.pc after
     → a.core.draws < 2 ^ 64 - 1 → b.core.draws < 2 ^ 64 - 1
     → Alike after (step_of a keys tick) (step_of b keys tick)
 

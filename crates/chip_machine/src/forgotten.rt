@@ -1,11 +1,11 @@
 //! Parts of a machine that a search forgets, and what a step does with them.
 
-ghost use Rattle.std.specs.Prelude.{◌≡◌, ◌≢◌, ℕ, ◌+◌, ◌/◌, ◌<◌, [], ◌∷◌, true, false, not, IsTrue, IfOk, if◌then◌else◌};
+ghost use Rattle.std.specs.Prelude.{◌≡◌, ◌≢◌, ℕ, ◌+◌, ◌/◌, ◌<◌, ◌≤◌, [], ◌∷◌, true, false, not, Some, IsTrue, IfOk, IfSome, if◌then◌else◌};
 ghost use Rattle.std.specs.List.{list_all};
-ghost use Rattle.chip_machine.specs.Forgotten.{flag_part, first_registers, has_byte, has_part, index_part, is_forgotten_by, is_in_row, loaded, reads, register_part, screen_part, sets, spoils, stored, AreKept, AreWithin};
+ghost use Rattle.chip_machine.specs.Forgotten.{draws, far_part, flag_part, first_registers, has_byte, has_part, index_part, is_forgotten_by, is_in_row, loaded, needs, register_part, screen_part, sets, spoils, spoilt, stored, stored_part, uses, AreKept, AreWithin};
 ghost use Rattle.chip_machine.specs.Step.{effect};
-ghost use Rattle.chip_machine.specs.inner.Accesses.{loads, stores};
-ghost use Rattle.chip_machine.specs.inner.Masks.{mask_of};
+ghost use Rattle.chip_machine.specs.inner.Accesses.{from_or, loads, stores};
+ghost use Rattle.chip_machine.specs.inner.Masks.{mask_of, IsSpoiltBy};
 
 use crate::processor::Processor;
 use crate::quirks::Quirks;
@@ -19,19 +19,28 @@ const INDEX: u32 = 1;
 /// The part that is the screen.
 const SCREEN: u32 = 1 << 1;
 
+/// The part that says whether I is where digits stand, of an I whose value is forgotten.
+const FAR: u32 = 1 << 2;
+
 /// The part that is VF.
-const FLAG: u32 = 1 << 17;
+const FLAG: u32 = 1 << 18;
 
 /// The parts that are registers.
-const REGISTERS: u32 = 0x3fffc;
+const REGISTERS: u32 = 0x7fff8;
 
 /// How many bytes of the memory can be forgotten: those of a window.
 pub const WINDOW_BYTES: u16 = 64;
 
+/// How many numbers of parts there are, those of bytes with them.
+pub const PARTS: u32 = PART_BITS + WINDOW_BYTES as u32;
+
+/// How many of them are before those of bytes.
+const PART_BITS: u32 = 32;
+
 /// Some of I, the screen and the registers of a machine, and of the bytes of its memory in a window.
 #[derive(Clone, Copy, PartialEq, Eq)]
 pub struct Forgotten {
-    /// I is bit 0, the screen bit 1, and Vx bit x + 2.
+    /// I is bit 0, the screen bit 1, whether I is far bit 2, and Vx bit x + 3.
     parts: u32,
     /// The first address of the window.
     window: u16,
@@ -69,12 +78,12 @@ impl Forgotten {
 
     /// I, the screen and all registers, and no byte.
     pub fn all() -> Forgotten {
-        Forgotten::parts_alone(INDEX | SCREEN | REGISTERS)
+        Forgotten::parts_alone(INDEX | SCREEN | FAR | REGISTERS)
     }
 
     /// I alone.
     pub fn index() -> Forgotten {
-        Forgotten::parts_alone(INDEX)
+        Forgotten::parts_alone(INDEX | FAR)
     }
 
     /// The screen alone.
@@ -165,6 +174,26 @@ impl Forgotten {
         }
     }
 
+    /// The one of them that has a number, if there is one.
+    pub fn alone(self, number: u32) -> Forgotten {
+        let mut one = Forgotten {
+            parts: 0,
+            window: self.window,
+            bytes: 0,
+        };
+        if number < PART_BITS {
+            one.parts = self.parts & 1 << number;
+        } else if number < PARTS {
+            one.bytes = self.bytes & 1 << (number - PART_BITS);
+        }
+        one
+    }
+
+    /// Whether none is one of them.
+    pub fn is_nothing(self) -> bool {
+        self.parts == 0 && self.bytes == 0
+    }
+
     /// The bytes as those of another window, but for those that it has no room for.
     fn bytes_from(self, window: u16) -> u64 {
         if window >= self.window {
@@ -242,19 +271,6 @@ impl Forgotten {
         false
     }
 
-    /// These without so many bytes in a row.
-    fn without_bytes(self, at: u16, count: u16) -> Forgotten
-        ensures parts { (part : ℕ) → has_part result part ≡ has_part self part }
-        ensures bytes { (k : ℕ) → has_byte self k ≡ true → is_in_row at count k ≡ false
-            → has_byte result k ≡ true }
-    {
-        let mut rest = self;
-        for place in 0..count {
-            rest = rest.without_byte(at as usize + place as usize);
-        }
-        rest
-    }
-
     fn without_byte(self, at: usize) -> Forgotten
         ensures parts { (part : ℕ) → has_part result part ≡ has_part self part }
         ensures bytes { (k : ℕ) → has_byte self k ≡ true → k ≢ at → has_byte result k ≡ true }
@@ -280,6 +296,13 @@ impl Forgotten {
         self.parts & 1 == 1
     }
 
+    /// Whether it is one of them where I is.
+    pub fn has_far(self) -> bool
+        ensures { result ≡ has_part self far_part }
+    {
+        self.parts >> 2 & 1 == 1
+    }
+
     /// Whether the screen is one of them.
     pub fn has_screen(self) -> bool
         ensures { result ≡ has_part self screen_part }
@@ -291,7 +314,7 @@ impl Forgotten {
     pub fn has_register(self, x: u8) -> bool
         ensures { x < 16 → result ≡ has_part self (register_part x) }
     {
-        x < 16 && self.parts >> (x + 2) & 1 == 1
+        x < 16 && self.parts >> (x + 3) & 1 == 1
     }
 
     /// Whether no register is one of them.
@@ -300,7 +323,7 @@ impl Forgotten {
     }
 
     /// What is forgotten after an instruction, where `moved` says that it doesn't leave pc where it
-    /// is. Where it reads some of them, an error with these.
+    /// is. Where it needs some of them, an error with these.
     #[inline(always)]
     pub(crate) fn after(
         self,
@@ -308,18 +331,18 @@ impl Forgotten {
         quirks: Quirks,
         moved: bool,
     ) -> Result<Forgotten, Forgotten>
-        ensures unread { IfOk result (λ _.
-            list_all (λ part. not (has_part self part)) (reads quirks instr) ≡ true) }
+        ensures unneeded { IfOk result (λ _.
+            list_all (λ part. not (has_part self part)) (needs quirks instr) ≡ true) }
         ensures after { IfOk result (λ after. (part : ℕ)
-            → is_forgotten_by self (sets quirks moved self instr) (spoils self instr) part ≡ true
+            → is_forgotten_by self (sets quirks moved instr) (spoilt quirks self instr) part ≡ true
             → has_part after part ≡ true) }
         ensures bytes { IfOk result (λ after. (at : ℕ) → has_byte after at ≡ has_byte self at) }
     {
-        let set = self.set_by(&instr, quirks, moved);
-        let spoilt = self.spoilt_by(&instr);
-        let read = self.parts & reads_of(&instr, quirks);
-        if read != 0 {
-            return Err(Forgotten::parts_alone(read));
+        let set = set_by(&instr, quirks, moved);
+        let spoilt = self.spoilt_by(&instr, quirks);
+        let needed = self.parts & needs_of(&instr, quirks);
+        if needed != 0 {
+            return Err(Forgotten::parts_alone(needed));
         }
         Ok(Forgotten {
             parts: self.parts & !set | spoilt,
@@ -327,77 +350,195 @@ impl Forgotten {
         })
     }
 
-    /// These after an instruction, by the bytes at I that it reads and writes. Where it reads some of
-    /// them, an error with these.
+    /// The parts that an instruction spoils, where it uses some of these.
+    #[inline(always)]
+    fn spoilt_by(&self, instr: &Instr, quirks: Quirks) -> u32
+        ensures { IsSpoiltBy result self.now (uses quirks instr.now) (spoils quirks instr.now) }
+    {
+        if self.parts & uses_of(instr, quirks) == 0 {
+            0
+        } else {
+            spoils_of(instr, quirks)
+        }
+    }
+
+    /// These after an instruction, by the bytes at I that it reads and writes, where others were
+    /// forgotten before it. Where it draws some of them, an error with these, and likewise where it
+    /// stores what is forgotten outside of the window.
     #[inline]
     pub(crate) fn after_bytes(
-        &self,
+        self,
+        before: Forgotten,
         instr: &Instr,
         processor: &Processor,
     ) -> Result<Forgotten, Forgotten>
-        ensures unread { IfOk result (λ _. AreKept self.now processor.now.index
-            (loaded (effect instr.now processor.now))) }
-        ensures parts { IfOk result (λ after. (part : ℕ)
-            → has_part after part ≡ has_part self.now part) }
-        ensures bytes { IfOk result (λ after. (at : ℕ) → has_byte self.now at ≡ true
+        ensures drawn { IfOk result (λ _. draws (Some instr.now) ≡ true
+            → AreKept self processor.now.index (loaded (effect instr.now processor.now))) }
+        ensures parts { IfOk result (λ after. (part : ℕ) → has_part self part ≡ true
+            → has_part after part ≡ true) }
+        ensures bytes { IfOk result (λ after. (at : ℕ) → has_byte self at ≡ true
             → is_in_row processor.now.index (stored (effect instr.now processor.now)) at ≡ false
             → has_byte after at ≡ true) }
+        ensures loaded { IfOk result (λ after. (place : ℕ)
+            → place < loaded (effect instr.now processor.now)
+            → has_byte self (processor.now.index + place) ≡ true
+            → has_part after (register_part place) ≡ true) }
+        ensures stored { IfOk result (λ after. (place : ℕ)
+            → place < stored (effect instr.now processor.now)
+            → has_part before (stored_part (Some instr.now) place) ≡ true
+            → has_byte after (processor.now.index + place) ≡ true) }
+    {
+        let loaded = self.after_load(instr, processor)?;
+        let written = bytes_stored(instr, processor);
+        if written == 0 {
+            return Ok(loaded);
+        }
+        loaded.with_stored(before, processor.index(), written, digits_of(instr))
+    }
+
+    /// These after an instruction, by the bytes at I that it reads.
+    #[inline(always)]
+    fn after_load(self, instr: &Instr, processor: &Processor) -> Result<Forgotten, Forgotten>
+        ensures drawn { IfOk result (λ _. draws (Some instr.now) ≡ true
+            → AreKept self processor.now.index (loads processor.now instr.now)) }
+        ensures parts { IfOk result (λ after. (part : ℕ) → has_part self part ≡ true
+            → has_part after part ≡ true) }
+        ensures bytes { IfOk result (λ after. (at : ℕ) → has_byte after at ≡ has_byte self at) }
+        ensures loaded { IfOk result (λ after. (place : ℕ) → place < loads processor.now instr.now
+            → has_byte self (processor.now.index + place) ≡ true
+            → has_part after (register_part place) ≡ true) }
     {
         if !self.has_bytes() {
-            return Ok(*self);
+            return Ok(self);
         }
-        let index = processor.index();
         let read = bytes_loaded(instr, processor);
-        if self.has_one_of(index, read) {
-            return Err(self.shared_with(Forgotten::bytes(index, read)));
+        if !self.has_one_of(processor.index(), read) {
+            return Ok(self);
         }
-        Ok(self.without_bytes(index, bytes_stored(instr, processor)))
-    }
-
-    /// The parts that an instruction sets.
-    #[inline(always)]
-    #[tactic(auto, unfolding(crate::specs::Forgotten::sets))]
-    fn set_by(&self, instr: &Instr, quirks: Quirks, moved: bool) -> u32
-        ensures { result ≡ mask_of (sets quirks moved self.now instr.now) }
-    {
         match *instr {
-            Instr::ClearScreen => SCREEN,
-            Instr::LowSize => set_by_size(quirks),
-            Instr::HighSize => set_by_size(quirks),
-            Instr::LoadByte(x, _byte) => register(x),
-            Instr::Copy(x, _y) => register(x),
-            Instr::Or(x, _y) => set_by_logic(x, quirks),
-            Instr::And(x, _y) => set_by_logic(x, quirks),
-            Instr::Xor(x, _y) => set_by_logic(x, quirks),
-            Instr::Add(x, _y) => FLAG | register(x),
-            Instr::Subtract(x, _y) => FLAG | register(x),
-            Instr::ShiftRight(x, _y) => FLAG | register(x),
-            Instr::SubtractFrom(x, _y) => FLAG | register(x),
-            Instr::ShiftLeft(x, _y) => FLAG | register(x),
-            Instr::LoadIndex(_address) => INDEX,
-            Instr::Random(x, _byte) => register(x),
-            Instr::Draw(_x, _y, _n) => { if self.has_screen() { 0 } else { FLAG } }
-            Instr::ReadDelay(x) => register(x),
-            Instr::WaitKey(x) => { if moved { register(x) } else { 0 } }
-            Instr::AddIndex(_x) => { if quirks.flags_overflow { FLAG } else { 0 } }
-            Instr::SmallDigit(_x) => INDEX,
-            Instr::BigDigit(_x) => INDEX,
-            Instr::LoadRegisters(x) => first_registers(x),
-            Instr::LoadFlags(x) => first_registers(x),
-            _ => 0,
+            Instr::LoadRegisters(x) => Ok(self.with_loaded(processor.index(), x)),
+            _ => Err(self.shared_with(Forgotten::bytes(processor.index(), read))),
         }
     }
 
-    /// The parts that an instruction spoils.
-    #[inline(always)]
-    #[tactic(auto, unfolding(crate::specs::Forgotten::spoils))]
-    fn spoilt_by(&self, instr: &Instr) -> u32
-        ensures { result ≡ mask_of (spoils self.now instr.now) }
+    /// These after V0 to Vx took the bytes at an address.
+    fn with_loaded(self, at: u16, x: Reg) -> Forgotten
+        ensures parts { (part : ℕ) → has_part self part ≡ true → has_part result part ≡ true }
+        ensures bytes { (k : ℕ) → has_byte result k ≡ has_byte self k }
+        ensures loaded { (place : ℕ) → place < x + 1 → has_byte self (at + place) ≡ true
+            → has_part result (register_part place) ≡ true }
     {
-        match *instr {
-            Instr::Draw(_x, _y, _n) if self.has_screen() => FLAG,
-            _ => 0,
+        let mut rest = self;
+        for place in 0..u16::from(x.number()) + 1 {
+            if self.has_byte(at as usize + place as usize) {
+                rest = rest.with_register(place as u8);
+            }
         }
+        rest
+    }
+
+    fn with_register(self, x: u8) -> Forgotten
+        requires { x < 16 }
+        ensures parts { (part : ℕ) → has_part self part ≡ true → has_part result part ≡ true }
+        ensures bytes { (k : ℕ) → has_byte result k ≡ has_byte self k }
+        ensures register { has_part result (register_part x) ≡ true }
+    {
+        Forgotten {
+            parts: self.parts | 1 << (x + 3),
+            ..self
+        }
+    }
+
+    /// These after so many bytes were stored at an address: those of the first registers, or all those
+    /// of one register. An error with a register that was forgotten where the window has no room for
+    /// its byte.
+    fn with_stored(
+        self,
+        before: Forgotten,
+        at: u16,
+        count: u16,
+        digits_of: Option<u8>,
+    ) -> Result<Forgotten, Forgotten>
+        requires few { count ≤ 16 }
+        requires range { IfSome digits_of (λ x. x < 16) }
+        ensures parts { IfOk result (λ after. (part : ℕ)
+            → has_part after part ≡ has_part self part) }
+        ensures bytes { IfOk result (λ after. (k : ℕ) → has_byte self k ≡ true
+            → is_in_row at count k ≡ false → has_byte after k ≡ true) }
+        ensures stored { IfOk result (λ after. (place : ℕ) → place < count
+            → has_part before (register_part (from_or digits_of place)) ≡ true
+            → has_byte after (at + place) ≡ true) }
+    {
+        let mut rest = self;
+        for place in 0..count {
+            let register = from_or(digits_of, place as u8);
+            let address = at as usize + place as usize;
+            match rest.with_stored_byte(address, before.has_register(register)) {
+                Some(after) => rest = after,
+                None => return Err(before.shared_with(Forgotten::parts_alone(1 << (register + 3)))),
+            }
+        }
+        Ok(rest)
+    }
+
+    /// These after a byte was stored that is forgotten or not, unless the window has no room for it.
+    fn with_stored_byte(self, at: usize, is_forgotten: bool) -> Option<Forgotten>
+        ensures parts { IfSome result (λ after. (part : ℕ)
+            → has_part after part ≡ has_part self part) }
+        ensures bytes { IfSome result (λ after. (k : ℕ) → has_byte self k ≡ true → k ≢ at
+            → has_byte after k ≡ true) }
+        ensures stored { IfSome result (λ after. is_forgotten ≡ true
+            → has_byte after at ≡ true) }
+    {
+        if is_forgotten {
+            self.with_byte(at)
+        } else {
+            Some(self.without_byte(at))
+        }
+    }
+
+    /// These and a byte, if the window has room for it.
+    fn with_byte(self, at: usize) -> Option<Forgotten>
+        ensures parts { IfSome result (λ after. (part : ℕ)
+            → has_part after part ≡ has_part self part) }
+        ensures bytes { IfSome result (λ after. (k : ℕ) → has_byte self k ≡ true
+            → has_byte after k ≡ true) }
+        ensures byte { IfSome result (λ after. has_byte after at ≡ true) }
+    {
+        let window = self.window as usize;
+        if at < window {
+            return None;
+        }
+        let place = at - window;
+        if place >= WINDOW_BYTES as usize {
+            return None;
+        }
+        Some(Forgotten {
+            bytes: self.bytes | 1 << place,
+            ..self
+        })
+    }
+}
+
+/// A register, or the one at a place.
+fn from_or(register: Option<u8>, place: u8) -> u8
+    ensures { result ≡ from_or register place }
+{
+    match register {
+        Some(x) => x,
+        None => place,
+    }
+}
+
+/// Of which register an instruction stores the digits.
+fn digits_of(instr: &Instr) -> Option<u8>
+    ensures stored { (place : ℕ) → stored_part (Some instr.now) place
+        ≡ register_part (from_or result place) }
+    ensures range { IfSome result (λ x. x < 16) }
+{
+    match *instr {
+        Instr::StoreDecimal(x) => Some(x.number()),
+        _ => None,
     }
 }
 
@@ -422,7 +563,8 @@ fn bytes_loaded(instr: &Instr, processor: &Processor) -> u16
 /// How many bytes at I an instruction writes.
 #[tactic(auto, unfolding(crate::specs::inner::Accesses::stores))]
 fn bytes_stored(instr: &Instr, processor: &Processor) -> u16
-    ensures { result ≡ stores processor.now instr.now }
+    ensures count { result ≡ stores processor.now instr.now }
+    ensures few { result ≤ 16 }
 {
     match *instr {
         Instr::StoreDecimal(_x) => 3,
@@ -433,16 +575,71 @@ fn bytes_stored(instr: &Instr, processor: &Processor) -> u16
     }
 }
 
-/// The parts that an instruction reads.
+/// The parts that an instruction sets.
 #[inline(always)]
-#[tactic(auto, unfolding(crate::specs::Forgotten::reads))]
-fn reads_of(instr: &Instr, quirks: Quirks) -> u32
-    ensures { result ≡ mask_of (reads quirks instr.now) }
+#[tactic(auto, unfolding(crate::specs::Forgotten::sets))]
+fn set_by(instr: &Instr, quirks: Quirks, moved: bool) -> u32
+    ensures { result ≡ mask_of (sets quirks moved instr.now) }
+{
+    match *instr {
+        Instr::ClearScreen => SCREEN,
+        Instr::LowSize => set_by_size(quirks),
+        Instr::HighSize => set_by_size(quirks),
+        Instr::LoadByte(x, _byte) => register(x),
+        Instr::Copy(x, _y) => register(x),
+        Instr::Or(x, _y) => set_by_logic(x, quirks),
+        Instr::And(x, _y) => set_by_logic(x, quirks),
+        Instr::Xor(x, _y) => set_by_logic(x, quirks),
+        Instr::Add(x, _y) => FLAG | register(x),
+        Instr::Subtract(x, _y) => FLAG | register(x),
+        Instr::ShiftRight(x, _y) => FLAG | register(x),
+        Instr::SubtractFrom(x, _y) => FLAG | register(x),
+        Instr::ShiftLeft(x, _y) => FLAG | register(x),
+        Instr::LoadIndex(_address) => INDEX | FAR,
+        Instr::Random(x, _byte) => register(x),
+        Instr::Draw(_x, _y, _n) => FLAG,
+        Instr::ReadDelay(x) => register(x),
+        Instr::WaitKey(x) => { if moved { register(x) } else { 0 } }
+        Instr::AddIndex(_x) => { if quirks.flags_overflow { FLAG } else { 0 } }
+        Instr::SmallDigit(_x) => INDEX | FAR,
+        Instr::BigDigit(_x) => INDEX | FAR,
+        Instr::LoadRegisters(x) => first_registers(x),
+        Instr::LoadFlags(x) => first_registers(x),
+        _ => 0,
+    }
+}
+
+/// The parts that an instruction needs.
+#[inline(always)]
+#[tactic(auto, unfolding(crate::specs::Forgotten::needs))]
+fn needs_of(instr: &Instr, quirks: Quirks) -> u32
+    ensures { result ≡ mask_of (needs quirks instr.now) }
 {
     match *instr {
         Instr::SkipIfByte(x, _byte) => register(x),
         Instr::SkipUnlessByte(x, _byte) => register(x),
         Instr::SkipIfEqual(x, y) => registers(x, y),
+        Instr::SkipUnlessEqual(x, y) => registers(x, y),
+        Instr::JumpOffset(address) => offset_register(address, quirks),
+        Instr::Draw(_x, _y, _n) => FAR,
+        Instr::SkipIfKey(x) => register(x),
+        Instr::SkipUnlessKey(x) => register(x),
+        Instr::SetDelay(x) => register(x),
+        Instr::StoreDecimal(_x) => INDEX | FAR,
+        Instr::StoreRegisters(_x) => INDEX | FAR,
+        Instr::LoadRegisters(_x) => INDEX | FAR,
+        Instr::StoreFlags(x) => first_registers(x),
+        _ => 0,
+    }
+}
+
+/// The parts that an instruction uses.
+#[inline(always)]
+#[tactic(auto, unfolding(crate::specs::Forgotten::uses))]
+fn uses_of(instr: &Instr, quirks: Quirks) -> u32
+    ensures { result ≡ mask_of (uses quirks instr.now) }
+{
+    match *instr {
         Instr::Copy(_x, y) => register(y),
         Instr::Or(x, y) => registers(x, y),
         Instr::And(x, y) => registers(x, y),
@@ -452,24 +649,38 @@ fn reads_of(instr: &Instr, quirks: Quirks) -> u32
         Instr::ShiftRight(x, y) => shifted(x, y, quirks),
         Instr::SubtractFrom(x, y) => registers(x, y),
         Instr::ShiftLeft(x, y) => shifted(x, y, quirks),
-        Instr::SkipUnlessEqual(x, y) => registers(x, y),
-        Instr::JumpOffset(address) => offset_register(address, quirks),
-        Instr::Draw(x, y, _n) => INDEX | registers(x, y),
-        Instr::SkipIfKey(x) => register(x),
-        Instr::SkipUnlessKey(x) => register(x),
-        Instr::SetDelay(x) => register(x),
-        Instr::AddIndex(x) => added(x, quirks),
+        Instr::Draw(x, y, _n) => INDEX | (SCREEN | registers(x, y)),
+        Instr::AddIndex(x) => INDEX | register(x),
         Instr::SmallDigit(x) => register(x),
         Instr::BigDigit(x) => register(x),
-        Instr::StoreDecimal(x) => INDEX | register(x),
-        Instr::StoreRegisters(x) => INDEX | first_registers(x),
-        Instr::LoadRegisters(_x) => INDEX,
-        Instr::StoreFlags(x) => first_registers(x),
         _ => 0,
     }
 }
 
-/// What a shift of Vx and Vy reads: the one or the other.
+/// The parts that an instruction spoils where it uses some that are forgotten.
+#[tactic(auto, unfolding(crate::specs::Forgotten::spoils))]
+fn spoils_of(instr: &Instr, quirks: Quirks) -> u32
+    ensures { result ≡ mask_of (spoils quirks instr.now) }
+{
+    match *instr {
+        Instr::Copy(x, _y) => register(x),
+        Instr::Or(x, _y) => register(x),
+        Instr::And(x, _y) => register(x),
+        Instr::Xor(x, _y) => register(x),
+        Instr::Add(x, _y) => FLAG | register(x),
+        Instr::Subtract(x, _y) => FLAG | register(x),
+        Instr::ShiftRight(x, _y) => FLAG | register(x),
+        Instr::SubtractFrom(x, _y) => FLAG | register(x),
+        Instr::ShiftLeft(x, _y) => FLAG | register(x),
+        Instr::Draw(_x, _y, _n) => FLAG | SCREEN,
+        Instr::AddIndex(_x) => spoilt_by_sum(quirks),
+        Instr::SmallDigit(_x) => INDEX,
+        Instr::BigDigit(_x) => INDEX,
+        _ => 0,
+    }
+}
+
+/// What a shift of Vx and Vy uses: the one or the other.
 #[inline(always)]
 fn shifted(x: Reg, y: Reg, quirks: Quirks) -> u32
     ensures { result
@@ -482,29 +693,29 @@ fn shifted(x: Reg, y: Reg, quirks: Quirks) -> u32
     }
 }
 
-/// What a jump to an address and a register reads: the register of the address's top digit, or V0.
+/// What a jump to an address and a register needs: the register of the address's top digit, or V0.
 #[inline(always)]
 fn offset_register(address: Addr, quirks: Quirks) -> u32
     ensures { result ≡ mask_of
         (register_part (if quirks.jumps_by_first then 0 else address / 256) ∷ []) }
 {
     if quirks.jumps_by_first {
-        1 << 2
+        1 << 3
     } else {
-        1 << (address.number() / 256 + 2)
+        1 << (address.number() / 256 + 3)
     }
 }
 
-/// What an addition of Vx to I reads: I too where VF says how large the sum is.
+/// What an addition to I spoils: VF too where that says how large the sum is.
 #[inline(always)]
-fn added(x: Reg, quirks: Quirks) -> u32
-    ensures { result ≡ mask_of (if quirks.flags_overflow then index_part ∷ register_part x ∷ []
-        else register_part x ∷ []) }
+fn spoilt_by_sum(quirks: Quirks) -> u32
+    ensures { result ≡ mask_of (if quirks.flags_overflow then flag_part ∷ index_part ∷ far_part ∷ []
+        else index_part ∷ far_part ∷ []) }
 {
     if quirks.flags_overflow {
-        INDEX | register(x)
+        FLAG | (INDEX | FAR)
     } else {
-        register(x)
+        INDEX | FAR
     }
 }
 
@@ -534,7 +745,7 @@ fn set_by_logic(x: Reg, quirks: Quirks) -> u32
 fn register(x: Reg) -> u32
     ensures { result ≡ mask_of (register_part x ∷ []) }
 {
-    1 << (x.number() + 2)
+    1 << (x.number() + 3)
 }
 
 /// Two registers.
@@ -542,7 +753,7 @@ fn register(x: Reg) -> u32
 fn registers(x: Reg, y: Reg) -> u32
     ensures { result ≡ mask_of (register_part x ∷ register_part y ∷ []) }
 {
-    1 << (x.number() + 2) | 1 << (y.number() + 2)
+    1 << (x.number() + 3) | 1 << (y.number() + 3)
 }
 
 /// V0 to Vx.
@@ -550,5 +761,5 @@ fn registers(x: Reg, y: Reg) -> u32
 fn first_registers(x: Reg) -> u32
     ensures { result ≡ mask_of (first_registers x) }
 {
-    (8 << x.number()) - 4
+    (16 << x.number()) - 8
 }

@@ -18,5 +18,8 @@ pub const FLAGS: usize = 8;
 /// How many bytes the largest sprite has, one of 16 by 16 pixels.
 pub const SPRITE_BYTES: usize = 32;
 
+/// The digits that LD F and LD HF point to begin below this address.
+pub const DIGITS_END: u16 = 256;
+
 /// How many addresses a step touches at most: those of its word, and those of a sprite.
 pub const TOUCHES: usize = 2 + SPRITE_BYTES;

@@ -8,7 +8,7 @@ ghost use Rattle.chip_machine.specs.Sprite.{sprite_bytes};
 ghost use Rattle.chip_machine.specs.Scroll.{scrolled_down, scrolled_right, scrolled_left};
 ghost use Rattle.std.specs.FinSet as set;
 ghost use Rattle.chip_machine.specs.Forgotten.{has_part, register_part};
-ghost use Rattle.chip_machine.specs.Relevant.{Alike, others};
+ghost use Rattle.chip_machine.specs.Relevant.{Alike, AreNear, others};
 ghost use Rattle.chip_machine.specs.State.{State};
 ghost use Rattle.chip_machine.specs.Restored.{core_with_parts};
 ghost use Rattle.chip_machine.specs.inner.Stored.{in_rows};
@@ -16,7 +16,7 @@ ghost use Rattle.chip_machine.specs.Start.{IsTape, start_core};
 
 use crate::forgotten::Forgotten;
 use crate::limits::{
-    FLAGS, FRAMES, IMAGE_START, LAST_WORD, MEMORY_BYTES, SPRITE_BYTES, TAPE_BYTES,
+    DIGITS_END, FLAGS, FRAMES, IMAGE_START, LAST_WORD, MEMORY_BYTES, SPRITE_BYTES, TAPE_BYTES,
 };
 use crate::parts::Parts;
 use crate::quirks::{IndexMove, LowSixteen, Quirks};
@@ -202,6 +202,7 @@ impl Processor {
     {
         self.has_same_others(other)
             && (forgotten.has_index() || self.index == other.index)
+            && (forgotten.has_far() || are_near(self.index, other.index))
             && have_same_values(self.registers(), other.registers(), forgotten)
             && (forgotten.has_screen() || self.screen.is_same(&other.screen))
     }
@@ -663,6 +664,13 @@ impl Processor {
     {
         self.draws
     }
+}
+
+/// Whether two values of I are the same, or both where digits stand: true only where they are.
+fn are_near(mine: u16, theirs: u16) -> bool
+    ensures { IsTrue result → AreNear mine theirs }
+{
+    mine == theirs || mine < DIGITS_END && theirs < DIGITS_END
 }
 
 /// Whether two machines have the same value in each register that isn't forgotten: true only where

@@ -12,7 +12,7 @@
 --                     is at an address that is noted and has what is asked of it there: nothing of that
 --                     is forgotten
 --     Safe            from a state at a step on, of which some parts are forgotten, a few steps that tell
---                     neither keys nor values of the delay timer apart and read nothing that is
+--                     neither keys nor values of the delay timer apart and need nothing that is
 --                     forgotten lead to the limit, to a stop, or to a state that is kept, past no
 --                     state that meets the target, and at no address that isn't noted
 --     IsTaken         so does each step from a state that is kept
@@ -22,7 +22,7 @@
 use Rattle.std.specs.Prelude.{◌≡◌, ℕ, zero, suc, ◌+◌, ◌-◌, ◌%◌, ◌^◌, ◌<◌, ◌≤◌, ◌⊎◌, Bool, true, false, Option, Some, None, List, length, is_some, slice_index, slice_index_or, if◌then◌else◌}
 use Rattle.chip_machine.specs.Block.{ticks}
 use Rattle.chip_machine.specs.Choices.{IsWithin, Represents}
-use Rattle.chip_machine.specs.Forgotten.{AreWithin, IsUnread, IsForgottenAfter}
+use Rattle.chip_machine.specs.Forgotten.{AreWithin, IsUnneeded, IsForgottenAfter}
 use Rattle.chip_machine.specs.Relevant.{Alike}
 use Rattle.chip_machine.specs.State.{IsProper, State}
 use Rattle.chip_machine.specs.Step.{step_of}
@@ -95,7 +95,7 @@ Ends p v forgotten s t =
 abbrev pub SafeFor : Setting → View → ℕ → (forgotten : ℕ) → State → ℕ → Type 0
 SafeFor p v zero forgotten s t = Ends p v forgotten s t
 SafeFor p v (suc k) forgotten s t =
-    Moves p v.executed forgotten s × IsUnread forgotten s
+    Moves p v.executed forgotten s × IsUnneeded forgotten s
     × ((after : ℕ) × IsForgottenAfter forgotten s (step_of s 0 (tick_at p t)).core.pc after
     × SafeFor p v k after (step_of s 0 (tick_at p t)) (t + 1))
 
@@ -124,7 +124,7 @@ GoesOn p v forgotten s t = GoesBy (timed_register p s) p v forgotten s t
 pub record IsTaken (p : Setting) (v : View) (place : ℕ) : Type 0 where
   pub drawn : (v.member place).core.draws < 2 ^ 64 - 1
   pub asked : are_goals_known p (forgotten_at v place) (v.member place) ≡ true
-  pub unread : IsUnread (forgotten_at v place) (v.member place)
+  pub unneeded : IsUnneeded (forgotten_at v place) (v.member place)
   pub goes_on : GoesOn p v (forgotten_at v place) (v.member place) (slice_index v.steps place)
 
 pub record Extends (p : Setting) (v w : View) : Type 0 where
@@ -183,20 +183,20 @@ pub record IsWhole (p : Setting) (m : Members) : Type 0 where
       → IsTaken p (view_of m) j
 
 -- with each of the allowed keys down the next step of a state acts as with one of some choices, and
--- reads nothing that is forgotten
+-- needs nothing that is forgotten
 pub record HasChoices (p : Setting) (forgotten : ℕ) (s : State) (choices : ℕ) : Type 0 where
   pub drawn : s.core.draws < 2 ^ 64 - 1
   pub asked : are_goals_known p forgotten s ≡ true
   pub few : choices < 2 ^ 16
   pub all : Represents p.allowed choices s
-  pub unread : IsUnread forgotten s
+  pub unneeded : IsUnneeded forgotten s
   pub untimed : timed_register p s ≡ None
 
 -- the next step of a state sets a register to one of the values of the delay timer up to the bound
 pub record HasValues (p : Setting) (forgotten : ℕ) (s : State) (read : Reading) : Type 0 where
   pub drawn : s.core.draws < 2 ^ 64 - 1
   pub asked : are_goals_known p forgotten s ≡ true
-  pub unread : IsUnread forgotten s
+  pub unneeded : IsUnneeded forgotten s
   pub timed : timed_register p s ≡ Some read.register
   pub range : read.register < 16
   pub bound : s.core.delay ≡ read.bound

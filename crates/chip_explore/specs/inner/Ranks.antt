@@ -3,13 +3,13 @@
 --     Falls           a state is like one that is kept, of a lesser rank
 --     Climbs          from a state at a step on, of which some parts are forgotten, at most so many steps,
 --                     with some allowed keys each, lead to the goals or to a kept state of a lesser rank:
---                     they read nothing that is forgotten, and no value of a delay timer that is a bound
+--                     they need nothing that is forgotten, and read no value of a delay timer that is a bound
 --     IsRanked        so it is from a state that is kept, with its own rank
 --     IsOpen          a state whose step tells no values of the delay timer apart
 --     IsWay           what is known where some steps with no keys down end
 use Rattle.std.specs.Prelude.{◌≡◌, ℕ, zero, suc, ◌+◌, ◌-◌, ◌^◌, ◌<◌, ◌≤◌, ◌⊎◌, List, None, false, true, is_some, length, slice_index}
 use Rattle.chip_machine.specs.Choices.{IsWithin}
-use Rattle.chip_machine.specs.Forgotten.{AreWithin, IsUnread, IsForgottenAfter}
+use Rattle.chip_machine.specs.Forgotten.{AreWithin, IsUnneeded, IsForgottenAfter}
 use Rattle.chip_machine.specs.Relevant.{Alike}
 use Rattle.chip_machine.specs.State.{State}
 use Rattle.chip_machine.specs.Step.{step_of}
@@ -47,7 +47,7 @@ pub record IsOpen (p : Setting) (s : State) : Type 0 where
 abbrev pub ClimbsFor : Setting → View → (ranks : List ℕ) → (rank moves forgotten : ℕ) → State → ℕ → Type 0
 ClimbsFor p v ranks rank zero forgotten s t = Arrives p v ranks rank forgotten s t
 ClimbsFor p v ranks rank (suc k) forgotten s t =
-    IsOpen p s × IsUnread forgotten s
+    IsOpen p s × IsUnneeded forgotten s
     × ((keys : ℕ) × IsWithin p.allowed keys
     × ((after : ℕ) × IsForgottenAfter forgotten s (step_of s keys (tick_at p t)).core.pc after
     × ClimbsFor p v ranks rank k after (step_of s keys (tick_at p t)) (t + 1)))

@@ -1,5 +1,5 @@
 use Rattle.std.proofs.Common.{◌≡◌, ◌+◌, ℕ, suc, Bool, refl, ap, subst, ◌∙◌, arith}
-use Rattle.chip_machine.specs.Forgotten.{IsForgottenAfter, IsUnread}
+use Rattle.chip_machine.specs.Forgotten.{IsForgottenAfter, IsUnneeded}
 use Rattle.chip_machine.specs.State.{State}
 use Rattle.chip_machine.specs.Step.{step_of}
 use Rattle.chip_explore.specs.inner.Cover.{tick_at}
@@ -20,8 +20,8 @@ loop-way-preserved c =
     c.step.ensures.state
     ∙ ap (λ (s : State). step_of s 0 c.tick_at.result) (c.in-Ok.ensures.same ∙ there)
     ∙ ap (λ (tick : Bool). step_of s 0 tick) c.tick_at.ensures in
-    let unread : IsUnread f s =
-    subst (λ (f : ℕ). IsUnread f s) parts (subst (λ (s : State). IsUnread c.way.new.self.forgotten s) there c.in-Ok.ensures.unread) in
+    let unneeded : IsUnneeded f s =
+    subst (λ (f : ℕ). IsUnneeded f s) parts (subst (λ (s : State). IsUnneeded c.way.new.self.forgotten s) there c.in-Ok.ensures.unneeded) in
     let is_after : IsForgottenAfter f s (step_of s 0 (tick_at p t)).core.pc after =
     subst (λ (f : ℕ). IsForgottenAfter f s (step_of s 0 (tick_at p t)).core.pc after) parts
     (subst (λ (s : State). IsForgottenAfter c.way.new.self.forgotten s (step_of s 0 (tick_at p t)).core.pc after) there (c.in-Ok.ensures.after (tick_at p t))) in
@@ -30,7 +30,7 @@ loop-way-preserved c =
       path = λ v ranks rank moves low path.
           c.loop-way.invariant.path v ranks rank (suc moves) (omega (arith, c.in_default.ensures.left refl)) (
             c.in_default.ensures.open refl,
-            unread,
+            unneeded,
             (0, none_within p.allowed, (after, is_after, subst (λ (s : State). ClimbsFor p v ranks rank moves after s (t + 1)) made path)),
           );
     }

@@ -1,6 +1,6 @@
 use Rattle.std.proofs.Common.{rules, ◌≡◌, ◌+◌, ◌<◌, Option, Some, false, is_some, refl, slice_index, ◌-◌, ◌^◌, ℕ, suc, None, Bool, ap, sym, subst, ◌∙◌, arith}
 use Rattle.std.proofs.lemmas.Grind.{get_or_default_zero}
-use Rattle.chip_machine.specs.Forgotten.{IsForgottenAfter, IsUnread}
+use Rattle.chip_machine.specs.Forgotten.{IsForgottenAfter, IsUnneeded}
 use Rattle.chip_machine.specs.State.{State}
 use Rattle.chip_machine.specs.Step.{step_of}
 use Rattle.chip_explore.specs.inner.Cover.{forgotten_at, tick_at, view_of}
@@ -33,8 +33,8 @@ returns-clause-path c = λ yes ranks rank most climbs.
     let none : timed_register p s ≡ None =
     ap (timed_register p) (sym here) ∙ sym c.timed_register.ensures.value ∙ none_of c.timed_register.result (sym c.is_some.ensures ∙ c.if-is_some.false) in
     let low : s.core.draws < 2 ^ 64 - 1 = subst (λ (s : State). s.core.draws < 2 ^ 64 - 1) here (omega (arith, c.draws.ensures)) in
-    let unread : IsUnread f s =
-    subst (λ (f : ℕ). IsUnread f s) there (subst (λ (s : State). IsUnread c.index.result.now s) here c.in-Ok.ensures.unread) in
+    let unneeded : IsUnneeded f s =
+    subst (λ (f : ℕ). IsUnneeded f s) there (subst (λ (s : State). IsUnneeded c.index.result.now s) here c.in-Ok.ensures.unneeded) in
     let is_after : IsForgottenAfter f s (step_of s keys (tick_at p t)).core.pc c.in-Ok.after =
     subst (λ (f : ℕ). IsForgottenAfter f s (step_of s keys (tick_at p t)).core.pc c.in-Ok.after) there
     (subst (λ (s : State). IsForgottenAfter c.index.result.now s (step_of s keys (tick_at p t)).core.pc c.in-Ok.after) here (c.in-Ok.ensures.after (tick_at p t))) in
@@ -46,5 +46,5 @@ returns-clause-path c = λ yes ranks rank most climbs.
     (record {
       moves = suc climbs.moves;
       few = omega arith;
-      path = (record { untimed = none; drawn = low }, unread, (keys, c.if-keys-setting.false, (c.in-Ok.after, is_after, path)));
+      path = (record { untimed = none; drawn = low }, unneeded, (keys, c.if-keys-setting.false, (c.in-Ok.after, is_after, path)));
     })

@@ -1,0 +1,193 @@
+//! Which guesses a step refuted: what it needed may come of other parts, on the way from the states
+//! that are kept. Nothing is claimed of it.
+
+ghost use Rattle.std.specs.Prelude.{◌≡◌, ◌<◌, length};
+
+use crate::finder::Origin;
+use crate::limits::MOST_QUIET_STEPS;
+use crate::search::Search;
+use crate::setting::Setting;
+use chip_machine::Forgotten;
+use chip_machine::forgotten::PARTS;
+use chip_machine::limits::DIGITS_END;
+use std::alloc::AllocError;
+
+/// Some steps in a row from a state that is kept.
+#[derive(Clone, Copy)]
+pub(crate) struct Trail {
+    /// How the first of them went.
+    pub(crate) origin: Origin,
+    /// The number of the step after the last.
+    pub(crate) to: u64,
+}
+
+impl Search {
+    /// Notes that a step at the end of a trail needed some parts and bytes that are forgotten: those of
+    /// which they come are known from now on in the last state before it of which they were forgotten,
+    /// or all of each state where there is none. After the first such step of a search others may have
+    /// led to that already.
+    pub(crate) fn refute(&mut self, setting: &Setting<'_>, trail: Trail, needed: Forgotten)
+        requires { 0 < setting.now.rate }
+        ensures { self.new.members ≡ self.old.members }
+    {
+        let guesses = &mut self.finder.guesses;
+        let is_first = !guesses.is_refuted;
+        let states = self.members.states.len();
+        if is_first && guesses.note_stores(&self.runner.machine, states) {
+            return;
+        }
+        let mut trail = trail;
+        let mut needed = needed;
+        for _state in 0..=self.finder.origins.len() {
+            let Some(place) = trail.origin.parent() else {
+                break;
+            };
+            needed = match self.sources(setting, place, trail, needed) {
+                Ok(sources) => sources,
+                Err(_) => needed,
+            };
+            if self.knows_more(place, needed, is_first) || !is_first {
+                return;
+            }
+            if place >= self.members.steps.len() || place >= self.finder.origins.len() {
+                break;
+            }
+            trail = Trail {
+                origin: self.finder.origins[place],
+                to: self.members.steps[place],
+            };
+        }
+        self.finder.guesses.give_up();
+    }
+
+    /// Forgets less of the states at the address of one, and of the bytes less of all states: the answer
+    /// is whether it did. The value of an I that isn't where digits stand is known where that is.
+    fn knows_more(&mut self, place: usize, needed: Forgotten, is_first: bool) -> bool
+        ensures { self.new.members ≡ self.old.members }
+    {
+        if place >= self.members.states.len() {
+            return false;
+        }
+        let states = self.members.states.len();
+        let has_bytes = needed.has_bytes() && is_first;
+        let is_new = has_bytes && self.finder.guesses.note_needed(needed, states);
+        let state = &self.members.states[place];
+        let whole = if needed.has_far() && state.index >= DIGITS_END {
+            needed.with(Forgotten::index())
+        } else {
+            needed
+        };
+        self.finder.guesses.lower(state.pc, whole) || is_new
+    }
+
+    /// Of which parts that are forgotten of the state at a place some others come, which are forgotten
+    /// at the end of a trail from there: these themselves where none is found.
+    fn sources(
+        &mut self,
+        setting: &Setting<'_>,
+        place: usize,
+        trail: Trail,
+        needed: Forgotten,
+    ) -> Result<Forgotten, AllocError>
+        requires { 0 < setting.now.rate }
+        ensures { self.new.members ≡ self.old.members }
+    {
+        let from = u64::from(trail.origin.step);
+        if trail.to <= from || place >= self.members.forgotten.len() {
+            return Ok(needed);
+        }
+        let forgotten = self.members.forgotten[place];
+        if needed.is_nothing() {
+            return Ok(forgotten);
+        }
+        let mut sources = Forgotten::nothing();
+        for number in 0..PARTS {
+            let part = forgotten.alone(number);
+            if !part.is_nothing() {
+                let after = self.forgotten_by(setting, place, trail, part)?;
+                if !after.shared_with(needed).is_nothing() {
+                    sources = sources.with(part);
+                }
+            }
+        }
+        Ok(if sources.is_nothing() {
+            needed
+        } else {
+            sources
+        })
+    }
+
+    /// What is forgotten at the end of a trail where this is so of the state at a place before it.
+    fn forgotten_by(
+        &mut self,
+        setting: &Setting<'_>,
+        place: usize,
+        trail: Trail,
+        part: Forgotten,
+    ) -> Result<Forgotten, AllocError>
+        requires { 0 < setting.now.rate }
+        ensures { self.new.members ≡ self.old.members }
+    {
+        let Some(mut forgotten) = self.first_by(setting, place, trail, part)? else {
+            return Ok(part);
+        };
+        let runner = &mut self.runner;
+        let from = u64::from(trail.origin.step) + 1;
+        let most = from + u64::from(MOST_QUIET_STEPS);
+        for step in from..trail.to.min(most) {
+            let Ok(after) = runner.machine.forgotten_after(forgotten, 0) else {
+                return Ok(forgotten);
+            };
+            forgotten = after;
+            runner
+                .machine
+                .step(0, setting.tick_at(step), &mut runner.touch);
+        }
+        Ok(forgotten)
+    }
+
+    /// Gives the runner the state after the first step of a trail, and what is forgotten then: nothing
+    /// where that isn't possible.
+    fn first_by(
+        &mut self,
+        setting: &Setting<'_>,
+        place: usize,
+        trail: Trail,
+        part: Forgotten,
+    ) -> Result<Option<Forgotten>, AllocError>
+        requires { 0 < setting.now.rate }
+        ensures { self.new.members ≡ self.old.members }
+    {
+        let Origin {
+            step,
+            keys,
+            value,
+            ..
+        } = trail.origin;
+        let runner = &mut self.runner;
+        if place >= self.members.states.len()
+            || !self
+                .members
+                .load(place, &mut runner.machine, &mut runner.rows)?
+        {
+            return Ok(None);
+        }
+        let Ok(after) = runner.machine.forgotten_after(part, keys) else {
+            return Ok(None);
+        };
+        let Some(register) = setting.timed_register(&runner.machine) else {
+            runner
+                .machine
+                .step(keys, setting.tick_at(u64::from(step)), &mut runner.touch);
+            return Ok(Some(after));
+        };
+        let is_loaded = self.members.load_read(
+            place,
+            register,
+            value,
+            &mut runner.machine,
+            &mut runner.rows,
+        )?;
+        Ok(is_loaded.then_some(after))
+    }
+}
