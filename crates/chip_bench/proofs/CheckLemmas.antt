@@ -4,13 +4,14 @@ use Rattle.std.proofs.lemmas.List.{drop_all}
 use Rattle.std.specs.Borrow.{Bor}
 use Rattle.std.specs.Prelude.{IsErr, option_copied}
 use Rattle.chip_asm.specs.Lines.{lines_of, open_fault}
+use Rattle.chip_asm.specs.Program.{image_of}
 use Rattle.chip_asm.specs.declared.refusal.OpenError.{OpenError}
 use Rattle.chip_asm.specs.declared.refusal.OpenError.TheVariants as unopened
 use Rattle.chip_session.specs.Tally.{Tally}
 use Rattle.chip_arguments.specs.declared.command_line.CheckArguments.{CheckArguments}
 use Rattle.chip_bench.specs.Exploring.{AsksSet, warning_named}
 use Rattle.chip_bench.specs.Doing.{Checks, ChecksEach, ChecksOne, GivesSource, IsBadSet, IsSourceUnread, Outcome, paints, with_ending, worse}
-use Rattle.chip_bench.specs.Printing.{IsPrintedCheck, IsPrintedCheckOf, Printed, Prints, PrintsSuch, printed, unopened_check}
+use Rattle.chip_bench.specs.Printing.{IsCheckText, IsPrintedCheckOf, Printed, Prints, PrintsSuch, ending_with, printed, unopened_check}
 use Rattle.chip_bench.specs.inner.Reads.{printed_by}
 use Rattle.chip_bench.specs.declared.output.Answer.{Answer}
 use Rattle.chip_bench.specs.declared.ending.Ending.{Ending}
@@ -39,7 +40,7 @@ one_after_another Short second (Err why) = refl
 module _ (is_json is_painted is_alone : Bool) (name bytes : List ℕ) where
   -- what is found in a source that opens
   pub found_opened : (lines : List (List ℕ)) (wanted : Printed) → open_fault bytes ≡ None → lines ≡ lines_of bytes →
-      IsPrintedCheck is_json is_painted name lines wanted → IsPrintedCheckOf is_json is_painted is_alone name (open_fault bytes) (lines_of bytes) wanted
+      IsCheckText is_json is_painted name lines wanted.text × (wanted.ending ≡ ending_with (image_of lines)) → IsPrintedCheckOf is_json is_painted is_alone name (open_fault bytes) (lines_of bytes) wanted
   found_opened lines wanted opens are is = rw (opens, sym are) is
 
   -- or why it doesn't

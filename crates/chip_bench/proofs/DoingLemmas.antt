@@ -5,15 +5,16 @@ use Rattle.std.specs.Borrow.{Bor}
 use Rattle.chip_asm.specs.Lines.{lines_of, open_fault}
 use Rattle.chip_asm.specs.Program.{image_of}
 use Rattle.chip_views.specs.Dis.{source_of_image}
-use Rattle.chip_bench.specs.Doing.{AsSource, Assembles, AssemblesBy, Debugs, Declined, Does, FromGiven, FromKeys, FromSource, IfSettled, IsExplanation, IsImageRefused, IsShort, IsSourceUnread, IsUnexplained, IsUnsettled, Outcome, Pictures, PicturesBy, Runs, Tells, Traces, TracesBy, WithAsked}
+use Rattle.chip_bench.specs.Doing.{AsSource, Assembles, Debugs, Declined, Does, FromGiven, FromKeys, FromSource, IfSettled, IsExplanation, IsImageRefused, IsShort, IsSourceUnread, IsUnexplained, IsUnsettled, Outcome, Pictures, PicturesBy, Runs, Tells, Traces, TracesBy, WithAsked, WritesBy}
 use Rattle.chip_bench.specs.inner.Reads.{IsAsked, IsGiven, IsNotGiven, IsNotTaken, IsTaken, IsUnasked}
 use Rattle.chip_pages.specs.Pages.{IsExplained}
-use Rattle.chip_bench.specs.Printing.{IfOpens, Printed, Prints, WithSession, printed, printed_run}
+use Rattle.chip_bench.specs.Printing.{IfOpens, Printed, Prints, WithSession, ending_with, printed, printed_faults, printed_picture, printed_run}
 use Rattle.chip_arguments.specs.declared.command_line.PictureArguments.{PictureArguments}
 use Rattle.chip_bench.specs.Running.{AnswersScript, IsUnreadWithin}
 use Rattle.chip_bench.specs.declared.limits.TheConstants.{KEY_FILE_BYTES}
 use Rattle.chip_session.specs.Settings.{SessionSettings}
 use Rattle.chip_bench.specs.SettingArguments.{settings_asked}
+use Rattle.chip_session.specs.Session.{Session}
 use Rattle.chip_session.specs.Tally.{Tally}
 use Rattle.chip_arguments.specs.declared.command_line.CommandLine.{CommandLine}
 use Rattle.chip_arguments.specs.declared.command_line.RunArguments.{RunArguments}
@@ -220,7 +221,7 @@ module _ {R W : Type 0} (remaining : R → Option (List ℕ)) (contents : W → 
       Assembles remaining contents in_old in_new output output source name ended
   assembles_unread source name ended why e w =
       source_unread remaining in_old in_new (output ≡ output) refl source
-      (λ bytes. IfOpens contents output output (open_fault bytes) (AssemblesBy contents output output (image_of (lines_of bytes)) (lines_of bytes) name)) ended why e w
+      (λ bytes. IfOpens contents output output (open_fault bytes) (WritesBy contents output output (ending_with (image_of (lines_of bytes))) (printed_faults (lines_of bytes)) name)) ended why e w
 
   -- a run's arguments can't be read
   pub runs_not : (arguments : RunArguments) (ended : Outcome) (why : Failure) → ended ≡ Err why → IsUnasked remaining in_old in_new arguments why →
@@ -280,18 +281,22 @@ module _ {R : Type 0} (remaining : R → Option (List ℕ)) (in_old in_new : Tal
       (keys_read remaining in_old in_new (Unit {0}) tt arguments.keys bytes
       (λ keys. FromGiven remaining in_old in_new (Unit {0}) arguments.is_image arguments.source (λ source ended. ⊥)) (Err why) keys fits w))
 
+abbrev pub Pictured : {W : Type 0} → (contents : W → Option (List ℕ)) → (old new : Tally W) → PictureArguments → Session → Outcome → Type 0
+Pictured contents old new arguments session =
+    PicturesBy contents old new (printed_picture session arguments.run.steps) arguments.ascii arguments.bitmap arguments.png
+
 module _ {R W : Type 0} (remaining : R → Option (List ℕ)) (contents : W → Option (List ℕ)) (in_old in_new : Tally R) (old new : Tally W)
     (arguments : PictureArguments) (ended : Outcome) where
-  abbrev Pictured : SessionSettings → List ℕ → List ℕ → Outcome → Type 0
-  Pictured settings keys source = WithSession contents old new settings source keys (PicturesBy contents old new arguments arguments.bitmap arguments.png)
+  abbrev WithPicture : SessionSettings → List ℕ → List ℕ → Outcome → Type 0
+  WithPicture settings keys source = WithSession contents old new settings source keys (Pictured contents old new arguments)
 
   -- a picture's arguments were read, and then this was done
   pub pictures : (asked : AskedRun) → IsAsked remaining in_old in_new arguments.run asked →
-      WithSession contents old new asked.settings asked.source.items asked.keys.bytes.items (PicturesBy contents old new arguments arguments.bitmap arguments.png) ended →
+      WithSession contents old new asked.settings asked.source.items asked.keys.bytes.items (Pictured contents old new arguments) ended →
       Pictures remaining contents in_old in_new old new arguments ended
-  pictures asked is did = asked_then remaining in_old in_new (new ≡ old) arguments.run Pictured ended asked is did
+  pictures asked is did = asked_then remaining in_old in_new (new ≡ old) arguments.run WithPicture ended asked is did
 
   -- they couldn't be
   pub pictures_not : (why : Failure) → new ≡ old → ended ≡ Err why → IsUnasked remaining in_old in_new arguments.run why →
       Pictures remaining contents in_old in_new old new arguments ended
-  pictures_not why same e is = asked_not remaining in_old in_new (new ≡ old) arguments.run Pictured ended same why e is
+  pictures_not why same e is = asked_not remaining in_old in_new (new ≡ old) arguments.run WithPicture ended same why e is

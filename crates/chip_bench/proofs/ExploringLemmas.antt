@@ -16,7 +16,7 @@ use Rattle.chip_machine.specs.Start.{start_of}
 use Rattle.chip_machine.specs.State.{State}
 use Rattle.chip_session.specs.Settings.{SessionSettings}
 use Rattle.chip_session.specs.Tally.{Tally}
-use Rattle.chip_bench.specs.Doing.{Declined, Explores, Fails, FromGiven, IfSet, IfSettled, IsBadPlace, IsBadProperty, IsBadSet, Outcome, Searches, SearchesFrom, WithSets}
+use Rattle.chip_bench.specs.Doing.{Declined, Explores, Fails, FromGiven, IfSet, IfSettled, IsBadProperty, IsBadSet, Outcome, Searches, SearchesFrom}
 use Rattle.chip_bench.specs.Exploring.{AsksCauses, AsksKeys, AsksProperty, answer_lines, covering_text, search_ending, target_asked}
 use Rattle.chip_bench.specs.Printing.{IfOpens, Prints, printed, printed_faults}
 use Rattle.chip_bench.specs.SettingArguments.{settings_asked}
@@ -62,7 +62,7 @@ module _ {W : Type 0} (contents : W → Option (List ℕ)) (out_old out_new : Ta
       by_image : (image : Option (List ℕ)) →
           MatchOption image (Prints contents out_old out_new (printed_faults lines) ended)
           (λ image. ((properties : Bor (List Property)) × AsksProperty arguments lines properties.now
-          × MatchOption (target_asked causes (option_copied arguments.place) properties (symbols_of lines)) (Fails contents out_old out_new IsBadPlace ended)
+          × MatchOption (target_asked causes (option_copied arguments.place) properties (symbols_of lines)) (Fails contents out_old out_new (λ why. (text : Bor (List ℕ)) × (why ≡ failure.BadPlace text)) ended)
           (λ target. SearchesFrom contents out_old out_new arguments lines settings.rate keys target (start_of image settings.tape settings.quirks) ended))
           ⊎ Fails contents out_old out_new IsBadProperty ended)
       by_image None = rw e same
@@ -76,7 +76,9 @@ module _ {R W : Type 0} (remaining : R → Option (List ℕ)) (contents : W → 
       IfOpens contents out_old out_new (open_fault source) (Searches contents out_old out_new arguments settings causes keys (lines_of source)))
 
   abbrev WithIts : SessionSettings → Outcome → Type 0
-  WithIts settings = WithSets remaining in_old in_new (out_new ≡ out_old) arguments (Did settings)
+  WithIts settings ended =
+      (causes : Option ℕ) × AsksCauses arguments causes × (keys : Option ℕ) × AsksKeys arguments keys
+      × IfSet remaining in_old in_new (out_new ≡ out_old) causes (λ causes. IfSet remaining in_old in_new (out_new ≡ out_old) keys (Did settings causes)) ended
 
   -- a set is bad
   pub explores_bad : (settings : SessionSettings) (why : Failure) → settings_asked arguments.search.settings ≡ Some settings → ended ≡ Err why → in_new ≡ in_old →

@@ -13,12 +13,13 @@ use Rattle.chip_session.specs.Settings.{SessionSettings}
 use Rattle.chip_session.specs.Tally.{Tally}
 use Rattle.chip_session.specs.declared.refusal.Refusal.{Refusal}
 use Rattle.chip_session.specs.declared.refusal.Refusal.TheVariants.{AnswerMemory}
-use Rattle.chip_bench.specs.Doing.{AssemblesBy, FromSource, GivesSource, Outcome}
+use Rattle.chip_bench.specs.Doing.{FromSource, GivesSource, Outcome, WritesBy}
 use Rattle.chip_bench.specs.Printing.{IfOpens, Printed, Prints, PrintsSuch, Refuses, UnlessRefused, WithSession, answer_or_why, both_answers, printed, unanswered, unopened_text}
 use Rattle.chip_bench.specs.inner.Written.{IsFoundWritten, IsImageWritten}
 use Rattle.chip_bench.specs.inner.Reads.{IsRefused, IsSessionOf, IsUnmade, IsUnopened, printed_by}
 use Rattle.chip_bench.specs.declared.output.Answer.{Answer}
-use Rattle.chip_bench.specs.declared.ending.Ending.TheVariants.{Done, Faulty}
+use Rattle.chip_bench.specs.declared.ending.Ending.{Ending}
+use Rattle.chip_bench.specs.declared.ending.Ending.TheVariants.{Done, Faulty, Short}
 use Rattle.chip_bench.specs.declared.ending.Failure.{Failure}
 use Rattle.chip_bench.specs.declared.ending.Failure.TheVariants as failure
 
@@ -72,11 +73,12 @@ module _ {W : Type 0} (contents : W → Option (List ℕ)) (old new : Tally W) w
       short : ◌≡◌ {A = Outcome} (Ok Done) (Err failure.OutOfMemory) → ⊥
       short h = cc
 
-  -- memory ran out for an image
-  pub assembles_short : (image : Option (List ℕ)) (lines : List (List ℕ)) (name : Bor (List ℕ)) (ended : Outcome) → ended ≡ Err failure.OutOfMemory → new ≡ old →
-      AssemblesBy contents old new image lines name ended
-  assembles_short (Some image) lines name ended e same = (rw e (inr (inl refl)), same)
-  assembles_short None lines name ended e same = rw e same
+  -- memory ran out for what is written
+  pub writes_short : (ending : Ending) (wanted : Printed) (name : Bor (List ℕ)) (ended : Outcome) → ended ≡ Err failure.OutOfMemory → new ≡ old →
+      WritesBy contents old new ending wanted name ended
+  writes_short Done wanted name ended e same = (rw e (inr (inl refl)), same)
+  writes_short Faulty wanted name ended e same = rw e same
+  writes_short Short wanted name ended e same = rw e same
 
 module _ {W : Type 0} (contents : W → Option (List ℕ)) (old new : Tally W) (source : List ℕ) (ended : Outcome)
     (Did : List (List ℕ) → Outcome → Type 0) where

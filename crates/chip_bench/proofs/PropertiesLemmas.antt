@@ -1,5 +1,6 @@
 -- Which of a source's properties `prove` is asked for, as its code has them.
-use Rattle.std.proofs.Common.{◌≡◌, ℕ, ◌<◌, ◌==◌, Bool, true, false, List, [], ◌∷◌, Option, length, refl, sym, ◌∙◌, ap, subst, arith, eqb-true}
+use Rattle.std.proofs.Common.{◌≡◌, ℕ, ◌<◌, ◌==◌, Bool, true, List, [], ◌∷◌, Option, None, Some, length, refl, sym, ◌∙◌, ap, subst, arith, eqb-true}
+use Rattle.std.specs.Prelude.{MatchOption}
 use Rattle.std.specs.List.{remove}
 use Rattle.std.specs.Vec.{vec_len}
 use Rattle.std.proofs.lemmas.List.{length-map}
@@ -9,8 +10,9 @@ use Rattle.chip_machine.specs.State.{State}
 use Rattle.chip_properties.specs.declared.properties.Properties.{Properties}
 use Rattle.chip_properties.specs.declared.stated.Stated.{Stated}
 use Rattle.chip_session.specs.Tally.{Tally}
-use Rattle.chip_bench.specs.Doing.{Fails, IsNoProperty, Outcome, ProvesFrom, ProvesWith, UnlessMissing}
-use Rattle.chip_bench.specs.Proving.{asked_of, has_faults, is_missing}
+use Rattle.chip_bench.specs.Doing.{Fails, Outcome, ProvesFrom, ProvesWith}
+use Rattle.chip_bench.specs.Proving.{asked_of, has_faults, unstated_line}
+use Rattle.chip_bench.specs.declared.ending.Failure.TheVariants as failure
 use Rattle.chip_bench.specs.declared.proving.Left.{Left}
 use Rattle.chip_bench.specs.inner.Proofs.{IsLeft, head_of}
 
@@ -60,13 +62,18 @@ module _ {W : Type 0} (contents : W → Option (List ℕ)) (old new : Tally W) (
   abbrev faulty : Bool
   faulty = has_faults arguments.only properties.faults.items
 
-  pub with_none : is_missing arguments.only asked faulty ≡ true → Fails contents old new IsNoProperty ended →
-      ProvesWith contents old new arguments lines rate keys start properties ended
-  with_none e fails = subst (λ (b : Bool). UnlessMissing contents old new b (ProvesFrom contents old new arguments lines rate keys start asked faulty) ended) (sym e) fails
+  abbrev Unless : Option ℕ → Type 0
+  Unless line =
+      MatchOption line (ProvesFrom contents old new arguments lines rate keys start asked faulty ended)
+      (λ line. Fails contents old new (λ why. why ≡ failure.NoProperty line) ended)
 
-  pub with_some : (is_faulty : Bool) → is_faulty ≡ faulty → is_missing arguments.only asked faulty ≡ false →
+  pub with_none : (line : ℕ) → unstated_line arguments.only asked faulty ≡ Some line → Fails contents old new (λ why. why ≡ failure.NoProperty line) ended →
+      ProvesWith contents old new arguments lines rate keys start properties ended
+  with_none line e fails = subst Unless (sym e) fails
+
+  pub with_some : (is_faulty : Bool) → is_faulty ≡ faulty → unstated_line arguments.only asked faulty ≡ None →
       ProvesFrom contents old new arguments lines rate keys start asked is_faulty ended →
       ProvesWith contents old new arguments lines rate keys start properties ended
   with_some is_faulty same e did =
-      subst (λ (b : Bool). UnlessMissing contents old new b (ProvesFrom contents old new arguments lines rate keys start asked faulty) ended) (sym e)
+      subst Unless (sym e)
       (subst (λ (b : Bool). ProvesFrom contents old new arguments lines rate keys start asked b ended) same did)

@@ -1,6 +1,6 @@
 -- What the command `prove` did with a source.
 use Rattle.std.proofs.Common.{◌≡◌, ◌⊎◌, inl, inr, ℕ, true, false, List, Option, Some, None, Err, refl, sym, ◌∙◌, ap, subst}
-use Rattle.std.specs.Prelude.{option_copied}
+use Rattle.std.specs.Prelude.{is_none, option_copied, if◌then◌else◌}
 use Rattle.chip_arguments.specs.declared.command_line.ProveArguments.{ProveArguments}
 use Rattle.chip_asm.specs.Lines.{lines_of, open_fault}
 use Rattle.chip_asm.specs.Program.{image_of}
@@ -11,7 +11,7 @@ use Rattle.chip_properties.specs.Properties.{AreProperties}
 use Rattle.chip_properties.specs.declared.properties.Properties.{Properties}
 use Rattle.chip_session.specs.Settings.{SessionSettings}
 use Rattle.chip_session.specs.Tally.{Tally}
-use Rattle.chip_bench.specs.Doing.{Fails, FromSource, GivesSource, IfSet, IfSettled, IsBadSet, IsShort, IsSourceUnread, Outcome, Proves, ProvesBy, ProvesWith, image_if_opened, image_in}
+use Rattle.chip_bench.specs.Doing.{Fails, FromSource, GivesSource, IfSet, IfSettled, IsBadSet, IsShort, IsSourceUnread, Outcome, Proves, ProvesBy, ProvesWith, image_in}
 use Rattle.chip_bench.specs.Exploring.{AsksSet, key_named, usual_keys}
 use Rattle.chip_bench.specs.Printing.{IsCheckText, IsPrintedCheckOf, Prints, ending_with, printed, unopened_check}
 use Rattle.chip_bench.specs.SettingArguments.{settings_asked}
@@ -36,7 +36,7 @@ module _ {W : Type 0} (contents : W → Option (List ℕ)) (out_old out_new : Ta
       (error ≡ unopened.OutOfMemory → (ended ≡ Err failure.OutOfMemory) × (out_new ≡ out_old)) → By (image_in bytes)
   by_unopened error (inl memory) prints short = let s = short memory in by_short (image_in bytes) s.0 s.1
   by_unopened error (inr fault) prints short =
-      let none : image_in bytes ≡ None = ap (λ (o : Option OpenError). image_if_opened o (image_of (lines_of bytes))) fault in
+      let none : image_in bytes ≡ None = ap (λ (o : Option OpenError). if is_none o then image_of (lines_of bytes) else None) fault in
       let is = subst (λ (o : Option OpenError). IsPrintedCheckOf arguments.is_json false true arguments.search.source.now o (lines_of bytes)
       (printed (unopened_check arguments.is_json true arguments.search.source.now error) Faulty)) (sym fault) refl in
       subst (λ (image : Option (List ℕ)). By image) (sym none) (inl (printed (unopened_check arguments.is_json true arguments.search.source.now error) Faulty, is, prints))
@@ -48,9 +48,9 @@ module _ {W : Type 0} (contents : W → Option (List ℕ)) (out_old out_new : Ta
   by_faults lines text opens same none is prints =
       let none_there : image_of (lines_of bytes) ≡ None = sym (subst (λ (l : List (List ℕ)). None ≡ image_of l) same none) in
       let is_there = subst (λ (l : List (List ℕ)). IsCheckText arguments.is_json false arguments.search.source.now l text) same is in
-      let none : image_in bytes ≡ None = ap (λ (o : Option OpenError). image_if_opened o (image_of (lines_of bytes))) opens ∙ none_there in
+      let none : image_in bytes ≡ None = ap (λ (o : Option OpenError). if is_none o then image_of (lines_of bytes) else None) opens ∙ none_there in
       let shown = subst (λ (o : Option OpenError). IsPrintedCheckOf arguments.is_json false true arguments.search.source.now o (lines_of bytes) (printed text Faulty))
-      (sym opens) (record { text = is_there; ending = sym (ap ending_with none_there) }) in
+      (sym opens) (is_there, sym (ap ending_with none_there)) in
       subst (λ (image : Option (List ℕ)). By image) (sym none) (inl (printed text Faulty, shown, prints))
 
   -- it opens, and has one

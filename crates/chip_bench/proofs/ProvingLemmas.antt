@@ -1,5 +1,5 @@
 -- What `prove` did, from what its steps did.
-use Rattle.std.proofs.Common.{◌≡◌, inl, inr, ℕ, zero, suc, ◌<◌, ◌||◌, Bool, true, false, List, [], ◌∷◌, ◌++◌, append_assoc, append-nil, Option, Some, None, Result, Ok, Err, IfOk, length, map, option_map, slice_get, refl, sym, ◌∙◌, ap, subst}
+use Rattle.std.proofs.Common.{◌≡◌, ◌⊎◌, inl, inr, ℕ, zero, suc, ◌<◌, ◌||◌, Bool, true, false, List, [], ◌∷◌, ◌++◌, append_assoc, append-nil, Option, Some, None, Result, Ok, Err, IfOk, length, map, option_map, slice_get, refl, sym, ◌∙◌, ap, subst}
 use Rattle.std.specs.Prelude.{slice_index_or}
 use Rattle.std.specs.List.{All, flat_map, list_any, remove}
 use Rattle.std.specs.List.Sorted.{IsPermutation}
@@ -18,9 +18,9 @@ use Rattle.chip_machine.specs.State.{State}
 use Rattle.chip_properties.specs.declared.stated.Stated.{Stated}
 use Rattle.chip_session.specs.Tally.{Tally}
 use Rattle.chip_session.specs.Writing.{Breaks, Writes}
-use Rattle.chip_bench.specs.Doing.{IsScriptUnwritten, Outcome, ProvesFrom, StreamsUpTo}
+use Rattle.chip_bench.specs.Doing.{IsScriptUnwritten, Outcome, ProvesFrom}
 use Rattle.chip_bench.specs.Printing.{Printed, Prints, Streams, WritesFront, printed}
-use Rattle.chip_bench.specs.Proving.{Answered, AreAnswered, IsProofPrinted, IsRight, has_bad, is_missing, printed_answer, proof_ending}
+use Rattle.chip_bench.specs.Proving.{Answered, AreAnswered, IsProofPrinted, IsRight, has_bad, printed_answer, proof_ending, unstated_line}
 use Rattle.chip_check.specs.Answer.{is_bad}
 use Rattle.chip_bench.specs.declared.ending.Ending.{Ending}
 use Rattle.chip_bench.specs.declared.ending.Ending.TheVariants.{Done}
@@ -365,7 +365,8 @@ module _ (arguments : ProveArguments) (lines : List (List ℕ)) (rate keys : ℕ
 
         by : (why : Failure) → WritesUpTo contents old new {T = Told} (IsScriptUnwritten arguments.search.keys_to)
             (reports ++ flat_map (printed_answer arguments lines) rest.given) (Err why) →
-            StreamsUpTo contents old new (IsScriptUnwritten arguments.search.keys_to) (shown rest.given [] false) (Err why)
+            Streams contents old new (shown rest.given [] false) (Err why)
+            ⊎ (IsScriptUnwritten arguments.search.keys_to why × WritesFront contents old new (shown rest.given [] false).text)
         by why (inr h) = inr (h.0, subst (λ l. WritesFront contents old new l) nothing_more h.1)
         by failure.Output (inl w) = inl (subst (λ l. Breaks contents old new l) nothing_more w)
         by failure.OutOfMemory (inl w) = inl (subst (λ l. WritesFront contents old new l) nothing_more w)
@@ -417,17 +418,15 @@ module _ (arguments : ProveArguments) (lines : List (List ℕ)) (rate keys : ℕ
 
 -- no property is asked for in the line that is named
 pub missing : (only : Option ℕ) (line : ℕ) (is_empty is_faulty : Bool) (asked : List Stated) → Some line ≡ missing_line only is_empty is_faulty →
-    (is_empty ≡ true → asked ≡ []) → is_missing only asked is_faulty ≡ true
-missing (Some n) line true false asked e none = rw (none refl) refl
-missing None line true false asked e none = cc
+    (is_empty ≡ true → asked ≡ []) → unstated_line only asked is_faulty ≡ Some line
+missing only line true false asked e none = rw (none refl) (sym e)
 missing only line true true asked e none = cc
 missing only line false true asked e none = cc
 missing only line false false asked e none = cc
 
 pub not_missing : (only : Option ℕ) (is_empty is_faulty : Bool) (asked : List Stated) → None ≡ missing_line only is_empty is_faulty →
-    (asked ≡ [] → is_empty ≡ true) → is_missing only asked is_faulty ≡ false
-not_missing None is_empty is_faulty asked e none = refl
-not_missing (Some n) is_empty true [] e none = refl
-not_missing (Some n) is_empty true (one ∷ asked) e none = refl
-not_missing (Some n) is_empty false (one ∷ asked) e none = refl
-not_missing (Some n) is_empty false [] e none = absurd (let none_some : None ≡ missing_line (Some n) true false = rw (none refl) at e in cc)
+    (asked ≡ [] → is_empty ≡ true) → unstated_line only asked is_faulty ≡ None
+not_missing only is_empty true [] e none = refl
+not_missing only is_empty true (one ∷ asked) e none = refl
+not_missing only is_empty false (one ∷ asked) e none = refl
+not_missing only is_empty false [] e none = let there : None ≡ missing_line only true false = rw (none refl) at e in sym there

@@ -3,26 +3,22 @@
 --     IsUnwritten, IsFileWritten     what hinders writing a file; that it was written
 --     GivesSource                    the bytes of a source of that name
 --     AsSource                       what a command did with the source that some bytes are
---     FromSource, FromGiven, FromFile, FromFileWithin, FromKeys, WithAsked    what a command did with
---                                    the bytes that it read, or why it read none
+--     FromSource, FromGiven, FromKeys, WithAsked    what a command did with the bytes that it read,
+--                                    or why it read none
 --     worse, with_ending              how a list of sources ends
 --     paints                         whether what `check` prints has colours
 --     ChecksOne, ChecksEach          what `check` did with a source, and with each of some
---     Debugs, Assembles, Tells, Checks, Disassembles, Runs, Traces, Pictures, Explores, Proves,
---     Explains
+--     Debugs, Assembles, Tells, Checks, Runs, Traces, Pictures, Explores, Proves
 --                                    what each command did
 --     Does                           the same, by what was asked
 --     Performs, ShowsHelp, ShowsVersion   the same, for the arguments
---     Ends                           how the program ended after that
 -- No contract says what bytes a file gives or takes: of a file's bytes these definitions say that
 -- there are some.
-use Rattle.std.specs.Prelude.{◌≡◌, ◌≢◌, ◌⊎◌, ℕ, ◌<◌, ◌≤◌, ◌==◌, min, Bool, true, false, List, [], ◌∷◌, codes, length, take, Option, Some, None, MatchOption, option_copied, IfSome, Result, Ok, Err, IsErrAnd, IfOk, if◌then◌else◌}
+use Rattle.std.specs.Prelude.{◌≡◌, ◌≢◌, ◌⊎◌, ℕ, ◌<◌, ◌≤◌, ◌==◌, min, Bool, true, false, List, [], ◌∷◌, codes, length, take, Option, Some, None, MatchOption, MatchResult, option_copied, IfSome, is_none, Result, Ok, Err, IsErrAnd, IfOk, if◌then◌else◌}
 use Rattle.std.specs.Borrow.{Bor}
-use Rattle.std.specs.Io.KnownBytes.{Keeps}
 use Rattle.std.specs.declared.io.Error.{Error as IoError}
 use Rattle.chip_asm.specs.Lines.{lines_of, open_fault}
 use Rattle.chip_asm.specs.Program.{image_of, symbols_of}
-use Rattle.chip_asm.specs.declared.refusal.OpenError.{OpenError}
 use Rattle.chip_lang.specs.declared.limits.TheConstants.{IMAGE_BYTES}
 use Rattle.chip_views.specs.Dis.{source_of_image}
 use Rattle.chip_views.specs.declared.picture.Letters.TheVariants.{Blocks, Plain}
@@ -39,15 +35,15 @@ use Rattle.chip_bench.specs.Tracing.{IsCompared, below_machine, header_of, lines
 use Rattle.chip_bench.specs.declared.tracing.Shown.{Shown}
 use Rattle.chip_pages.specs.Pages.{IsContents, IsExplained}
 use Rattle.chip_arguments.specs.Version.{version_text}
-use Rattle.chip_bench.specs.Printing.{IsPrintedCheckOf, Printed, IfOpens, Streams, WithSession, WritesFront, PrintsSuch, Prints, printed_faults, printed_picture, printed, printed_run, printed_table}
-use Rattle.chip_bench.specs.Running.{AnswersScript, IsUnread, IsUnreadWithin, source_bytes_read, status_of}
+use Rattle.chip_bench.specs.Printing.{IsPrintedCheckOf, Printed, IfOpens, Streams, WithSession, WritesFront, PrintsSuch, Prints, ending_with, printed_faults, printed_picture, printed, printed_run, printed_table}
+use Rattle.chip_bench.specs.Running.{AnswersScript, IsUnread, IsUnreadWithin, source_bytes_read}
 use Rattle.chip_bench.specs.declared.limits.TheConstants.{KEY_FILE_BYTES, TRACE_FILE_BYTES}
 use Rattle.chip_bench.specs.SettingArguments.{settings_asked}
 use Rattle.chip_session.specs.Settings.{SessionSettings}
-use Rattle.chip_session.specs.Tally.{Tally, failures_after_flush}
+use Rattle.chip_session.specs.Tally.{Tally}
 use Rattle.chip_bench.specs.Testing.{Tests}
 use Rattle.chip_bench.specs.Exploring.{AsksCauses, AsksKeys, AsksProperty, AsksSet, IsSearchPrinted, key_named, target_asked, usual_keys, warning_named}
-use Rattle.chip_bench.specs.Proving.{Answered, AreAnswered, IsProofPrinted, asked_of, has_faults, is_missing}
+use Rattle.chip_bench.specs.Proving.{Answered, AreAnswered, IsProofPrinted, asked_of, has_faults, unstated_line}
 use Rattle.chip_properties.specs.Properties.{AreProperties}
 use Rattle.chip_properties.specs.declared.properties.Properties.{Properties}
 use Rattle.chip_properties.specs.declared.stated.Stated.{Stated}
@@ -75,6 +71,7 @@ use Rattle.chip_bench.specs.declared.ending.Failure.{Failure}
 use Rattle.chip_bench.specs.declared.ending.Failure.TheVariants as failure
 use Rattle.chip_bench.specs.declared.ending.Report.{Report}
 use Rattle.chip_bench.specs.declared.output.Table.TheVariants.{Listing, Symbols}
+use Rattle.chip_session.specs.declared.picture.PictureForm.{PictureForm}
 use Rattle.chip_session.specs.declared.picture.PictureForm.TheVariants as form
 
 abbrev pub Outcome : Type 0
@@ -116,14 +113,6 @@ IsBadSet why =
     ⊎ ((text : Bor (List ℕ)) × (why ≡ failure.BadPlayerKeys text))
     ⊎ ((text : Bor (List ℕ)) × (why ≡ failure.BadWarnings text))
 
--- no property stands in the line that the arguments name
-abbrev pub IsNoProperty : Failure → Type 0
-IsNoProperty why = (line : ℕ) × (why ≡ failure.NoProperty line)
-
--- a place that the source doesn't have
-abbrev pub IsBadPlace : Failure → Type 0
-IsBadPlace why = (text : Bor (List ℕ)) × (why ≡ failure.BadPlace text)
-
 -- a property that can't be read, or that memory ran out
 abbrev pub IsBadProperty : Failure → Type 0
 IsBadProperty why =
@@ -144,12 +133,8 @@ abbrev pub IsFileWritten : Bor (List ℕ) → Outcome → Type 0
 IsFileWritten name ended = (ended ≡ Ok Done) ⊎ IsErrAnd ended (IsUnwritten name)
 
 -- the image of a source that opens and has no fault
-abbrev pub image_if_opened : Option OpenError → Option (List ℕ) → Option (List ℕ)
-image_if_opened (Some fault) image = None
-image_if_opened None image = image
-
 abbrev pub image_in : List ℕ → Option (List ℕ)
-image_in source = image_if_opened (open_fault source) (image_of (lines_of source))
+image_in source = if is_none (open_fault source) then image_of (lines_of source) else None
 
 module _ {R : Type 0} (remaining : R → Option (List ℕ)) (in_old in_new : Tally R) where
   -- The bytes of a source: where its name is `-`, those of standard input, up to a number from
@@ -181,10 +166,6 @@ shown_by arguments columns = record {
   from = min arguments.from arguments.run.steps;
   to = arguments.run.steps;
 }
-
--- the same of a trace beside another, whose lines have fields
-abbrev pub shown_beside : TraceArguments → List Column → Shown
-shown_beside arguments columns = record (shown_by arguments columns) { form = Fields }
 
 -- what hinders taking an image as the source that `dis` prints of it: it is too long, or there was
 -- no memory
@@ -228,21 +209,12 @@ module _ {R : Type 0} (remaining : R → Option (List ℕ)) (in_old in_new : Tal
   abbrev pub FromGiven : Bool → Bor (List ℕ) → (List ℕ → Outcome → Type 0) → Outcome → Type 0
   FromGiven is_image name Did ended = FromSource name (AsSource is_image name Unwritten Did) ended
 
-  -- with the bytes of a file
-  abbrev pub FromFile : Bor (List ℕ) → (List ℕ → Outcome → Type 0) → Outcome → Type 0
-  FromFile name Did ended = ((bytes : List ℕ) × Did bytes ended) ⊎ Declined (IsUnread name) ended
-
-  -- with the bytes of a file that has at most so many
-  abbrev pub FromFileWithin : (most : ℕ) → Bor (List ℕ) → (List ℕ → Outcome → Type 0) → Outcome
-      → Type 0
-  FromFileWithin most name Did ended =
-      ((bytes : List ℕ) × (length bytes ≤ most) × Did bytes ended)
-      ⊎ Declined (IsUnreadWithin most name) ended
-
   -- with the bytes of a file of key events, or none without the file
   abbrev pub FromKeys : Option (Bor (List ℕ)) → (List ℕ → Outcome → Type 0) → Outcome → Type 0
   FromKeys None Did ended = Did [] ended
-  FromKeys (Some name) Did ended = FromFileWithin KEY_FILE_BYTES name Did ended
+  FromKeys (Some name) Did ended =
+      ((bytes : List ℕ) × (length bytes ≤ KEY_FILE_BYTES) × Did bytes ended)
+      ⊎ Declined (IsUnreadWithin KEY_FILE_BYTES name) ended
 
   -- under the settings that the arguments ask for
   abbrev pub IfSettled : Option SessionSettings → (SessionSettings → Outcome → Type 0) → Outcome
@@ -263,25 +235,14 @@ module _ {R : Type 0} (remaining : R → Option (List ℕ)) (in_old in_new : Tal
   IfSet (Some set) Did ended = Did set ended
   IfSet None Did ended = Declined IsBadSet ended
 
-  -- with the sets that an argument for stop causes and one for keys ask for
-  abbrev pub WithSets : ExploreArguments → (ℕ → ℕ → Outcome → Type 0) → Outcome → Type 0
-  WithSets arguments Did ended =
-      (causes : Option ℕ) × AsksCauses arguments causes × (keys : Option ℕ) × AsksKeys arguments keys
-      × IfSet causes (λ causes. IfSet keys (Did causes)) ended
-
 -- What is written.
 module _ {W : Type 0} (contents : W → Option (List ℕ)) (out_old out_new : Tally W) where
   -- it ended on such a failure, and nothing was written
   abbrev pub Fails : (Failure → Type 0) → Outcome → Type 0
   Fails Why ended = IsErrAnd ended Why × (out_new ≡ out_old)
 
-  -- `asm`: where the source has an image, its file was written, or couldn't be; else the faults are
-  -- printed
-  abbrev pub AssemblesBy : Option (List ℕ) → (lines : List (List ℕ)) → Bor (List ℕ) → Outcome → Type 0
-  AssemblesBy (Some image) lines name ended = IsFileWritten name ended × (out_new ≡ out_old)
-  AssemblesBy None lines name ended = Prints contents out_old out_new (printed_faults lines) ended
-
-  -- a picture's file was written, or couldn't be; else what there is in its place is printed
+  -- where there is something to write, its file was written, or couldn't be; else this is printed in
+  -- its place
   abbrev pub WritesBy : Ending → Printed → Bor (List ℕ) → Outcome → Type 0
   WritesBy Done wanted name ended = IsFileWritten name ended × (out_new ≡ out_old)
   WritesBy ending wanted name ended = Prints contents out_old out_new wanted ended
@@ -290,19 +251,15 @@ module _ {W : Type 0} (contents : W → Option (List ℕ)) (out_old out_new : Ta
   WritesPicture wanted name ended = WritesBy wanted.ending wanted name ended ⊎ Fails IsShort ended
 
   -- `picture`: without a file it is printed; of two files the second is written where the first was
-  abbrev pub PicturesBy : PictureArguments → Option (Bor (List ℕ)) → Option (Bor (List ℕ))
-      → Session → Outcome → Type 0
-  PicturesBy arguments None None session ended =
-      Prints contents out_old out_new
-      (printed_picture session arguments.run.steps (form.Text (if arguments.ascii then Plain else Blocks))) ended
-  PicturesBy arguments (Some bitmap) None session ended =
-      WritesPicture (printed_picture session arguments.run.steps form.Bitmap) bitmap ended
-  PicturesBy arguments None (Some png) session ended =
-      WritesPicture (printed_picture session arguments.run.steps form.Png) png ended
-  PicturesBy arguments (Some bitmap) (Some png) session ended =
-      (WritesPicture (printed_picture session arguments.run.steps form.Bitmap) bitmap ended
-      × (ended ≢ Ok Done))
-      ⊎ WritesPicture (printed_picture session arguments.run.steps form.Png) png ended
+  abbrev pub PicturesBy : (pictured : PictureForm → Printed) → (is_ascii : Bool)
+      → (bitmap png : Option (Bor (List ℕ))) → Outcome → Type 0
+  PicturesBy pictured is_ascii None None ended =
+      Prints contents out_old out_new (pictured (form.Text (if is_ascii then Plain else Blocks))) ended
+  PicturesBy pictured is_ascii (Some bitmap) None ended = WritesPicture (pictured form.Bitmap) bitmap ended
+  PicturesBy pictured is_ascii None (Some png) ended = WritesPicture (pictured form.Png) png ended
+  PicturesBy pictured is_ascii (Some bitmap) (Some png) ended =
+      (WritesPicture (pictured form.Bitmap) bitmap ended × (ended ≢ Ok Done))
+      ⊎ WritesPicture (pictured form.Png) png ended
 
   -- the lines of a session's run, or where they differ first from those of another trace
   abbrev pub ShowsTrace : Shown → (theirs : Option (List (List ℕ))) → Session → Outcome → Type 0
@@ -311,14 +268,15 @@ module _ {W : Type 0} (contents : W → Option (List ℕ)) (out_old out_new : Ta
   ShowsTrace shown (Some theirs) session ended =
       PrintsSuch contents out_old out_new (IsCompared session shown theirs) ended
 
-  -- beside the lines of another trace, whose header names the columns
+  -- beside the lines of another trace, which have fields, and whose header names the columns
   abbrev pub TracesBeside : TraceArguments → SessionSettings → (keys source : List ℕ)
       → (name : Bor (List ℕ)) → (theirs : List (List ℕ)) → Outcome → Type 0
   TracesBeside arguments settings keys source name theirs ended =
       let columned = below_machine theirs in
       ((columns : List Column) × (header_line columns ≡ str_to_ascii_lowercase (header_of columned))
       × WithSession contents out_old out_new settings source keys
-      (ShowsTrace (shown_beside arguments columns) (Some (lines_after columned))) ended)
+      (ShowsTrace (record (shown_by arguments columns) { form = Fields })
+      (Some (lines_after columned))) ended)
       ⊎ ((fault : HeaderError) × (header_fault (header_of columned) ≡ Some fault)
       × Fails (λ why. why ≡ failure.BadTrace name fault) ended)
       ⊎ Fails IsShort ended
@@ -355,20 +313,13 @@ module _ {W : Type 0} (contents : W → Option (List ℕ)) (out_old out_new : Ta
       × AsksProperty arguments lines properties.now
       × MatchOption
       (target_asked causes (option_copied arguments.place) properties (symbols_of lines))
-      (Fails IsBadPlace ended)
+      (Fails (λ why. (text : Bor (List ℕ)) × (why ≡ failure.BadPlace text)) ended)
       (λ target. SearchesFrom arguments lines settings.rate keys target
       (start_of image settings.tape settings.quirks) ended))
       ⊎ Fails IsBadProperty ended)
 
-  -- This was printed part by part: all of it, or a front where a write failed, memory ran out or that
-  -- hindered the rest.
-  abbrev pub StreamsUpTo : (Why : Failure → Type 0) → Printed → Outcome → Type 0
-  StreamsUpTo Why wanted ended =
-      Streams contents out_old out_new wanted ended
-      ⊎ (IsErrAnd ended Why × WritesFront contents out_old out_new wanted.text)
-
   -- the answers to these properties were printed, each as soon as it was found: to all of them, where
-  -- nothing hindered that
+  -- nothing hindered that, or a front, where a script couldn't be written
   abbrev pub ProvesFrom : ProveArguments → (lines : List (List ℕ)) → (rate keys : ℕ) → State
       → (asked : List Stated) → (is_faulty : Bool) → Outcome → Type 0
   ProvesFrom arguments lines rate keys start asked is_faulty ended =
@@ -376,21 +327,20 @@ module _ {W : Type 0} (contents : W → Option (List ℕ)) (out_old out_new : Ta
       × AreAnswered rate keys start asked given left
       × IfOk ended (λ ending. left ≡ [])
       × IsProofPrinted arguments lines is_faulty given wanted
-      × StreamsUpTo (IsScriptUnwritten arguments.search.keys_to) wanted ended
+      × (Streams contents out_old out_new wanted ended
+      ⊎ (IsErrAnd ended (IsScriptUnwritten arguments.search.keys_to)
+      × WritesFront contents out_old out_new wanted.text))
 
-  -- unless there is none in the line that the arguments name
-  abbrev pub UnlessMissing : (is_missing : Bool) → (Outcome → Type 0) → Outcome → Type 0
-  UnlessMissing true Did ended = Fails IsNoProperty ended
-  UnlessMissing false Did ended = Did ended
-
-  -- those of a source's properties that are asked for
+  -- those of a source's properties that are asked for, unless there is none in the line that the
+  -- arguments name
   abbrev pub ProvesWith : ProveArguments → (lines : List (List ℕ)) → (rate keys : ℕ) → State
       → Properties → Outcome → Type 0
-  ProvesWith arguments lines rate keys start properties =
+  ProvesWith arguments lines rate keys start properties ended =
       let asked = asked_of arguments.only properties.stated.items in
       let is_faulty = has_faults arguments.only properties.faults.items in
-      UnlessMissing (is_missing arguments.only asked is_faulty)
-      (ProvesFrom arguments lines rate keys start asked is_faulty)
+      MatchOption (unstated_line arguments.only asked is_faulty)
+      (ProvesFrom arguments lines rate keys start asked is_faulty ended)
+      (λ line. Fails (λ why. why ≡ failure.NoProperty line) ended)
 
   -- `prove`: where the source has an image, its properties are answered of its machine; else its faults
   -- are printed as `check` prints them
@@ -405,15 +355,6 @@ module _ {W : Type 0} (contents : W → Option (List ℕ)) (out_old out_new : Ta
       PrintsSuch contents out_old out_new (IsPrintedCheckOf arguments.is_json false true
       arguments.search.source.now (open_fault source) (lines_of source)) ended
 
-  -- a text, whatever it is, was printed
-  abbrev pub PrintsText : Outcome → Type 0
-  PrintsText ended = (text : List ℕ) × Prints contents out_old out_new (printed text Done) ended
-
-  -- `explain`
-  abbrev pub Explains : Option (Bor (List ℕ)) → Outcome → Type 0
-  Explains code ended =
-      PrintsSuch contents out_old out_new (IsExplanation code) ended ⊎ Fails (IsUnexplained code) ended
-
 -- `check`, source by source. No contract speaks of the warnings.
 module _ {R W : Type 0} (remaining : R → Option (List ℕ)) (contents : W → Option (List ℕ))
     (is_json is_painted is_alone : Bool) where
@@ -425,13 +366,7 @@ module _ {R W : Type 0} (remaining : R → Option (List ℕ)) (contents : W → 
       PrintsSuch contents out_old out_new (IsPrintedCheckOf is_json is_painted is_alone name.now
       (open_fault bytes) (lines_of bytes))) ended
 
-  -- after one source: what hinders it ends the check, and else the others follow
-  abbrev pub GoesOn : Outcome → (Others : Outcome → Type 0) → (Quiet : Type 0) → Outcome → Type 0
-  GoesOn (Ok ending) Others Quiet ended =
-      (later : Outcome) × Others later × (ended ≡ with_ending ending later)
-  GoesOn (Err why) Others Quiet ended = Quiet × (ended ≡ Err why)
-
-  -- with each of these, one after another
+  -- with each of these, one after another: what hinders one ends the check
   abbrev pub ChecksEach : List (Bor (List ℕ)) → (in_old in_new : Tally R)
       → (out_old out_new : Tally W) → Outcome → Type 0
   ChecksEach [] in_old in_new out_old out_new ended =
@@ -439,8 +374,10 @@ module _ {R W : Type 0} (remaining : R → Option (List ℕ)) (contents : W → 
   ChecksEach (name ∷ names) in_old in_new out_old out_new ended =
       (in_mid : Tally R) × (out_mid : Tally W) × (first : Outcome)
       × ChecksOne name in_old in_mid out_old out_mid first
-      × GoesOn first (ChecksEach names in_mid in_new out_mid out_new)
-      ((in_new ≡ in_mid) × (out_new ≡ out_mid)) ended
+      × MatchResult first
+      (λ ending. (later : Outcome) × ChecksEach names in_mid in_new out_mid out_new later
+      × (ended ≡ with_ending ending later))
+      (λ why. ((in_new ≡ in_mid) × (out_new ≡ out_mid)) × (ended ≡ Err why))
 
 -- What is done.
 module _ {R W : Type 0} (remaining : R → Option (List ℕ)) (contents : W → Option (List ℕ))
@@ -452,16 +389,19 @@ module _ {R W : Type 0} (remaining : R → Option (List ℕ)) (contents : W → 
       (Declined remaining in_old in_new (out_new ≡ out_old) IsUnsettled ended)
       (λ settings. AnswersScript remaining contents settings [] in_old in_new out_old out_new ended)
   Debugs (Some name) is_image arguments ended =
-      IfSettled remaining in_old in_new (out_new ≡ out_old) (settings_asked arguments) (λ settings.
-      FromFile remaining in_old in_new (out_new ≡ out_old) name
-      (AsSource is_image name ((in_new ≡ in_old) × (out_new ≡ out_old)) (λ source.
-      AnswersScript remaining contents settings source in_old in_new out_old out_new))) ended
+      IfSettled remaining in_old in_new (out_new ≡ out_old) (settings_asked arguments) (λ settings ended.
+      ((bytes : List ℕ) × AsSource is_image name ((in_new ≡ in_old) × (out_new ≡ out_old)) (λ source.
+      AnswersScript remaining contents settings source in_old in_new out_old out_new) bytes ended)
+      ⊎ Declined remaining in_old in_new (out_new ≡ out_old) (IsUnread name) ended) ended
 
+  -- `asm`: where the source has an image, its file was written, or couldn't be; else the faults are
+  -- printed
   abbrev pub Assembles : Bor (List ℕ) → Bor (List ℕ) → Outcome → Type 0
   Assembles source name ended =
       FromSource remaining in_old in_new (out_new ≡ out_old) source (λ bytes.
       IfOpens contents out_old out_new (open_fault bytes)
-      (AssemblesBy contents out_old out_new (image_of (lines_of bytes)) (lines_of bytes) name)) ended
+      (WritesBy contents out_old out_new (ending_with (image_of (lines_of bytes)))
+      (printed_faults (lines_of bytes)) name)) ended
 
   -- `list` and `syms`: what is printed of the lines of the source
   abbrev pub Tells : (printed_by : List (List ℕ) → Printed) → Bor (List ℕ) → Outcome → Type 0
@@ -477,12 +417,6 @@ module _ {R W : Type 0} (remaining : R → Option (List ℕ)) (contents : W → 
       × IfSet remaining in_old in_new (out_new ≡ out_old) allowed (λ set.
       ChecksEach remaining contents arguments.is_json (paints arguments.color takes_color)
       (length arguments.sources.items == 1) arguments.sources.items in_old in_new out_old out_new) ended
-
-  -- `dis`: of an image that isn't too long, a source of it is printed
-  abbrev pub Disassembles : Bor (List ℕ) → Outcome → Type 0
-  Disassembles image ended =
-      FromGiven remaining in_old in_new (out_new ≡ out_old) true image
-      (λ source. Prints contents out_old out_new (printed source Done)) ended
 
   -- `run`
   abbrev pub Runs : RunArguments → Outcome → Type 0
@@ -502,16 +436,20 @@ module _ {R W : Type 0} (remaining : R → Option (List ℕ)) (contents : W → 
   Pictures arguments ended =
       WithAsked remaining in_old in_new (out_new ≡ out_old) arguments.run (λ settings keys source.
       WithSession contents out_old out_new settings source keys
-      (PicturesBy contents out_old out_new arguments arguments.bitmap arguments.png)) ended
+      (λ session. PicturesBy contents out_old out_new (printed_picture session arguments.run.steps)
+      arguments.ascii arguments.bitmap arguments.png)) ended
 
   -- `explore`
   abbrev pub Explores : ExploreArguments → Outcome → Type 0
   Explores arguments ended =
       IfSettled remaining in_old in_new (out_new ≡ out_old) (settings_asked arguments.search.settings)
-      (λ settings. WithSets remaining in_old in_new (out_new ≡ out_old) arguments (λ causes keys.
+      (λ settings ended. (causes : Option ℕ) × AsksCauses arguments causes
+      × (keys : Option ℕ) × AsksKeys arguments keys
+      × IfSet remaining in_old in_new (out_new ≡ out_old) causes (λ causes.
+      IfSet remaining in_old in_new (out_new ≡ out_old) keys (λ keys.
       FromGiven remaining in_old in_new (out_new ≡ out_old) arguments.is_image arguments.search.source
       (λ source. IfOpens contents out_old out_new (open_fault source)
-      (Searches contents out_old out_new arguments settings causes keys (lines_of source))))) ended
+      (Searches contents out_old out_new arguments settings causes keys (lines_of source))))) ended) ended
 
   -- `prove`
   abbrev pub Proves : ProveArguments → Outcome → Type 0
@@ -523,14 +461,17 @@ module _ {R W : Type 0} (remaining : R → Option (List ℕ)) (contents : W → 
       FromSource remaining in_old in_new (out_new ≡ out_old) arguments.search.source (λ source.
       ProvesBy contents out_old out_new arguments settings set (image_in source) source)) ended) ended
 
-  -- what the program did for what it was asked; its output takes colours, or it doesn't
+  -- what the program did for what it was asked; its output takes colours, or it doesn't. For `dis` it
+  -- printed a source of an image that isn't too long, and for `explain` a page or the contents.
   abbrev pub Does : (takes_color : Bool) → CommandLine → Outcome → Type 0
   Does takes_color (line.Debug source is_image is_quiet arguments) ended = Debugs source is_image arguments ended
   Does takes_color (line.Asm source image) ended = Assembles source image ended
   Does takes_color (line.List source is_hex) ended = Tells (printed_table Listing is_hex) source ended
   Does takes_color (line.Syms source is_hex) ended = Tells (printed_table Symbols is_hex) source ended
   Does takes_color (line.Check arguments) ended = Checks takes_color arguments ended
-  Does takes_color (line.Dis image) ended = Disassembles image ended
+  Does takes_color (line.Dis image) ended =
+      FromGiven remaining in_old in_new (out_new ≡ out_old) true image
+      (λ source. Prints contents out_old out_new (printed source Done)) ended
   Does takes_color (line.Run arguments) ended = Runs arguments ended
   Does takes_color (line.Trace arguments) ended = Traces arguments ended
   Does takes_color (line.Picture arguments) ended = Pictures arguments ended
@@ -538,7 +479,8 @@ module _ {R W : Type 0} (remaining : R → Option (List ℕ)) (contents : W → 
   Does takes_color (line.Explore arguments) ended = Explores arguments ended
   Does takes_color (line.Prove arguments) ended = Proves arguments ended
   Does takes_color (line.Explain code) ended =
-      Explains contents out_old out_new code ended × (in_new ≡ in_old)
+      (PrintsSuch contents out_old out_new (IsExplanation code) ended
+      ⊎ Fails contents out_old out_new (IsUnexplained code) ended) × (in_new ≡ in_old)
 
   -- what it did for arguments without a fault: what they ask for, unless memory ran out to read
   -- them
@@ -547,23 +489,13 @@ module _ {R W : Type 0} (remaining : R → Option (List ℕ)) (contents : W → 
       ((asked : CommandLine) × AsksFor arguments asked × Does takes_color asked ended)
       ⊎ Declined remaining in_old in_new (out_new ≡ out_old) IsShort ended
 
-  -- what it did for the word for help
+  -- what it did for the word for help: it printed a text, whatever that is
   abbrev pub ShowsHelp : Outcome → Type 0
-  ShowsHelp ended = PrintsText contents out_old out_new ended × (in_new ≡ in_old)
+  ShowsHelp ended =
+      ((text : List ℕ) × Prints contents out_old out_new (printed text Done) ended)
+      × (in_new ≡ in_old)
 
   -- what it did for the version's word
   abbrev pub ShowsVersion : Outcome → Type 0
   ShowsVersion ended =
       Prints contents out_old out_new (printed version_text Done) ended × (in_new ≡ in_old)
-
--- How the program ended: `Did` says what it did, after which the output was flushed. `flushed` says
--- whether that went well; a flush that failed is counted.
-pub record Ends {W : Type 0} (contents : W → Option (List ℕ)) (Did : Tally W → Outcome → Type 0)
-    (out_new : Tally W) (status : ℕ) : Type 0 where
-  pub written : Tally W
-  pub ended : Outcome
-  pub flushed : Bool
-  pub did : Did written ended
-  pub kept : Keeps (contents written.inner) (contents out_new.inner)
-  pub failures : out_new.failures ≡ failures_after_flush flushed written.failures
-  pub status_is : status ≡ status_of ended flushed

@@ -72,12 +72,6 @@ abbrev pub IsCheckText : (is_json is_painted : Bool) → (name : List ℕ) (line
 IsCheckText false is_painted name lines text = IsChecked is_painted name lines text
 IsCheckText true is_painted name lines text = IsCheckJson name lines text
 
--- `check`: the reports of the faults, with lines of help among them, and then warnings
-pub record IsPrintedCheck (is_json is_painted : Bool) (name : List ℕ) (lines : List (List ℕ))
-    (wanted : Printed) : Type 0 where
-  pub text : IsCheckText is_json is_painted name lines wanted.text
-  pub ending : wanted.ending ≡ ending_with (image_of lines)
-
 -- why a source doesn't open, as `check` prints it: where it is one of several, after its name; as JSON
 -- an object
 abbrev pub unopened_check : (is_json is_alone : Bool) → (name : List ℕ) → OpenError → List ℕ
@@ -85,13 +79,15 @@ unopened_check false true name fault = unopened_text fault
 unopened_check false false name fault = name ++ codes ": " ++ unopened_text fault
 unopened_check true is_alone name fault = unopened_object name fault
 
--- what `check` prints of a source: why it doesn't open, where it doesn't
+-- what `check` prints of a source: why it doesn't open, where it doesn't; else the reports of the
+-- faults, with lines of help among them, and then warnings
 abbrev pub IsPrintedCheckOf : (is_json is_painted is_alone : Bool) → (name : List ℕ)
     → Option OpenError → (lines : List (List ℕ)) → Printed → Type 0
 IsPrintedCheckOf is_json is_painted is_alone name (Some fault) lines wanted =
     wanted ≡ printed (unopened_check is_json is_alone name fault) Faulty
 IsPrintedCheckOf is_json is_painted is_alone name None lines wanted =
-    IsPrintedCheck is_json is_painted name lines wanted
+    IsCheckText is_json is_painted name lines wanted.text
+    × (wanted.ending ≡ ending_with (image_of lines))
 
 -- a question that isn't answered: the faults where there is no image, else the refusal's code
 abbrev pub unanswered : Refusal → Printed → Printed
@@ -143,12 +139,6 @@ module _ {W : Type 0} (contents : W → Option (List ℕ)) (old new : Tally W) w
   Streams wanted (Err failure.OutOfMemory) = WritesFront wanted.text
   Streams wanted (Err _) = ⊥
 
-  -- a refused line of a key file: nothing was printed, and the failure has its number and the code
-  abbrev pub RefusesKeys : ℕ × List ℕ → Result Ending Failure → Type 0
-  RefusesKeys line (Err (failure.BadKeys name number code)) =
-      (line ≡ (number, code.0.now)) × (new ≡ old)
-  RefusesKeys line _ = ⊥
-
   -- What was printed passes a test, or memory ran out before.
   abbrev pub PrintsSuch : (Printed → Type 0) → Result Ending Failure → Type 0
   PrintsSuch P result =
@@ -161,11 +151,14 @@ module _ {W : Type 0} (contents : W → Option (List ℕ)) (old new : Tally W) w
   IfOpens None Did result = Did result
   IfOpens (Some fault) Did result = Prints (printed (unopened_text fault) Faulty) result
 
-  -- key events that can all be made, or their first refused line
+  -- key events that can all be made, or their first refused line: then nothing was printed, and the
+  -- failure has its number and the code
   abbrev pub UnlessRefused : Option (ℕ × List ℕ) → (Did : Result Ending Failure → Type 0)
       → Result Ending Failure → Type 0
   UnlessRefused None Did result = Did result
-  UnlessRefused (Some line) Did result = RefusesKeys line result
+  UnlessRefused (Some line) Did (Err (failure.BadKeys name number code)) =
+      (line ≡ (number, code.0.now)) × (new ≡ old)
+  UnlessRefused (Some line) Did _ = ⊥
 
   -- What a command did with the session of a source and those settings, under the key events of a
   -- file. It says why the source doesn't open, or names the first refused line of the key file, or

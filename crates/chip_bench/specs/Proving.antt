@@ -1,6 +1,6 @@
 -- What `prove` prints of the properties that a source states (own).
---     is_asked, asked_of, has_faults, is_missing    which properties of a source are asked for, whether
---                        one of them can't be read, and whether there is none in the line that is named
+--     is_asked, asked_of, has_faults, unstated_line    which properties of a source are asked for,
+--                        whether one of them can't be read, and the line that is named without one
 --     text_at            the text of the property of a line
 --     looks_for          a search that looks for a property alone
 --     IsForeseen, AnswersKind    whether the answer to a `can` holds; whether that to any property does
@@ -41,9 +41,10 @@ asked_of only stated = filter (λ one. is_asked only one.line) stated
 abbrev pub has_faults : (only : Option ℕ) → List PropertyFault → Bool
 has_faults only faults = list_any (λ fault. is_asked only fault.line) faults
 
-abbrev pub is_missing : (only : Option ℕ) → (asked : List Stated) → (has_faults : Bool) → Bool
-is_missing (Some line) [] false = true
-is_missing only asked has_faults = false
+-- the line that is named, where it states no property
+abbrev pub unstated_line : (only : Option ℕ) → (asked : List Stated) → (has_faults : Bool) → Option ℕ
+unstated_line only [] false = only
+unstated_line only asked has_faults = None
 
 -- the text of the property of a line, if there is such a line
 abbrev pub stated_text : Option LineFacts → List ℕ

@@ -2,13 +2,13 @@
 use Rattle.std.specs.Prelude.{◌≡◌, ◌≢◌, ◌⊎◌, ℕ, ◌+◌, Bool, List, [], Option, Some, Result, Ok, Err, if◌then◌else◌}
 use Rattle.chip_asm.specs.Lines.{open_fault}
 use Rattle.chip_asm.specs.declared.limits.TheConstants.{SOURCE_BYTES}
-use Rattle.chip_asm.specs.declared.refusal.OpenError.{OpenError}
 use Rattle.chip_asm.specs.declared.refusal.OpenError.TheVariants.{OutOfMemory as unopened_memory}
 use Rattle.clap.specs.Kinds.{Kinds, IsAmong}
 use Rattle.clap.specs.declared.error.Error.{Error}
 use Rattle.clap.specs.declared.error.kind.ErrorKind.{ErrorKind}
 use Rattle.clap.specs.declared.error.kind.ErrorKind.TheVariants as kind
 use Rattle.std.specs.Borrow.{Bor}
+use Rattle.std.specs.Io.KnownBytes.{Keeps}
 use Rattle.std.specs.declared.io.Error.{Error as IoError}
 use Rattle.std.specs.declared.io.ErrorKind.{ErrorKind as IoErrorKind}
 use Rattle.std.specs.declared.io.ErrorKind.TheVariants as io_kind
@@ -58,8 +58,7 @@ result_after (Ok _) = Ok Done
 result_after (Err fault.ReaderFailed) = Err failure.Input
 result_after (Err fault.WriterFailed) = Err failure.Output
 result_after (Err fault.TooMuchInput) = Err failure.TooMuchInput
-result_after (Err fault.OutOfMemory) = Err failure.OutOfMemory
-result_after (Err (fault.Source e)) = Err failure.OutOfMemory
+result_after (Err _) = Err failure.OutOfMemory
 
 module _ {R W : Type 0} (remaining : R → Option (List ℕ)) (contents : W → Option (List ℕ))
     (settings : SessionSettings) (source : List ℕ)
@@ -75,43 +74,39 @@ module _ {R W : Type 0} (remaining : R → Option (List ℕ)) (contents : W → 
     pub reader_failed : in_new.failures ≡ reader_failures served in_old.failures
     pub writer_failed : out_new.failures ≡ writer_failures served out_old.failures
 
-  -- a source that doesn't open, or memory ran out as it was opened: nothing was read, and it is
-  -- refused
-  pub record Declines (e : OpenError) (result : Result Ending Failure) : Type 0 where
-    pub fault : (e ≡ unopened_memory) ⊎ (open_fault source ≡ Some e)
-    pub unread : in_new ≡ in_old
-    pub refused : Refuses contents out_old out_new e result
-
-  -- what the program did with a script on a source, where the session ended so
+  -- what the program did with a script on a source, where the session ended so; where the source
+  -- doesn't open, or memory ran out as it was opened, nothing was read, and it is refused
   abbrev pub AnswersAs : Result Ending Failure → Result Unit ServeError → Type 0
-  AnswersAs result (Err (fault.Source e)) = Declines e result
+  AnswersAs result (Err (fault.Source e)) =
+      ((e ≡ unopened_memory) ⊎ (open_fault source ≡ Some e))
+      × (in_new ≡ in_old) × Refuses contents out_old out_new e result
   AnswersAs result served = (result ≡ result_after served) × Converses served
 
   abbrev pub AnswersScript : Result Ending Failure → Type 0
   AnswersScript result = (served : Result Unit ServeError) × AnswersAs result served
 
+-- How the program ended: `Did` says what it did, after which the output was flushed. `flushed` says
+-- whether that went well; a flush that failed is counted.
+pub record Ends {W : Type 0} (contents : W → Option (List ℕ)) (Did : Tally W → Result Ending Failure → Type 0)
+    (out_new : Tally W) (status : ℕ) : Type 0 where
+  pub written : Tally W
+  pub ended : Result Ending Failure
+  pub flushed : Bool
+  pub did : Did written ended
+  pub kept : Keeps (contents written.inner) (contents out_new.inner)
+  pub failures : out_new.failures ≡ failures_after_flush flushed written.failures
+  pub status_is : status ≡ status_of ended flushed
+
 -- The program without arguments: a session on the empty source, which opens unless memory runs out.
--- `flushed` says whether the flush at the end went well; one that failed is counted.
-module _ {R W : Type 0} (remaining : R → Option (List ℕ)) (contents : W → Option (List ℕ))
-    (in_old in_new : Tally R) (out_old out_new : Tally W) where
-  pub record RunsSession (status : ℕ) : Type 0 where
-    pub served : Result Unit ServeError
-    pub flushed : Bool
-    pub transcript : Exchanges (remaining in_old.inner) (remaining in_new.inner)
-        (contents out_old.inner) (contents out_new.inner)
-        (Served served (session_of default_settings []))
-    pub opens : Opens (open_fault []) served
-    pub reader_failed : in_new.failures ≡ reader_failures served in_old.failures
-    pub writer_failed : out_new.failures
-        ≡ failures_after_flush flushed (writer_failures served out_old.failures)
-    pub status_is : status ≡ status_of (result_after served) flushed
+abbrev pub RunsSession : {R W : Type 0} → (remaining : R → Option (List ℕ))
+    → (contents : W → Option (List ℕ)) → (in_old in_new : Tally R) (out_old out_new : Tally W)
+    → (status : ℕ) → Type 0
+RunsSession remaining contents in_old in_new out_old =
+    Ends contents (AnswersScript remaining contents default_settings [] in_old in_new out_old)
 
 abbrev pub settings_failure : SetError → Failure
 settings_failure set.OutOfMemory = failure.OutOfMemory
 settings_failure _ = failure.BadTape
-
-abbrev pub no_memory : Failure
-no_memory = failure.OutOfMemory
 
 -- what hinders the program where `clap` answers an error of that kind
 abbrev pub arguments_failure : ErrorKind → Error → Failure

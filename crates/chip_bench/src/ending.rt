@@ -1,7 +1,7 @@
 //! How the program ends.
 ghost use Rattle.std.specs.Prelude.{◌≡◌};
 ghost use Rattle.clap.specs.Words.{kind_of};
-ghost use Rattle.chip_bench.specs.Running.{ending_status, failure_status, no_memory, settings_failure, arguments_failure};
+ghost use Rattle.chip_bench.specs.Running.{ending_status, failure_status, settings_failure, arguments_failure};
 
 use chip_cases::CaseFault;
 use chip_session::SetError;
@@ -156,7 +156,9 @@ impl<'a> Failure<'a> {
 }
 
 impl<'a> From<AllocError> for Failure<'a> {
-    ghost from_gives = { λ _ failure. failure ≡ no_memory };
+    ghost use Rattle.chip_bench.specs.declared.ending.Failure.TheVariants.{OutOfMemory};
+
+    ghost from_gives = { λ _ failure. failure ≡ OutOfMemory };
 
     fn from(_error: AllocError) -> Failure<'a> {
         Failure::OutOfMemory

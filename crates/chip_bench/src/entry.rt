@@ -1,12 +1,12 @@
 //! The program behind `main`.
 ghost use Rattle.std.specs.Prelude.{◌≡◌, [], ◌∷◌, ◌⊎◌, map, Ok};
 ghost use Rattle.chip_asm.specs.Program.{image_of};
-ghost use Rattle.chip_bench.specs.Printing.{printed_table};
+ghost use Rattle.chip_bench.specs.Printing.{ending_with, printed_faults, printed_table};
 ghost use Rattle.chip_session.specs.Settings.{default_settings};
-ghost use Rattle.chip_bench.specs.Running.{AnswersScript, RunsSession, status_of, failure_status, AreFaulty, IsWithoutArguments};
+ghost use Rattle.chip_bench.specs.Running.{AnswersScript, Ends, RunsSession, status_of, failure_status, AreFaulty, IsWithoutArguments};
 ghost use Rattle.chip_bench.specs.inner.Reads.{IsUsage};
 ghost use Rattle.chip_bench.specs.inner.Written.{IsFoundWritten, IsImageWritten};
-ghost use Rattle.chip_bench.specs.Doing.{Assembles, AssemblesBy, Debugs, Does, Ends, Performs, Runs, ShowsHelp, ShowsVersion, Tells};
+ghost use Rattle.chip_bench.specs.Doing.{Assembles, Debugs, Does, Performs, Runs, ShowsHelp, ShowsVersion, Tells, WritesBy};
 ghost use Rattle.chip_arguments.specs.CommandArguments.{argument_faults};
 ghost use Rattle.std.specs.Io.KnownBytes.{Keeps};
 ghost use Rattle.std.specs.IoError.{error_kind};
@@ -279,8 +279,8 @@ fn assemble<'a, F: FileAccess, O: Write>(
     name: &'a str,
     output: &mut Counted<O>,
 ) -> Result<Ending, Failure<'a>>
-    ensures did { AssemblesBy O.contents output.old output.new (image_of source.now.lines)
-        source.now.lines name.entry result }
+    ensures did { WritesBy O.contents output.old output.new (ending_with (image_of source.now.lines))
+        (printed_faults source.now.lines) name.entry result }
     ensures written { result ≡ Ok Ending.Done
         → IsFoundWritten (F.wrote system.now.files.now name.entry.now) (image_of source.now.lines) }
 {

@@ -63,8 +63,9 @@ fn show<'a, F: FileAccess, O: Write>(
     bench: &mut Bench,
     output: &mut Counted<O>,
 ) -> Result<Ending, Failure<'a>>
-    ensures { PicturesBy O.contents output.old output.new arguments.now arguments.now.bitmap
-        arguments.now.png bench.old.session result }
+    ensures { PicturesBy O.contents output.old output.new
+        (printed_picture bench.old.session arguments.now.run.steps) arguments.now.ascii
+        arguments.now.bitmap arguments.now.png result }
 {
     match (arguments.bitmap, arguments.png) {
         (None, None) => {

@@ -2,9 +2,10 @@ use Rattle.std.proofs.lemmas.Result.{err_from_is_err_and}
 use Rattle.std.proofs.Common.{◌∙◌, ap, Err}
 use Rattle.chip_asm.specs.Lines.{lines_of}
 use Rattle.chip_asm.specs.Program.{image_of}
-use Rattle.chip_bench.specs.Doing.{AssemblesBy}
+use Rattle.chip_bench.specs.Doing.{WritesBy}
+use Rattle.chip_bench.specs.Printing.{ending_with, printed_faults}
 use Rattle.chip_bench.proofs.DoingLemmas.{assembles_unread}
-use Rattle.chip_bench.proofs.OpenedLemmas.{assembles_short, image_written, not_done, of_opened, of_unopened}
+use Rattle.chip_bench.proofs.OpenedLemmas.{image_written, not_done, of_opened, of_unopened, writes_short}
 use Rattle.chip_bench.proofs.entry.asm.Goals as goal
 
 pub returns-in_err-bytes-clause-did : goal.returns-in_err-bytes-clause-did
@@ -16,7 +17,7 @@ returns-in_err-bytes-clause-did g c =
 pub returns-in-Ok-clause-did : goal.returns-in-Ok-clause-did
 returns-in-Ok-clause-did g c =
     of_opened g.I.Read.remaining g.O.Write.contents c.args.input.now c.read_source.new.input c.args.output.now c.assemble-ended.new.output c.args.source
-    c.in_ok-bytes.bytes.items c.assemble-ended.result (λ lines. AssemblesBy g.O.Write.contents c.args.output.now c.assemble-ended.new.output (image_of lines) lines c.args.image)
+    c.in_ok-bytes.bytes.items c.assemble-ended.result (λ lines. WritesBy g.O.Write.contents c.args.output.now c.assemble-ended.new.output (ending_with (image_of lines)) (printed_faults lines) c.args.image)
     c.in-Ok.opened.lines c.in_ok-bytes.ensures.ok c.in-Ok.ensures.ok.0 c.in-Ok.ensures.ok.1 c.assemble-ended.ensures.did
 
 pub returns-in-Ok-clause-written : goal.returns-in-Ok-clause-written
@@ -27,9 +28,10 @@ returns-in-Ok-clause-written g c = λ done.
 pub returns-in-Err-clause-did : goal.returns-in-Err-clause-did
 returns-in-Err-clause-did g c =
     of_unopened g.I.Read.remaining g.O.Write.contents c.args.input.now c.read_source.new.input c.args.output.now c.refuse_source.new.output c.args.source
-    c.in_ok-bytes.bytes.items c.refuse_source.result (λ lines. AssemblesBy g.O.Write.contents c.args.output.now c.refuse_source.new.output (image_of lines) lines c.args.image)
+    c.in_ok-bytes.bytes.items c.refuse_source.result (λ lines. WritesBy g.O.Write.contents c.args.output.now c.refuse_source.new.output (ending_with (image_of lines)) (printed_faults lines) c.args.image)
     c.in-Err.error c.in_ok-bytes.ensures.ok c.in-Err.ensures.err c.refuse_source.ensures
-    (assembles_short g.O.Write.contents c.args.output.now c.refuse_source.new.output (image_of (lines_of c.in_ok-bytes.bytes.items)) (lines_of c.in_ok-bytes.bytes.items) c.args.image c.refuse_source.result)
+    (writes_short g.O.Write.contents c.args.output.now c.refuse_source.new.output (ending_with (image_of (lines_of c.in_ok-bytes.bytes.items)))
+    (printed_faults (lines_of c.in_ok-bytes.bytes.items)) c.args.image c.refuse_source.result)
 
 pub returns-in-Err-clause-written : goal.returns-in-Err-clause-written
 returns-in-Err-clause-written g c = λ done.

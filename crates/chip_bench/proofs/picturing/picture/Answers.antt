@@ -1,7 +1,6 @@
 use Rattle.std.proofs.lemmas.Result.{err_from_is_err_and}
 use Rattle.std.proofs.Common.{◌∙◌, ap, refl, Err}
-use Rattle.chip_bench.specs.Doing.{PicturesBy}
-use Rattle.chip_bench.proofs.DoingLemmas.{pictures, pictures_not}
+use Rattle.chip_bench.proofs.DoingLemmas.{Pictured, pictures, pictures_not}
 use Rattle.chip_bench.proofs.OpenedLemmas.{unmade_session, with_session, without_session}
 use Rattle.chip_bench.proofs.picturing.picture.Goals as goal
 
@@ -18,7 +17,7 @@ returns-in_err-opened g c =
     pictures g.I.Read.remaining g.O.Write.contents c.args.input.now c.read_asked.new.input c.args.output.now c.args.output.now
     c.args.arguments.now c.from_residual-in_err-opened.result asked c.in_ok-source.ensures.ok
     (unmade_session g.O.Write.contents c.args.output.now c.args.output.now asked.settings asked.source.items asked.keys.bytes.items
-    (PicturesBy g.O.Write.contents c.args.output.now c.args.output.now c.args.arguments.now c.args.arguments.now.bitmap c.args.arguments.now.png) c.from_residual-in_err-opened.result _ (p.1 ∙ ap (λ e. Err e) p.2)
+    (Pictured g.O.Write.contents c.args.output.now c.args.output.now c.args.arguments.now) c.from_residual-in_err-opened.result _ (p.1 ∙ ap (λ e. Err e) p.2)
     (rw c.deref.ensures.value at c.in_err-opened.ensures.err) refl)
 
 pub returns-in-Ok : goal.returns-in-Ok
@@ -28,7 +27,7 @@ returns-in-Ok g c =
     pictures g.I.Read.remaining g.O.Write.contents c.args.input.now c.read_asked.new.input c.args.output.now c.show-ended.new.output
     c.args.arguments.now c.show-ended.result asked c.in_ok-source.ensures.ok
     (with_session g.O.Write.contents c.args.output.now c.show-ended.new.output asked.settings asked.source.items asked.keys.bytes.items
-    (PicturesBy g.O.Write.contents c.args.output.now c.show-ended.new.output c.args.arguments.now c.args.arguments.now.bitmap c.args.arguments.now.png) c.show-ended.result c.in-Ok.bench.session is c.show-ended.ensures)
+    (Pictured g.O.Write.contents c.args.output.now c.show-ended.new.output c.args.arguments.now) c.show-ended.result c.in-Ok.bench.session is c.show-ended.ensures)
 
 pub returns : goal.returns
 returns g c =
@@ -37,4 +36,4 @@ returns g c =
     pictures g.I.Read.remaining g.O.Write.contents c.args.input.now c.read_asked.new.input c.args.output.now c.refuse_source.new.output
     c.args.arguments.now c.refuse_source.result asked c.in_ok-source.ensures.ok
     (without_session g.O.Write.contents c.args.output.now c.refuse_source.new.output asked.settings asked.source.items asked.keys.bytes.items
-    (PicturesBy g.O.Write.contents c.args.output.now c.refuse_source.new.output c.args.arguments.now c.args.arguments.now.bitmap c.args.arguments.now.png) c.refuse_source.result c.in-Err.error is c.refuse_source.ensures)
+    (Pictured g.O.Write.contents c.args.output.now c.refuse_source.new.output c.args.arguments.now) c.refuse_source.result c.in-Err.error is c.refuse_source.ensures)

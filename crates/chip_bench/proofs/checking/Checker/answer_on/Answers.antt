@@ -19,4 +19,4 @@ returns g c =
     subst (λ (w : Printed). IsPrintedCheckOf checker.is_json checker.is_painted checker.is_alone c.args.name.now (open_fault c.args.bytes.now) (lines_of c.args.bytes.now) w)
     (sym c.on.ensures)
     (found_opened checker.is_json checker.is_painted checker.is_alone c.args.name.now c.args.bytes.now lines (printed text (ending_with (image_of lines)))
-    c.in-Ok.ensures.ok.0 c.in-Ok.ensures.ok.1 (record { text = c.in_ok-text.ensures; ending = refl }))
+    c.in-Ok.ensures.ok.0 c.in-Ok.ensures.ok.1 (c.in_ok-text.ensures, refl))
