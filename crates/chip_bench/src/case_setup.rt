@@ -1,7 +1,6 @@
 //! The settings, the source and the key events that the lines of a case ask for.
 ghost use Rattle.std.specs.Prelude.{◌≡◌, ◌≤◌, IfOk, IfErr, Some, length, option_copied};
 ghost use Rattle.chip_arguments.specs.CommandArguments.{ReadsNumber, ReadsOr};
-ghost use Rattle.chip_machine.specs.QuirkList.{quirks_asked};
 ghost use Rattle.chip_bench.specs.SettingArguments.{settings_asked};
 ghost use Rattle.chip_bench.specs.Testing.{IsCaseKeys, IsCaseSource, IsHindrance, SetBy, text_of};
 
@@ -12,8 +11,8 @@ use crate::reading::{MOST_SOURCE, settings_of};
 use crate::system::System;
 use chip_arguments::{SettingArguments, number, seed};
 use chip_cases::{CaseSource, Placed, Setup};
+use chip_machine::Profile;
 use chip_machine::limits::IMAGE_BYTES;
-use chip_machine::{Profile, Quirks};
 use chip_replay::{LEAST_SPACING, MOST_RATE, MOST_SPACING};
 use chip_session::Settings;
 use chip_views::source_of_image;
@@ -55,11 +54,28 @@ pub(crate) fn case_settings<'a>(
 fn setting_arguments<'t>(setup: &Setup<'t>) -> Result<SettingArguments<'t>, BadLine>
     ensures { IfOk result (SetBy setup.now) }
 {
+    let rate = number_of(setup.rate, SettingArguments::DEFAULT.rate, 1, MOST_RATE)?;
+    let tape = text_of(setup.tape)?;
+    let seed = seed_of(setup.seed)?;
+    let name = text_of(setup.profile)?;
+    let list = text_of(setup.quirks)?;
+    let Some(profile) = Profile::asked(name) else {
+        return Err(BadLine {
+            line: setup.profile.map_or(1, |placed| placed.line),
+            why: TestFault::Profile,
+        });
+    };
+    let Some(quirks) = profile.quirks().asked(list) else {
+        return Err(BadLine {
+            line: setup.quirks.map_or(1, |placed| placed.line),
+            why: TestFault::Quirks,
+        });
+    };
     Ok(SettingArguments {
-        rate: number_of(setup.rate, SettingArguments::DEFAULT.rate, 1, MOST_RATE)?,
-        tape: text_of(setup.tape)?,
-        seed: seed_of(setup.seed)?,
-        quirks: quirks_of(setup)?,
+        rate,
+        tape,
+        seed,
+        quirks,
         spacing: number_of(setup.every, LEAST_SPACING, LEAST_SPACING, MOST_SPACING)?,
     })
 }
@@ -113,27 +129,6 @@ fn seed_of(placed: Option<Placed<'_>>) -> Result<Option<u64>, BadLine>
             why: TestFault::Number,
         }),
         _ => Ok(read),
-    }
-}
-
-fn quirks_of(setup: &Setup<'_>) -> Result<Quirks, BadLine>
-    ensures { IfOk result (λ quirks. quirks_asked (text_of setup.now.profile)
-        (text_of setup.now.quirks) ≡ Some quirks) }
-{
-    let name = text_of(setup.profile)?;
-    let list = text_of(setup.quirks)?;
-    let Some(profile) = Profile::asked(name) else {
-        return Err(BadLine {
-            line: setup.profile.map_or(1, |placed| placed.line),
-            why: TestFault::Profile,
-        });
-    };
-    match profile.quirks().asked(list) {
-        Some(quirks) => Ok(quirks),
-        None => Err(BadLine {
-            line: setup.quirks.map_or(1, |placed| placed.line),
-            why: TestFault::Quirks,
-        }),
     }
 }
 

@@ -28,15 +28,6 @@ impl<W> Model for UntilFailure<W> {
 }
 
 impl<W> UntilFailure<W> {
-    fn new(inner: W) -> Self
-        ensures inner { result.inner ≡ inner }
-        ensures failures { result.failures ≡ 0 }
-    {
-        UntilFailure {
-            inner: Counted::new(inner),
-        }
-    }
-
     fn has_failed(&self) -> bool
         ensures failed { IsTrue result ↔ (self.now.failures ≡ 1) }
         ensures once { self.now.failures ≤ 1 }
@@ -132,7 +123,9 @@ impl<W> HeldWriter<W> {
     {
         let held = Vec::with_capacity(alloc, most)?;
         Ok(HeldWriter {
-            inner: UntilFailure::new(inner),
+            inner: UntilFailure {
+                inner: Counted::new(inner),
+            },
             held,
             most,
         })

@@ -80,7 +80,23 @@ impl<'e, E: Write> Observer for Terminal<'e, E> {
         };
         let _ = write!(self.errors, "{code}: {}: ", page.title);
         match why {
-            Refused::Line(CommandFault::Unknown) => self.say_form(line),
+            // What would be right: the form of the command that the first word names, or else the words
+            // that name one.
+            Refused::Line(CommandFault::Unknown) => {
+                let named = word_pages().iter().find(|page| {
+                    matches!(
+                        line.strip_prefix(page.code.as_bytes()),
+                        Some([] | [b' ', ..])
+                    )
+                });
+                match named {
+                    Some(page) => self.say(page.title),
+                    None => {
+                        self.say("the commands are ");
+                        self.say_words();
+                    }
+                }
+            }
             Refused::Command(Refusal::NoSuchLine) => {
                 self.say("the source has ");
                 self.say_lines(bench.source());
@@ -131,19 +147,5 @@ impl<'e, E: Write> Terminal<'e, E> {
             self.say(page.code);
             between = ", ";
         }
-    }
-
-    // What would be right in the place of a line that is not a command: the form of the command that
-    // its first word names, or else the words that name one.
-    fn say_form(&mut self, line: &[u8]) {
-        for page in word_pages() {
-            if let Some(rest) = line.strip_prefix(page.code.as_bytes())
-                && matches!(rest, [] | [b' ', ..])
-            {
-                return self.say(page.title);
-            }
-        }
-        self.say("the commands are ");
-        self.say_words();
     }
 }
