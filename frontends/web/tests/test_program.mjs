@@ -26,8 +26,8 @@ const COMMANDS = [
   'run game.asm --steps 1000', 'trace game.asm --steps 50', 'picture game.asm --steps 2000 game.pbm', 'picture game.asm --steps 2000 game.png',
   'explain F9', 'explore game.asm --steps 300', 'dis none', 'help', '--help', '--version', 'run game.asm', 'asm game.asm game.asm', '',
 ].map((line) => line.split(' ').filter(Boolean));
-// Each round has two outcomes for each of 256 counts, and stores nothing that could be forgotten.
-const MANY_STATES = 'LD I, #800\nLOOP: SKP V0\nADD V1, 1\nADD V2, 1\nLD [I], V2\nSE V2, 0\nJP LOOP\nADD V3, 1\nLD [I], V3\nJP LOOP\n';
+// Each round has two outcomes for any three counts, of which none can be forgotten, since skips compare them.
+const MANY_STATES = 'LOOP: SKP V0\nADD V1, 1\nADD V2, 3\nSE V1, V2\nJP LOOP\nADD V3, 1\nSE V3, V1\nJP LOOP\nJP LOOP\n';
 const FILES = { 'game.asm': source, 'many.asm': Buffer.from(MANY_STATES), 'stated.asm': Buffer.from(`;! always V9 = 0\n${MANY_STATES}`) };
 const INPUT = 'regs 100\nins 1 LD V0, 3\nfoo\nimage\n';
 
