@@ -61,7 +61,8 @@ no-numbers keys = record { within = All-nil (λ (i : NameId). i.number < length 
 
 pub info-extends : (old new : List Name) (info : LineInfo) (several : List NameId) (line : Reading) → Extends old new → IsInfo old info several line → IsInfo new info several line
 info-extends old new info several line e i = record {
-  bare = i.bare;
+  size = i.size;
+  padded = i.padded;
   coded = i.coded;
   steady = i.steady;
   defines = number-of-extends old new info.defines _ e i.defines;

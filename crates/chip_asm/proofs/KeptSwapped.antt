@@ -16,8 +16,7 @@ use Rattle.chip_asm.specs.declared.edit.Edit.TheVariants.{Replace}
 use Rattle.chip_asm.specs.declared.kept.Kept.{Kept}
 use Rattle.chip_asm.specs.declared.placement.Placement.{Placement}
 use Rattle.chip_asm.specs.inner.Codes.{IsImageOf, IsWritten, code_kept, covers_byte, is_coded, kept_bytes, right_byte}
-use Rattle.chip_asm.specs.inner.Effect.{AreAlike}
-use Rattle.chip_asm.specs.inner.Infos.{IsInfo, has_code, AreSteady}
+use Rattle.chip_asm.specs.inner.Infos.{AreAlike, IsInfo, has_code, AreSteady}
 use Rattle.chip_asm.specs.inner.Kept.{IsKept}
 use Rattle.chip_asm.specs.inner.KeptLine.{KeptLine}
 use Rattle.chip_asm.specs.inner.Layouts.{AreCodesNoted, IsCounted, IsLayoutOf}

@@ -25,7 +25,7 @@ pub mod CutSteps
 pub mod TakenBack
 pub mod InfoSteps
 pub mod QuietLines
-pub mod BareLines
+pub mod PlainLines
 pub mod SwappedLine
 pub mod WholeImage
 pub mod EditTexts

@@ -9,7 +9,9 @@ use Rattle.chip_lang.specs.declared.fault.Fault.TheVariants.{DefinedTwice, PastM
 use Rattle.chip_lang.specs.Line.{Body, empty, db, dw, da, code, else_line, endif, options, used, xref, Reading, bad, read}
 use Rattle.chip_asm.specs.Names.{Name}
 use Rattle.chip_asm.specs.declared.table.Symbol.{Symbol}
-use Rattle.chip_asm.specs.inner.Effect.{is_plain, is_plain_line, AreAlike}
+use Rattle.chip_asm.specs.declared.block.Block.{Block}
+use Rattle.chip_asm.specs.inner.Blocks.{moved}
+use Rattle.chip_asm.specs.inner.Infos.{is_plain, is_plain_line, AreAlike}
 use Rattle.chip_asm.specs.inner.Follows.{next_aligning}
 use Rattle.chip_asm.specs.Layout.{Placed, body_of, is_if_body, is_else_body, is_endif_body, is_end_body, is_org_body, is_if, is_else, is_endif, takes_effect, is_origin, symbol_of, value_given, condition_of, value_at, value_or_zero, full_size, is_redefinition, has_ended, has_else, holds, first_of}
 use Rattle.chip_asm.specs.computed.Walk.{place, first_fault, fault_of_value, is_misplaced, is_active, enclosing, symbols, address, is_aligning}
@@ -32,17 +34,18 @@ pub record Plain (b : Body) : Type 0 where
   pub given : (here : ℕ) (value : ℤ) → value_given here value b ≡ pos here
   pub first : (before : List Placed) (label : Option Name) → first_fault before (read label b)
       ≡ cond (is_redefinition (symbols before) label) (Some DefinedTwice) (cond (nat_lt MEMORY_BYTES (address before + full_size (is_aligning before) (address before) b (pos 0))) (Some PastMemory) None)
+  pub stays : (opened : Block) (nearest : List Block) → nearest ≡ moved b opened nearest
 
 pub plain : (b : Body) → is_plain b ≡ true → Plain b
 unfolding first_fault fault_of_value value_at
-plain empty h = record { no_if = refl; no_else = refl; no_endif = refl; condition = λ names. refl; value = λ names. refl; no_org = refl; no_end = refl; no_align = λ a g. refl; given = λ n v. refl; first = λ before label. refl }
-plain options h = record { no_if = refl; no_else = refl; no_endif = refl; condition = λ names. refl; value = λ names. refl; no_org = refl; no_end = refl; no_align = λ a g. refl; given = λ n v. refl; first = λ before label. refl }
-plain used h = record { no_if = refl; no_else = refl; no_endif = refl; condition = λ names. refl; value = λ names. refl; no_org = refl; no_end = refl; no_align = λ a g. refl; given = λ n v. refl; first = λ before label. refl }
-plain xref h = record { no_if = refl; no_else = refl; no_endif = refl; condition = λ names. refl; value = λ names. refl; no_org = refl; no_end = refl; no_align = λ a g. refl; given = λ n v. refl; first = λ before label. refl }
-plain (db es) h = record { no_if = refl; no_else = refl; no_endif = refl; condition = λ names. refl; value = λ names. refl; no_org = refl; no_end = refl; no_align = λ a g. refl; given = λ n v. refl; first = λ before label. refl }
-plain (dw es) h = record { no_if = refl; no_else = refl; no_endif = refl; condition = λ names. refl; value = λ names. refl; no_org = refl; no_end = refl; no_align = λ a g. refl; given = λ n v. refl; first = λ before label. refl }
-plain (da bytes) h = record { no_if = refl; no_else = refl; no_endif = refl; condition = λ names. refl; value = λ names. refl; no_org = refl; no_end = refl; no_align = λ a g. refl; given = λ n v. refl; first = λ before label. refl }
-plain (code f os) h = record { no_if = refl; no_else = refl; no_endif = refl; condition = λ names. refl; value = λ names. refl; no_org = refl; no_end = refl; no_align = λ a g. refl; given = λ n v. refl; first = λ before label. refl }
+plain empty h = record { no_if = refl; no_else = refl; no_endif = refl; condition = λ names. refl; value = λ names. refl; no_org = refl; no_end = refl; no_align = λ a g. refl; given = λ n v. refl; first = λ before label. refl; stays = λ opened nearest. refl }
+plain options h = record { no_if = refl; no_else = refl; no_endif = refl; condition = λ names. refl; value = λ names. refl; no_org = refl; no_end = refl; no_align = λ a g. refl; given = λ n v. refl; first = λ before label. refl; stays = λ opened nearest. refl }
+plain used h = record { no_if = refl; no_else = refl; no_endif = refl; condition = λ names. refl; value = λ names. refl; no_org = refl; no_end = refl; no_align = λ a g. refl; given = λ n v. refl; first = λ before label. refl; stays = λ opened nearest. refl }
+plain xref h = record { no_if = refl; no_else = refl; no_endif = refl; condition = λ names. refl; value = λ names. refl; no_org = refl; no_end = refl; no_align = λ a g. refl; given = λ n v. refl; first = λ before label. refl; stays = λ opened nearest. refl }
+plain (db es) h = record { no_if = refl; no_else = refl; no_endif = refl; condition = λ names. refl; value = λ names. refl; no_org = refl; no_end = refl; no_align = λ a g. refl; given = λ n v. refl; first = λ before label. refl; stays = λ opened nearest. refl }
+plain (dw es) h = record { no_if = refl; no_else = refl; no_endif = refl; condition = λ names. refl; value = λ names. refl; no_org = refl; no_end = refl; no_align = λ a g. refl; given = λ n v. refl; first = λ before label. refl; stays = λ opened nearest. refl }
+plain (da bytes) h = record { no_if = refl; no_else = refl; no_endif = refl; condition = λ names. refl; value = λ names. refl; no_org = refl; no_end = refl; no_align = λ a g. refl; given = λ n v. refl; first = λ before label. refl; stays = λ opened nearest. refl }
+plain (code f os) h = record { no_if = refl; no_else = refl; no_endif = refl; condition = λ names. refl; value = λ names. refl; no_org = refl; no_end = refl; no_align = λ a g. refl; given = λ n v. refl; first = λ before label. refl; stays = λ opened nearest. refl }
 plain _ h = absurd (false≢true h)
 
 -- lines
@@ -84,7 +87,7 @@ active-plain before a b x y = rw (x.no_else, x.no_endif, y.no_else, y.no_endif) 
 full-same : (a : Bool) (here : ℕ) (old new : Reading) → AreAlike old new → full_size a here (body_of old) (pos 0) ≡ full_size a here (body_of new) (pos 0)
 full-same a here old new s = rw (s.size, s.padded) refl
 
-plain-line : (line : Reading) → is_plain_line line ≡ true → Plain (body_of line)
+pub plain-line : (line : Reading) → is_plain_line line ≡ true → Plain (body_of line)
 plain-line (bad f) h = absurd (false≢true h)
 plain-line (read label b) h = plain b h
 

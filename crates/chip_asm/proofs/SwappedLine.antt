@@ -3,7 +3,7 @@ use Rattle.std.proofs.Common.{◌≡◌, ℕ, zero, suc, ◌+◌, ◌<◌, ◌�
 use Rattle.std.proofs.lemmas.List.{length-reverse, length-take, reverse-append}
 use Rattle.std.proofs.Math.Seq.{get_or-append_seam, map-set_same, set-append_seam}
 use Rattle.chip_lang.specs.Line.{Reading}
-use Rattle.chip_asm.specs.inner.Effect.{AreAlike}
+use Rattle.chip_asm.specs.inner.Infos.{AreAlike}
 use Rattle.chip_asm.specs.Layout.{Placed}
 use Rattle.chip_asm.specs.computed.Walk.{place, placed, address, symbols}
 use Rattle.chip_asm.proofs.BlockSteps.{reverse-cons}

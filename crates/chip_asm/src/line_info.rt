@@ -1,12 +1,12 @@
 //! What is kept of a line beside its reading, for steps over all lines.
-ghost use Rattle.std.specs.Prelude.{◌≡◌, ◌++◌, ◌≤◌, List, IfOk, IfSome, OnOk};
+ghost use Rattle.std.specs.Prelude.{◌≡◌, ◌++◌, ◌-◌, ◌<◌, ◌≤◌, ◌^◌, List, IfOk, IfSome, OnOk, true};
 ghost use Rattle.chip_lang.specs.Line.{Reading};
-ghost use Rattle.chip_lang.specs.SeenLine.{seen_line};
+ghost use Rattle.chip_lang.specs.SeenLine.{seen_body, seen_line};
 ghost use Rattle.chip_lang.specs.Uses.{name_defined, names_used};
-ghost use Rattle.chip_asm.specs.Layout.{body_of};
+ghost use Rattle.chip_lang.specs.declared.limits.TheConstants.{MEMORY_BYTES};
+ghost use Rattle.chip_asm.specs.Layout.{body_of, is_padded, own_size};
 ghost use Rattle.chip_asm.specs.Names.{Name};
-ghost use Rattle.chip_asm.specs.inner.HeldText.{SaysNothing};
-ghost use Rattle.chip_asm.specs.inner.Infos.{IsBare, IsInfo, IsNumberOf, is_bare_line, is_steady, numbers_of, has_code};
+ghost use Rattle.chip_asm.specs.inner.Infos.{AreAlike, IsInfo, IsNumberOf, IsPlain, IsSizeOf, is_plain, is_steady, numbers_of, has_code};
 ghost use Rattle.chip_asm.specs.inner.Tables.{AreNumbers, Extends};
 
 use crate::table::{NameId, Table};
@@ -27,8 +27,10 @@ pub(crate) enum Uses {
 /// What steps over all lines ask of a line.
 #[derive(Clone, Copy)]
 pub(crate) struct LineInfo {
-    /// Whether it is an instruction or has no statement.
-    pub(crate) is_bare: bool,
+    /// Its size, where that and its name are all that the first pass asks of it.
+    pub(crate) size: Option<u16>,
+    /// Whether it takes one byte more where it would end at an odd address.
+    pub(crate) is_padded: bool,
     /// Whether it has bytes of its own.
     pub(crate) is_coded: bool,
     /// Whether it opens no block, ends no source and switches no alignment.
@@ -39,16 +41,59 @@ pub(crate) struct LineInfo {
     pub(crate) uses: Uses,
 }
 
-fn is_bare(line: &Line) -> bool
-    ensures { result ≡ is_bare_line (seen_line line.now) }
+/// The bytes of a statement itself.
+pub(crate) fn size_of_body(body: &Body, value: i32) -> usize
+    ensures size { result ≡ own_size (seen_body body.now) value }
+    ensures bound { result < 2 ^ 64 - 1 }
+{
+    match body {
+        Body::Code(_, _) => 2,
+        Body::Db(exprs) => exprs.len(),
+        Body::Dw(exprs) => 2 * exprs.len(),
+        Body::Da(bytes) => bytes.get().len(),
+        Body::Ds(_) => value.unsigned_abs() as usize,
+        _ => 0,
+    }
+}
+
+pub(crate) fn is_data(body: &Body) -> bool
+    ensures { result ≡ is_padded (seen_body body.now) }
+{
+    matches!(body, Body::Db(_) | Body::Da(_) | Body::Ds(_))
+}
+
+/// Whether all that the first pass asks of a statement is its size.
+fn is_plain(body: &Body) -> bool
+    ensures { result ≡ is_plain (seen_body body.now) }
 {
     matches!(
-        line,
-        Line::Read {
-            body: Body::Empty | Body::Code(_, _),
-            ..
-        }
+        body,
+        Body::Empty
+            | Body::Options
+            | Body::Used
+            | Body::Xref
+            | Body::Db(_)
+            | Body::Dw(_)
+            | Body::Da(_)
+            | Body::Code(_, _)
     )
+}
+
+/// The size of a line, where that and its name are all that the first pass asks of it, and whether
+/// it is padded.
+fn space_of(line: &Line) -> (Option<u16>, bool)
+    ensures size { IsSizeOf result.0 (seen_line line.now) }
+    ensures padded { result.1 ≡ is_padded (body_of (seen_line line.now)) }
+{
+    let Line::Read { body, .. } = line else {
+        return (None, false);
+    };
+    let size = if is_plain(body) {
+        u16::try_from(size_of_body(body, 0)).ok()
+    } else {
+        None
+    };
+    (size, is_data(body))
 }
 
 /// Whether the line has bytes of its own.
@@ -148,6 +193,17 @@ fn uses_of(alloc: Global, table: &mut Table, line: &Line) -> Result<(Uses, Vec<N
     Ok((Uses::Several, numbers))
 }
 
+/// Whether two names, or none, have the same number.
+fn is_same_name(one: Option<NameId>, other: Option<NameId>) -> bool
+    ensures { result ≡ true → one ≡ other }
+{
+    match (one, other) {
+        (Some(one), Some(other)) => one.number == other.number,
+        (None, None) => true,
+        _ => false,
+    }
+}
+
 /// What is known of a line whose names have numbers.
 #[derive(Drop)]
 pub(crate) struct Numbered {
@@ -160,7 +216,8 @@ pub(crate) struct Numbered {
 impl LineInfo {
     /// What is kept of a line that is blank or only a comment.
     pub(crate) const NOTHING: LineInfo = LineInfo {
-        is_bare: true,
+        size: Some(0),
+        is_padded: false,
         is_coded: false,
         is_steady: true,
         defines: None,
@@ -177,8 +234,10 @@ impl LineInfo {
     {
         let defines = number_defined(alloc, table, line)?;
         let (uses, several) = uses_of(alloc, table, line)?;
+        let (size, is_padded) = space_of(line);
         let info = LineInfo {
-            is_bare: is_bare(line),
+            size,
+            is_padded,
             is_coded: has_code(line),
             is_steady: is_steady(line),
             defines,
@@ -187,22 +246,43 @@ impl LineInfo {
         Ok(Numbered { info, several })
     }
 
-    /// The size that a line takes, active or not, and the name that it gives then, if the first
-    /// pass asks nothing else of it.
+    /// The size that a line takes at an address, active or not, and the name that it gives then, if
+    /// the first pass asks nothing else of it.
     #[inline(always)]
-    pub(crate) fn bare(self, active: bool) -> Option<(usize, Option<NameId>)>
-        ensures is { (keys : List Name) (several : List NameId) (line : Reading)
+    pub(crate) fn plain(
+        self,
+        active: bool,
+        aligning: bool,
+        here: usize,
+    ) -> Option<(usize, Option<NameId>)>
+        requires { here ≤ MEMORY_BYTES }
+        ensures { (keys : List Name) (several : List NameId) (line : Reading)
             → IsInfo keys self several line
-            → IfSome result (λ made. IsBare keys active line made.0 made.1) }
-        ensures small { IfSome result (λ made. made.0 ≤ 2) }
-        ensures zero { IfSome result (λ made. (made.0 ≡ 2 → ⊥) → made.0 ≡ 0) }
+            → IfSome result (λ made. IsPlain keys active aligning here line made.0 made.1) }
     {
-        if !self.is_bare {
+        let Some(size) = self.size else {
             return None;
-        }
+        };
         if !active {
             return Some((0, None));
         }
-        Some((if self.is_coded { 2 } else { 0 }, self.defines))
+        let size = size as usize;
+        let is_odd = self.is_padded && aligning && (here + size) % 2 == 1;
+        Some((if is_odd { size + 1 } else { size }, self.defines))
+    }
+
+    /// Whether two lines give the same name, take the same space, and the first pass asks nothing
+    /// else of them. Then one in the place of the other changes nothing else.
+    pub(crate) fn is_alike(self, other: LineInfo) -> bool
+        ensures { (keys : List Name) (few several : List NameId) (old new : Reading)
+            → IsInfo keys self few old → IsInfo keys other several new → result ≡ true
+            → AreAlike old new }
+    {
+        let (Some(size), Some(other_size)) = (self.size, other.size) else {
+            return false;
+        };
+        size == other_size
+            && self.is_padded == other.is_padded
+            && is_same_name(self.defines, other.defines)
     }
 }
