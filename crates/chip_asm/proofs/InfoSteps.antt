@@ -17,7 +17,7 @@ use Rattle.chip_asm.specs.inner.Infos.{AreInfos, AreInfosOf, IsInfo, IsNumberOf,
 use Rattle.chip_asm.specs.inner.KeptLine.{KeptLine}
 use Rattle.chip_asm.specs.inner.Records.{reading_in, readings_in, texts_in}
 use Rattle.chip_asm.specs.inner.Tables.{AreNumbers, Extends, IsNumber, key_at, names_at}
-use Rattle.chip_asm.proofs.LastLine.{one-side}
+use Rattle.chip_asm.proofs.PlacesAgree.{one-side}
 
 pub number-extends : (old new : List Name) (id : NameId) (name : Name) → Extends old new → IsNumber old id name → IsNumber new id name
 number-extends old new id name e n = record {

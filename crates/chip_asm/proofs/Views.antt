@@ -14,7 +14,7 @@ use Rattle.std.proofs.lemmas.List.Sums.{sum_by-le-sum_by}
 use Rattle.chip_asm.specs.Layout.{body_of}
 use Rattle.chip_asm.specs.inner.Passes.{count_again, is_encoded_again}
 use Rattle.chip_asm.specs.inner.Infos.{has_code}
-use Rattle.chip_asm.proofs.CodeSteps.{count-numbered, count_by-take}
+use Rattle.chip_asm.proofs.LinesByPlace.{count-numbered, count_by-take}
 
 pub layout-view : (kept : Kept) (texts : List (List ℕ)) → IsKept kept → texts_in kept.lines.items ≡ texts → IsLayoutOf kept.layout (map reading_of texts)
 layout-view kept texts k t = subst (IsLayoutOf kept.layout) (k.are_read ∙ ap (map reading_of) t) k.laid_out

@@ -4,8 +4,8 @@ use Rattle.chip_asm.specs.inner.Infos.{IsInfo}
 use Rattle.chip_asm.specs.inner.Kept.{IsKept, needed_by, texts_kept}
 use Rattle.chip_asm.specs.inner.KeptLine.{KeptLine}
 use Rattle.chip_asm.specs.inner.Records.{lines_after, reading_in, readings_in, texts_in}
-use Rattle.chip_asm.proofs.PlainLines.{info-here}
-use Rattle.chip_asm.proofs.EditTexts.{IsRead, added-has, all-read, readings-set, texts-set}
+use Rattle.chip_asm.proofs.QuietLines.{info-here}
+use Rattle.chip_asm.proofs.KeptSteps.{IsRead, added-has, all-read, readings-set, texts-set}
 use Rattle.chip_asm.proofs.kept.Kept.edit.Goals as goal
 use Rattle.chip_asm.proofs.kept.Kept.edit.Goals.{Joined-edit, In-Replace, in-Replace+then-is_alike, in-Replace+else-is_alike+in_ok-remake-in-Replace, in_default+in_ok-remake-in_default}
 

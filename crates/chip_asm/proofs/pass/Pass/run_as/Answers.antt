@@ -8,11 +8,10 @@ use Rattle.chip_asm.specs.inner.Follows.{placement_of}
 use Rattle.chip_asm.specs.inner.Infos.{IsPlain}
 use Rattle.chip_asm.specs.inner.Placements.{Found, bare_status, found, is_accepted, nothing}
 use Rattle.chip_asm.specs.inner.Records.{reading_in}
-use Rattle.chip_asm.proofs.PlainLines.{number-within, passed-plain}
-use Rattle.chip_asm.proofs.Bounds.{end-low}
-use Rattle.chip_asm.proofs.LinesByPlace.{high, low}
+use Rattle.chip_asm.proofs.QuietLines.{number-within, passed-plain}
+use Rattle.chip_asm.proofs.Resumed.{end-low}
+use Rattle.chip_asm.proofs.LinesByPlace.{high, low, tally-same}
 use Rattle.chip_asm.proofs.PassSteps.{Copied, plain-held, plain-stood, copied, copied-held, copy-room, facing, noted-plain, passed-on, steps-plain, stood-there, zeros-next}
-use Rattle.chip_asm.proofs.TallySteps.{tally-same}
 use Rattle.chip_asm.proofs.pass.Pass.run_as.Goals.{else-active, else-active-via-else-active, else-active-via-then-active+else-is_accepted, else-loop-place-test, then-active+then-is_accepted, then-loop-place-test+in-Some+else-size-here+then-not-define_new, then-loop-place-test+in-Some+then-size-here, then-loop-place-test+in_default}
 use Rattle.chip_asm.proofs.pass.Pass.run_as.Goals as goal
 
