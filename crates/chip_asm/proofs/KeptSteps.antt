@@ -12,7 +12,7 @@ use Rattle.chip_asm.proofs.Placing.{onto, fold-append, length-placed}
 use Rattle.chip_asm.proofs.QuietLines.{Same, parts, with_line, place-swapped, place-same, same-cons, same-swapped, Quiet, quiet-old, quiet-new}
 use Rattle.std.specs.Option.{option_map_or}
 use Rattle.std.proofs.lemmas.Bool.Decides.{nat_tests}
-use Rattle.chip_asm.specs.inner.Layouts.{placements_of, final_placement, IsLayoutOf, IsCounted, first_placements, AreCodesNoted}
+use Rattle.chip_asm.specs.inner.Placements.{placements_of, final_placement, IsLayoutOf, IsCounted, first_placements, AreCodesNoted, count_of, found, Found, is_accepted, is_accepted_found, nothing, status_coded, placement_of}
 use Rattle.chip_asm.specs.Program.{names_of_lines, code_under, bytes_in_code, covers, byte_at, code_with, fault_in_code}
 use Rattle.std.proofs.lemmas.List.Elements.{All-nil, All-append, All-cons, All-drop, All-get_or, All-head, All-set, All-tail, All-take}
 use Rattle.chip_asm.specs.declared.kept.Kept.{Kept}
@@ -26,7 +26,6 @@ use Rattle.chip_asm.proofs.InfoSteps.{infos-extend}
 use Rattle.std.specs.Global.{Vec}
 use Rattle.std.proofs.lemmas.Bool.{cases_lt, false_from_ne_true, cases_eq}
 use Rattle.chip_lang.specs.declared.limits.TheConstants.{IMAGE_BYTES, IMAGE_START}
-use Rattle.chip_asm.specs.inner.Placements.{count_of, found, Found, is_accepted, is_accepted_found, nothing, status_coded}
 use Rattle.chip_asm.specs.declared.edit.Edit.{Edit}
 use Rattle.std.proofs.lemmas.Option.{same_Some, slice_get-get_or, slice_get_within, get_or_from_slice_get}
 use Rattle.chip_asm.specs.declared.layout.Layout.{Layout}
@@ -35,7 +34,6 @@ use Rattle.chip_asm.specs.declared.placement.Status.TheVariants.{Pending, Skippe
 use Rattle.chip_asm.specs.declared.table.Symbol.{Symbol}
 use Rattle.chip_asm.specs.Names.{Name, values_of}
 use Rattle.chip_asm.specs.Work.{is_accepted_at, lines_to_encode, is_accepted_in, needs_count}
-use Rattle.chip_asm.specs.inner.Follows.{placement_of}
 use Rattle.chip_asm.specs.inner.Passes.{HasCode, IsHeld, IsSlot, is_byte_of, placed_at}
 use Rattle.chip_asm.proofs.LinesByPlace.{AtPlace, accepted-at, at-line, at-place, at-place-of, byte-line, byte-nowhere, ends-before, found-there, here-at, high, low, none-pending, covers-accepted, covered, set-here, set-other}
 use Rattle.chip_asm.proofs.LinesAfter.{Edited, edited-lines, edited-map, same-front, shorter}

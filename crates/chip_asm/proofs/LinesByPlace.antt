@@ -25,8 +25,7 @@ use Rattle.chip_lang.specs.declared.fault.Fault.TheVariants.{UnclosedIf}
 use Rattle.chip_asm.specs.Names.{values_of}
 use Rattle.chip_asm.specs.declared.layout.Layout.{Layout}
 use Rattle.chip_asm.specs.computed.Walk.{place, placed, address, symbols, enclosing}
-use Rattle.chip_asm.specs.inner.Layouts.{IsLayoutOf, placements_of, final_placement, first_placements}
-use Rattle.chip_asm.specs.inner.Placements.{Found, found, is_accepted_found, is_accepted, status_coded, nothing, count_of, fault_noted, is_active_status, refusal}
+use Rattle.chip_asm.specs.inner.Placements.{IsLayoutOf, placements_of, final_placement, first_placements, Found, found, is_accepted_found, is_accepted, status_coded, nothing, count_of, fault_noted, is_active_status, refusal, block_of, placement_of}
 use Rattle.chip_asm.specs.Work.{is_accepted_at, is_accepted_in}
 use Rattle.chip_asm.proofs.Resumed.{IsWithinMemory, within-memory, next-placed, length-laid, same-placed, none_from}
 use Rattle.chip_asm.proofs.LinesApart.{ends-by, one-covers, turned}
@@ -36,7 +35,6 @@ use Rattle.chip_asm.proofs.PlacesAgree.{number-at, enclosing-all, open-at, opens
 use Rattle.chip_asm.specs.declared.placement.Status.TheVariants.{Pending}
 use Rattle.chip_asm.specs.declared.block.Block.{Block}
 use Rattle.chip_asm.specs.Places.{Encloses}
-use Rattle.chip_asm.specs.inner.Follows.{block_of, placement_of}
 use Rattle.chip_asm.specs.inner.Blocks.{AreMarked, is_among, is_opened_at, marked, unclosed}
 use Rattle.chip_asm.proofs.BlockSteps.{reverse-cons, list_all-reverse}
 use Rattle.chip_asm.specs.declared.layout.Tally.{Tally}

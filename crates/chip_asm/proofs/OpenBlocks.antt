@@ -6,7 +6,7 @@ use Rattle.std.proofs.lemmas.Bool.{and_parts}
 use Rattle.chip_lang.specs.Line.{Body, endif, else_line, ifdef, ifund}
 use Rattle.chip_asm.specs.Layout.{Placed, body_of, is_if_body, is_endif_body, is_if, is_endif, is_else, is_else_body, has_else, is_number, first_of}
 use Rattle.chip_asm.specs.computed.Walk.{with_between, closes_no_more, enclosing}
-use Rattle.chip_asm.specs.inner.Follows.{block_of}
+use Rattle.chip_asm.specs.inner.Placements.{block_of}
 use Rattle.chip_asm.specs.inner.Blocks.{moved, turned, turn_first, close_first}
 
 -- The open blocks, line by line: an IF opens one, an ENDIF closes the last one.

@@ -13,12 +13,10 @@ use Rattle.chip_asm.specs.Layout.{Placed, body_of, value_at, is_redefinition, va
 use Rattle.chip_asm.specs.Names.{values_of, Name}
 use Rattle.chip_asm.specs.computed.Walk.{place, placed, symbols, address, enclosing, is_aligning}
 use Rattle.chip_asm.specs.inner.Codes.{IsCopied, copied_bytes, IsImageOf, IsWritten, code_kept, is_coded, kept_bytes, kept_fault, right_byte}
-use Rattle.chip_asm.specs.inner.Follows.{Follows, placement_of}
+use Rattle.chip_asm.specs.inner.Placements.{Follows, placement_of, HasPassed, AreCodesNoted, final_placement, placements_of, Found, found, is_accepted, bare_status, is_active_status, refusal, status_coded, is_accepted_found, nothing, is_pending, count_of}
 use Rattle.chip_asm.specs.inner.Infos.{IsInfo, has_code, IsPlain, is_plain_line}
 use Rattle.chip_asm.specs.inner.KeptLine.{KeptLine}
-use Rattle.chip_asm.specs.inner.Layouts.{HasPassed, AreCodesNoted, final_placement, placements_of}
 use Rattle.chip_asm.specs.inner.Passes.{Change, HasRoom, IsHeld, IsSlot, IsTally, IsUnderWay, is_byte_of, placed_at, AreGapsZero, HasCode, IsCarried, IsChange, code_before, AreCoded, AreSettled, IsDone, IsEncodedUnder, IsHalfDone, again_up_to, stood, is_encoded_again}
-use Rattle.chip_asm.specs.inner.Placements.{Found, found, is_accepted, bare_status, is_active_status, refusal, status_coded, is_accepted_found, nothing, is_pending, count_of}
 use Rattle.chip_asm.specs.inner.Records.{reading_in, readings_in}
 use Rattle.chip_asm.specs.inner.Tables.{KeepsBefore, Tables, name_of, symbols_of}
 use Rattle.chip_asm.proofs.QuietLines.{info-here, found-plain, passed-plain, parts, plain-line}

@@ -11,7 +11,7 @@ use Rattle.std.proofs.lemmas.List.Sums.{sum_by-cons}
 use Rattle.std.proofs.lemmas.List.Elements.{filter_map-append}
 use Rattle.chip_asm.specs.Names.{Name}
 use Rattle.chip_asm.specs.declared.table.Symbol.{Symbol}
-use Rattle.chip_asm.specs.inner.Follows.{next_aligning}
+use Rattle.chip_asm.specs.inner.Placements.{next_aligning}
 use Rattle.chip_asm.proofs.BlockSteps.{reverse-cons}
 
 -- Lists of lines, and what is placed of them.

@@ -4,7 +4,7 @@ use Rattle.chip_lang.specs.Line.{Reading, reading_of}
 use Rattle.chip_asm.specs.declared.kept.Kept.{Kept}
 use Rattle.chip_asm.specs.inner.Kept.{IsKept}
 use Rattle.chip_asm.specs.inner.KeptLine.{KeptLine}
-use Rattle.chip_asm.specs.inner.Layouts.{IsLayoutOf}
+use Rattle.chip_asm.specs.inner.Placements.{IsLayoutOf}
 use Rattle.chip_asm.specs.Program.{names_of_lines, symbols_of}
 use Rattle.chip_asm.specs.inner.Records.{readings_in, texts_in}
 use Rattle.chip_asm.specs.Work.{needs_count, lines_to_encode, accepted_lines, accepted_of, needs, is_accepted_at}

@@ -23,8 +23,7 @@ use Rattle.chip_asm.specs.computed.Walk.{address, place, placed}
 use Rattle.chip_asm.specs.inner.Codes.{IsImageOf, IsWritten, covers_byte}
 use Rattle.chip_asm.specs.inner.Kept.{IsKept, lines_kept, texts_kept}
 use Rattle.chip_asm.specs.inner.KeptLine.{KeptLine}
-use Rattle.chip_asm.specs.inner.Layouts.{IsLayoutOf}
-use Rattle.chip_asm.specs.inner.Placements.{Found, count_of, fault_noted, found, is_accepted, is_accepted_found, nothing, refusal, status_coded}
+use Rattle.chip_asm.specs.inner.Placements.{IsLayoutOf, Found, count_of, fault_noted, found, is_accepted, is_accepted_found, nothing, refusal, status_coded}
 use Rattle.chip_asm.specs.inner.Records.{reading_in, readings_in, texts_in}
 use Rattle.chip_asm.proofs.Resumed.{end-high, length-laid}
 use Rattle.chip_asm.proofs.PassSteps.{covering}

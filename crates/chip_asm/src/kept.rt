@@ -7,10 +7,9 @@ ghost use Rattle.chip_asm.specs.Work.{needs_count};
 ghost use Rattle.chip_lang.specs.declared.limits.TheConstants.{IMAGE_BYTES};
 ghost use Rattle.chip_asm.specs.Names.{Name};
 ghost use Rattle.chip_asm.specs.inner.Infos.{AreAlike, AreInfos, AreInfosOf, IsInfo};
-ghost use Rattle.chip_asm.specs.inner.Layouts.{IsCounted};
+ghost use Rattle.chip_asm.specs.inner.Placements.{IsCounted, nothing};
 ghost use Rattle.chip_asm.specs.inner.Kept.{HasRoomFor, IsAssembled, IsExchanged, IsKept, MayEdit, lines_kept, needed_by, texts_kept};
 ghost use Rattle.chip_asm.specs.inner.Passes.{Change, IsUnderWay, count_again};
-ghost use Rattle.chip_asm.specs.inner.Placements.{nothing};
 ghost use Rattle.chip_asm.specs.inner.Records.{IsPlaceWithin, count_after, items_after, lines_after, reading_in, readings_in, texts_in};
 
 use crate::assemble::{encode_lines, steady_lines, walk};

@@ -4,9 +4,8 @@ use Rattle.chip_asm.specs.Layout.{Placed}
 use Rattle.chip_asm.specs.computed.Walk.{place, placed}
 use Rattle.chip_asm.specs.declared.pass.Pass.{Pass}
 use Rattle.chip_asm.specs.declared.placement.Placement.{Placement}
-use Rattle.chip_asm.specs.inner.Follows.{placement_of}
+use Rattle.chip_asm.specs.inner.Placements.{placement_of, Found, bare_status, found, is_accepted, nothing}
 use Rattle.chip_asm.specs.inner.Infos.{IsPlain}
-use Rattle.chip_asm.specs.inner.Placements.{Found, bare_status, found, is_accepted, nothing}
 use Rattle.chip_asm.specs.inner.Records.{reading_in}
 use Rattle.chip_asm.proofs.QuietLines.{number-within, passed-plain}
 use Rattle.chip_asm.proofs.Resumed.{end-low}
