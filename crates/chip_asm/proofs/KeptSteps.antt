@@ -7,9 +7,9 @@ use Rattle.chip_asm.specs.inner.Infos.{AreAlike, AreInfos, IsInfo, AreSteady, is
 use Rattle.chip_asm.specs.Layout.{Placed, body_of, is_if}
 use Rattle.chip_asm.specs.computed.Walk.{place, placed, address, symbols}
 use Rattle.chip_asm.proofs.BlockSteps.{reverse-cons}
-use Rattle.chip_asm.proofs.Resumed.{passes, stands-here, Begun, begun, begun-symbols, same-placed, steady-at, end-high, AllSteady, first-laid, length-laid}
-use Rattle.chip_asm.proofs.Placing.{onto, fold-append, length-placed}
-use Rattle.chip_asm.proofs.QuietLines.{Same, parts, with_line, place-swapped, place-same, same-cons, same-swapped, Quiet, quiet-old, quiet-new}
+use Rattle.chip_asm.proofs.Resumed.{passes, Begun, begun, begun-symbols, same-placed, steady-at, end-high, AllSteady, first-laid, length-laid}
+use Rattle.chip_asm.proofs.Placing.{onto, fold-append, length-placed, parts}
+use Rattle.chip_asm.proofs.QuietLines.{Same, with_line, place-swapped, place-same, same-cons, same-swapped, Quiet, quiet-old, quiet-new}
 use Rattle.std.specs.Option.{option_map_or}
 use Rattle.std.proofs.lemmas.Bool.Decides.{nat_tests}
 use Rattle.chip_asm.specs.inner.Placements.{placements_of, final_placement, IsLayoutOf, IsCounted, first_placements, AreCodesNoted, count_of, found, Found, is_accepted, is_accepted_found, nothing, status_coded, placement_of}
@@ -66,7 +66,7 @@ later xs ys [] low s h = record { later = []; of_first = refl; of_second = refl;
 later xs ys (line ∷ lines) low s h =
     let p : Placed = place xs line in
     let past = passes xs line in
-    let here = stands-here xs line in
+    let here = (parts xs line).here in
     let r : Later (place xs line ∷ xs) (place xs line ∷ ys) lines low = later (place xs line ∷ xs) (place xs line ∷ ys) lines low (same-cons (place xs line) xs ys s) (omega arith) in
     record {
       later = r.later ++ place xs line ∷ [];

@@ -7,8 +7,8 @@ use Rattle.chip_lang.specs.Line.{Reading, bad, read}
 use Rattle.chip_asm.specs.Layout.{Placed, body_of, symbol_of, symbol_given, value_given, takes_effect, is_redefinition}
 use Rattle.chip_asm.specs.computed.Walk.{place, placed, address, is_active, first_fault, symbols, is_misplaced}
 use Rattle.chip_asm.specs.Program.{covers}
-use Rattle.chip_asm.proofs.Resumed.{passes, stands-here, no_fault, none_from}
-use Rattle.chip_asm.proofs.Placing.{onto, symbols-cons}
+use Rattle.chip_asm.proofs.Resumed.{passes, no_fault, none_from}
+use Rattle.chip_asm.proofs.Placing.{onto, symbols-cons, parts, line-at}
 use Rattle.std.specs.List.{list_any, IsDistinct}
 use Rattle.std.specs.Str.{bytes_eq}
 use Rattle.std.specs.Bool.{one_answer}
@@ -56,7 +56,7 @@ few-by at p before false e here a = rw e a.few
 next-apart : (at : ℕ) (before : List Placed) (line : Reading) → Apart at before → Apart at (place before line ∷ before)
 next-apart at before line a =
     let past = passes before line in
-    let here = stands-here before line in
+    let here = (parts before line).here in
     record {
       ends = (past, end-later (address before) (address (place before line ∷ before)) before (omega arith) a.ends);
       few = few-by at (place before line) before (covers at (place before line)) refl here a;
@@ -119,10 +119,6 @@ accepted-new : (before : List Placed) (line : Reading) → takes_effect (place b
 unfolding place
 accepted-new before line e = active-new before line (is_active before (body_of line)) e
 
-same-line : (before : List Placed) (line : Reading) → (place before line).line ≡ line
-unfolding place
-same-line before line = refl
-
 same-bytes : IsEquivalence bytes_eq
 same-bytes = record {
   refl = λ x. (bytes_eq-Decides x x).1 refl;
@@ -151,7 +147,7 @@ given-new : (before : List Placed) (line : Reading) (accepted : Bool) → takes_
     → list_any (bytes_eq e.0) (names_in (symbols before)) ≡ false
 given-new before line true a e h =
     given-name (symbols before) (name_defined (place before line).line) (record { value = value_given (place before line).here (place before line).value (body_of (place before line).line); line = (place before line).number })
-    (rw (same-line before line) (accepted-new before line a)) e h
+    (rw (line-at before line) (accepted-new before line a)) e h
 given-new before line false a e h = cc
 
 next-differ : (before : List Placed) (line : Reading) → Differ (symbols before) → Differ (symbols (place before line ∷ before))

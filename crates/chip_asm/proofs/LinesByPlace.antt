@@ -29,8 +29,7 @@ use Rattle.chip_asm.specs.inner.Placements.{IsLayoutOf, placements_of, final_pla
 use Rattle.chip_asm.specs.Work.{is_accepted_at, is_accepted_in}
 use Rattle.chip_asm.proofs.Resumed.{IsWithinMemory, within-memory, next-placed, length-laid, same-placed, none_from}
 use Rattle.chip_asm.proofs.LinesApart.{ends-by, one-covers, turned}
-use Rattle.chip_asm.proofs.Placing.{length-numbered, line-at, placed-push}
-use Rattle.chip_asm.proofs.QuietLines.{Parts, parts}
+use Rattle.chip_asm.proofs.Placing.{length-numbered, line-at, placed-push, Parts, parts}
 use Rattle.chip_asm.proofs.PlacesAgree.{number-at, enclosing-all, open-at, opens_at, past-end}
 use Rattle.chip_asm.specs.declared.placement.Status.TheVariants.{Pending}
 use Rattle.chip_asm.specs.declared.block.Block.{Block}

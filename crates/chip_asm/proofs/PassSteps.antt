@@ -19,12 +19,12 @@ use Rattle.chip_asm.specs.inner.KeptLine.{KeptLine}
 use Rattle.chip_asm.specs.inner.Passes.{Change, HasRoom, IsHeld, IsSlot, IsTally, IsUnderWay, is_byte_of, placed_at, AreGapsZero, HasCode, IsCarried, IsChange, code_before, AreCoded, AreSettled, IsDone, IsEncodedUnder, IsHalfDone, again_up_to, stood, is_encoded_again}
 use Rattle.chip_asm.specs.inner.Records.{reading_in, readings_in}
 use Rattle.chip_asm.specs.inner.Tables.{KeepsBefore, Tables, name_of, symbols_of}
-use Rattle.chip_asm.proofs.QuietLines.{info-here, found-plain, passed-plain, parts, plain-line}
+use Rattle.chip_asm.proofs.QuietLines.{info-here, found-plain, passed-plain, plain-line}
 use Rattle.chip_asm.proofs.Resumed.{IsWithinMemory, next-placed, end-high, Resumes, resumes, none_from, steady-readings}
 use Rattle.chip_asm.proofs.LinesByPlace.{around, covered, inserted, no-code, same-bytes, one-more, take-next, set-here, set-other, is-marked, marked-placements, AtPlace, apart, at-line, at-place-of, bytes-fit, high, low, accepted-at, accepted-effect, byte-line, byte-outside, covers-accepted, ends-before, count-numbered, count_by-take}
 use Rattle.chip_asm.proofs.KeptValues.{KeepsValue, SameValue, value-kept}
 use Rattle.chip_asm.proofs.LinesAfter.{line-at, read-at}
-use Rattle.chip_asm.proofs.Placing.{line-at as placed-line, length-numbered}
+use Rattle.chip_asm.proofs.Placing.{line-at as placed-line, length-numbered, parts}
 use Rattle.std.proofs.lemmas.Bool.{and_parts, cases_lt, leb-true, ltb-true, false≢true, and_cases, and_left, and_right, cases_eq, false_from_ne_true, not-false, or_parts}
 use Rattle.std.proofs.lemmas.Bool.Decides.{nat_tests}
 use Rattle.chip_lang.specs.declared.fault.Fault.{Fault}

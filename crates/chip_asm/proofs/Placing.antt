@@ -1,9 +1,9 @@
 -- Lists of lines, what is placed of them, and what one line more does.
-use Rattle.std.proofs.Common.{◌≡◌, ◌+◌, List, [], ◌∷◌, ◌++◌, length, reverse, fold, refl, ap, ◌∙◌, arith, option_map, ℕ, suc, Bool, true, false, cond, not, ◌&&◌, ◌||◌, take, Option, Some, None, option_to_list, filter_map, find, unsigned_abs}
+use Rattle.std.proofs.Common.{◌≡◌, ◌+◌, List, [], ◌∷◌, ◌++◌, length, reverse, fold, refl, ap, ◌∙◌, arith, option_map, ℕ, suc, Bool, true, false, cond, not, ◌&&◌, ◌||◌, take, Option, Some, None, option_to_list, filter_map, find, unsigned_abs, if◌then◌else◌}
 use Rattle.std.proofs.lemmas.List.{length-reverse}
 use Rattle.chip_lang.specs.Line.{Reading, Body, align}
-use Rattle.chip_asm.specs.Layout.{Placed, first_of, is_end_body, body_of, takes_effect, is_origin, is_align, is_align_body, is_align_off_body, has_ended, symbol_of}
-use Rattle.chip_asm.specs.computed.Walk.{place, placed, address, is_aligning, symbols}
+use Rattle.chip_asm.specs.Layout.{Placed, first_of, is_end_body, body_of, takes_effect, is_origin, is_align, is_align_body, is_align_off_body, has_ended, symbol_of, condition_of, value_at, value_or_zero, full_size}
+use Rattle.chip_asm.specs.computed.Walk.{place, placed, address, is_aligning, symbols, is_active, first_fault, enclosing}
 use Rattle.chip_asm.proofs.OpenBlocks.{enclosing-open, IsNumbered}
 use Rattle.std.specs.List.{list_any, prefix_len}
 use Rattle.std.specs.Option.{option_map_or}
@@ -18,6 +18,22 @@ use Rattle.chip_asm.proofs.BlockSteps.{reverse-cons}
 
 abbrev pub onto : List Placed → Reading → List Placed
 onto before line = place before line ∷ before
+
+-- a line's parts, of the line itself
+pub record Parts (before : List Placed) (line : Reading) : Type 0 where
+  pub number : (place before line).number ≡ length before + 1
+  pub block : (place before line).block ≡ option_map (λ o. o.number) (first_of (enclosing before))
+  pub condition : (place before line).condition ≡ condition_of (symbols before) (body_of line)
+  pub active : (place before line).active ≡ is_active before (body_of line)
+  pub here : (place before line).here ≡ address before
+  pub value : (place before line).value ≡ value_or_zero (value_at (symbols before) (body_of line))
+  pub fault : (place before line).fault ≡ (if (place before line).active then first_fault before line else None)
+  pub size : (place before line).size ≡ (if takes_effect (place before line) then full_size (is_aligning before) (place before line).here (body_of line) (place before line).value else 0)
+  pub line_is : (place before line).line ≡ line
+
+pub parts : (before : List Placed) (line : Reading) → Parts before line
+unfolding place
+parts before line = record { number = refl; block = refl; condition = refl; active = refl; here = refl; value = refl; fault = refl; size = refl; line_is = refl }
 
 pub line-at : (before : List Placed) (line : Reading) → (place before line).line ≡ line
 unfolding place

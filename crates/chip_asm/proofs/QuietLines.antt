@@ -16,7 +16,7 @@ use Rattle.chip_asm.specs.inner.Placements.{next_aligning, Follows, placement_of
 use Rattle.chip_asm.specs.Layout.{Placed, body_of, is_if_body, is_else_body, is_endif_body, is_end_body, is_org_body, is_if, is_else, is_endif, takes_effect, is_origin, symbol_of, value_given, condition_of, value_at, value_or_zero, full_size, is_redefinition, has_ended, has_else, holds, first_of, symbol_given}
 use Rattle.chip_asm.specs.computed.Walk.{place, first_fault, fault_of_value, is_misplaced, is_active, enclosing, symbols, address, is_aligning, placed}
 use Rattle.chip_asm.proofs.OpenBlocks.{open_blocks, enclosing-open}
-use Rattle.chip_asm.proofs.Placing.{address-cons, aligning-cons, has_ended-cons, symbols-cons}
+use Rattle.chip_asm.proofs.Placing.{address-cons, aligning-cons, has_ended-cons, symbols-cons, parts}
 use Rattle.chip_asm.specs.declared.pass.Pass.{Pass}
 use Rattle.chip_asm.specs.declared.table.NameId.{NameId}
 use Rattle.chip_asm.specs.inner.KeptLine.{KeptLine}
@@ -68,22 +68,6 @@ pub place-at : (before : List Placed) (line : Reading) (number : ℕ) (block : O
     → (let made : Placed = record { number = number; line = line; block = block; condition = condition; active = active; here = here; value = value; fault = fault; size = size } in made ≡ place before line)
 unfolding place
 place-at before line number block condition active here value fault size n b c l h v f s = rw (s, f, v, h, l, c, b, n) refl
-
--- a line's parts, of the line itself
-pub record Parts (before : List Placed) (line : Reading) : Type 0 where
-  pub number : (place before line).number ≡ length before + 1
-  pub block : (place before line).block ≡ option_map (λ o. o.number) (first_of (enclosing before))
-  pub condition : (place before line).condition ≡ condition_of (symbols before) (body_of line)
-  pub active : (place before line).active ≡ is_active before (body_of line)
-  pub here : (place before line).here ≡ address before
-  pub value : (place before line).value ≡ value_or_zero (value_at (symbols before) (body_of line))
-  pub fault : (place before line).fault ≡ (if (place before line).active then first_fault before line else None)
-  pub size : (place before line).size ≡ (if takes_effect (place before line) then full_size (is_aligning before) (place before line).here (body_of line) (place before line).value else 0)
-  pub line_is : (place before line).line ≡ line
-
-pub parts : (before : List Placed) (line : Reading) → Parts before line
-unfolding place
-parts before line = record { number = refl; block = refl; condition = refl; active = refl; here = refl; value = refl; fault = refl; size = refl; line_is = refl }
 
 -- the same line with another text
 abbrev pub with_line : Placed → Reading → Placed

@@ -11,7 +11,7 @@ use Rattle.chip_asm.specs.inner.Blocks.{AreNested, moved, turn_first, close_firs
 use Rattle.chip_asm.proofs.BlockSteps.{reverse-cons, list_all-reverse}
 use Rattle.chip_asm.proofs.PlacesAgree.{at-end}
 use Rattle.chip_asm.proofs.OpenBlocks.{IsNumbered, blocks-cons, open_blocks, rest_of, enclosing-open}
-use Rattle.chip_asm.proofs.Placing.{has_ended-cons, address-cons, aligning-cons, symbols-cons, onto, line-at, numbered-place, placed-push, numbered-next, length-placed, fold-append, numbered, length-numbered}
+use Rattle.chip_asm.proofs.Placing.{has_ended-cons, address-cons, aligning-cons, symbols-cons, onto, line-at, numbered-place, placed-push, numbered-next, length-placed, fold-append, numbered, length-numbered, parts}
 use Rattle.chip_lang.specs.declared.fault.Fault.{Fault}
 use Rattle.chip_asm.specs.declared.pass.Pass.{Pass}
 use Rattle.std.proofs.Math.Seq.{take-append_seam, get_or-append_seam}
@@ -74,10 +74,6 @@ or_false : (a b : Bool) → (a || b) ≡ false → b ≡ false
 or_false true b e = cc
 or_false false b e = e
 
-place-active : (before : List Placed) (line : Reading) → (place before line).active ≡ is_active before (body_of line)
-unfolding place
-place-active before line = refl
-
 nests-place : (before : List Placed) (line : Reading) → IsNumbered before → Nests before → Nests (place before line ∷ before)
 nests-place before line numbered n yet =
     let p = place before line in
@@ -85,7 +81,7 @@ nests-place before line numbered n yet =
     let no_end : has_ended before ≡ false = or_false _ (has_ended before) (sym (has_ended-cons p before) ∙ yet) in
     let opened : Block = record { number = p.number; active = p.active; holds = p.condition; has_else = false } in
     let active : is_if_body (body_of p.line) ≡ true → opened.active ≡ list_all (λ (o : Block). o.holds) bs =
-    λ e. place-active before line ∙ active-if before (body_of line) (ap (λ l. is_if_body (body_of l)) (sym (line-at before line)) ∙ e) no_end in
+    λ e. (parts before line).active ∙ active-if before (body_of line) (ap (λ l. is_if_body (body_of l)) (sym (line-at before line)) ∙ e) no_end in
     subst AreNested (sym (blocks-cons p before (numbered-place before line numbered))) (nested-moved (body_of p.line) opened bs active (n no_end))
 
 nests-fold : (before : List Placed) (lines : List Reading) → IsNumbered before → Nests before → Nests (fold onto before lines)
@@ -148,14 +144,6 @@ pub record Advances (pass next : Pass) (line : Reading) (q : Found) (number : �
   pub active : (nearest : List Block) → next.blocks.items ≡ reverse nearest → (next.ended ≡ false → AreNested nearest)
       → next.active ≡ (not next.ended && list_all (λ b. b.holds) next.blocks.items)
 
-number-at : (before : List Placed) (line : Reading) → (place before line).number ≡ length before + 1
-unfolding place
-number-at before line = refl
-
-here-at : (before : List Placed) (line : Reading) → (place before line).here ≡ address before
-unfolding place
-here-at before line = refl
-
 condition-at : (before : List Placed) (line : Reading) → (place before line).condition ≡ condition_of (symbols before) (body_of (place before line).line)
 unfolding place
 condition-at before line = refl
@@ -192,8 +180,8 @@ follows-push pass next lines line number q n f e a =
     let here : Advances pass next (place (placed lines) line).line (placement_of (place (placed lines) line)) number
     = subst (λ (l : Reading). Advances pass next l (placement_of (place (placed lines) line)) number) (sym (line-at (placed lines) line)) found in
     rw placed-push
-    (follows-next pass next (placed lines) (place (placed lines) line) number (numbered-next lines line) (subst Nests (placed-push lines line) (nested-placed (lines ++ line ∷ []))) (here-at (placed lines) line) (condition-at (placed lines) line)
-    (n ∙ ap (λ k. k + 1) (sym (length-placed lines)) ∙ sym (number-at (placed lines) line)) f here)
+    (follows-next pass next (placed lines) (place (placed lines) line) number (numbered-next lines line) (subst Nests (placed-push lines line) (nested-placed (lines ++ line ∷ []))) (parts (placed lines) line).here (condition-at (placed lines) line)
+    (n ∙ ap (λ k. k + 1) (sym (length-placed lines)) ∙ sym (parts (placed lines) line).number) f here)
 
 pub none_from : (o : Option Fault) → is_none o ≡ true → o ≡ None
 none_from None h = refl
@@ -219,14 +207,6 @@ record Begins (before all : List Placed) : Type 0 where
   is : reverse all ≡ reverse before ++ rest
   later : Above (length before) rest
 
-number-next : (before : List Placed) (line : Reading) → (place before line).number ≡ length before + 1
-unfolding place
-number-next before line = refl
-
-line-next : (before : List Placed) (line : Reading) → (place before line).line ≡ line
-unfolding place
-line-next before line = refl
-
 begins-fold : (before : List Placed) (lines : List Reading) → Begins before (fold onto before lines)
 begins-fold before [] = record { rest = []; is = sym (append-nil (reverse before)); later = All-nil (λ p. length before < p.number) }
 begins-fold before (line ∷ lines) =
@@ -236,7 +216,7 @@ begins-fold before (line ∷ lines) =
     record {
       rest = place before line ∷ b.rest;
       is = b.is ∙ ap (λ xs. xs ++ b.rest) (reverse-cons (place before line) before) ∙ append_assoc (reverse before) (place before line ∷ []) b.rest;
-      later = All-cons (P (length before)) (place before line) b.rest (omega (arith, number-next before line)) (All-weaker (P (length (onto before line))) (P (length before)) weaker b.rest b.later);
+      later = All-cons (P (length before)) (place before line) b.rest (omega (arith, (parts before line).number)) (All-weaker (P (length (onto before line))) (P (length before)) weaker b.rest b.later);
     }
 
 begins-append : (xs ys : List Reading) → Begins (placed xs) (placed (xs ++ ys))
@@ -278,7 +258,7 @@ AllSteady lines = All (λ line. is_steady (body_of line) ≡ true) lines
 steady-fold : (before : List Placed) (lines : List Reading) → AreSteadyLines before → AllSteady lines → AreSteadyLines (fold onto before lines)
 steady-fold before [] s h = s
 steady-fold before (line ∷ lines) s h =
-    steady-fold (onto before line) lines (rw line-next (steady-body (body_of line) (All-head (λ (l : Reading). is_steady (body_of l) ≡ true) line lines h)), s)
+    steady-fold (onto before line) lines (rw line-at (steady-body (body_of line) (All-head (λ (l : Reading). is_steady (body_of l) ≡ true) line lines h)), s)
     (All-tail (λ (l : Reading). is_steady (body_of l) ≡ true) line lines h)
 
 steady-placed : (lines : List Reading) → AllSteady lines → AreSteadyLines (placed lines)
@@ -552,9 +532,6 @@ after-accepted before p false e s =
 -- what follows a line stands past its end
 pub passes : (before : List Placed) (line : Reading) → (place before line).here + (place before line).size ≤ address (place before line ∷ before)
 passes before line = after-accepted before (place before line) (takes_effect (place before line)) refl (stands before line)
-
-pub stands-here : (before : List Placed) (line : Reading) → (place before line).here ≡ address before
-stands-here before line = (stands before line).here
 
 no_lines : Room []
 unfolding address
