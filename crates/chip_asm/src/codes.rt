@@ -79,6 +79,7 @@ pub(crate) fn write_line(
 }
 
 /// Puts some items in the stead of those from a place on.
+#[inline(never)]
 pub(crate) fn copy_to<T: Copy>(all: &mut [T], at: usize, items: &[T])
     requires { at + length items.now ≤ length all.old }
     ensures { all.new ≡ take at all.old ++ (items.now ++ drop (at + length items.now) all.old) }

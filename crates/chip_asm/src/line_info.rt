@@ -1,5 +1,5 @@
 //! What is kept of a line beside its reading, for steps over all lines.
-ghost use Rattle.std.specs.Prelude.{◌≡◌, ◌++◌, ◌-◌, ◌<◌, ◌≤◌, ◌^◌, List, IfOk, IfSome, OnOk, true};
+ghost use Rattle.std.specs.Prelude.{◌≡◌, ◌+◌, ◌++◌, ◌-◌, ◌<◌, ◌≤◌, ◌^◌, ◌%◌, ◌&&◌, if◌then◌else◌, nat_eq, List, IfOk, IfSome, OnOk, true};
 ghost use Rattle.chip_lang.specs.Line.{Reading};
 ghost use Rattle.chip_lang.specs.SeenLine.{seen_body, seen_line};
 ghost use Rattle.chip_lang.specs.Uses.{name_defined, names_used};
@@ -193,6 +193,21 @@ fn uses_of(alloc: Global, table: &mut Table, line: &Line) -> Result<(Uses, Vec<N
     Ok((Uses::Several, numbers))
 }
 
+/// The size of padded data at an address. It is a function of its own so that the addresses of other
+/// lines don't wait for it.
+#[inline(never)]
+fn padded_size(size: usize, aligning: bool, here: usize) -> usize
+    requires here { here ≤ MEMORY_BYTES }
+    requires size { size < 2 ^ 16 }
+    ensures { result ≡ size + (if aligning && nat_eq ((here + size) % 2) 1 then 1 else 0) }
+{
+    if aligning && (here + size) % 2 == 1 {
+        size + 1
+    } else {
+        size
+    }
+}
+
 /// Whether two names, or none, have the same number.
 fn is_same_name(one: Option<NameId>, other: Option<NameId>) -> bool
     ensures { result ≡ true → one ≡ other }
@@ -267,8 +282,10 @@ impl LineInfo {
             return Some((0, None));
         }
         let size = size as usize;
-        let is_odd = self.is_padded && aligning && (here + size) % 2 == 1;
-        Some((if is_odd { size + 1 } else { size }, self.defines))
+        if self.is_padded {
+            return Some((padded_size(size, aligning, here), self.defines));
+        }
+        Some((size, self.defines))
     }
 
     /// Whether two lines give the same name, take the same space, and the first pass asks nothing
