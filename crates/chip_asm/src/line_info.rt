@@ -195,6 +195,7 @@ fn uses_of(alloc: Global, table: &mut Table, line: &Line) -> Result<(Uses, Vec<N
 
 /// The size of padded data at an address. It is a function of its own so that the addresses of other
 /// lines don't wait for it.
+#[cold]
 #[inline(never)]
 fn padded_size(size: usize, aligning: bool, here: usize) -> usize
     requires here { here ≤ MEMORY_BYTES }
@@ -271,9 +272,10 @@ impl LineInfo {
         here: usize,
     ) -> Option<(usize, Option<NameId>)>
         requires { here ≤ MEMORY_BYTES }
-        ensures { (keys : List Name) (several : List NameId) (line : Reading)
+        ensures is { (keys : List Name) (several : List NameId) (line : Reading)
             → IsInfo keys self several line
             → IfSome result (λ made. IsPlain keys active aligning here line made.0 made.1) }
+        ensures small { IfSome result (λ made. made.0 ≤ 2 ^ 16) }
     {
         let Some(size) = self.size else {
             return None;

@@ -15,7 +15,7 @@ ghost use Rattle.chip_asm.specs.declared.limits.TheConstants.{MOST_LINES};
 ghost use Rattle.chip_lang.specs.declared.limits.TheConstants.{MEMORY_BYTES};
 
 use crate::block::{Block, all_hold, move_blocks};
-use crate::codes::copy_code;
+use crate::codes::{copy_code, move_line};
 use crate::kept_line::BoxedLine;
 use crate::layout::Tally;
 use crate::line_info::{is_data, size_of_body};
@@ -320,9 +320,9 @@ impl Pass {
     }
 
     /// Goes on by the lines from a place on, and notes what holds of them, up to the first one of
-    /// which more is asked than its size and its name, or which has a fault. A line that was accepted and still is takes its code along from the
-    /// image before; another one that is accepted waits for its code. The place behind the last of
-    /// them.
+    /// which more is asked than its size and its name, or which has a fault. A line that was accepted
+    /// and still is takes its code along from the image before; another one that is accepted waits
+    /// for its code. The place behind the last of them.
     #[inline(never)]
     pub(crate) fn run(
         &mut self,
@@ -376,7 +376,8 @@ impl Pass {
             let Some((size, defines)) = info.plain(active, self.aligning, here) else {
                 break;
             };
-            if size > MEMORY_BYTES - here {
+            let next = here + size;
+            if next > MEMORY_BYTES {
                 break;
             }
             let symbol = Symbol {
@@ -389,9 +390,7 @@ impl Pass {
             let was = placements[place];
             if active && was.status.is_accepted() {
                 let now = &mut placements[place];
-                now.here = here as u16;
-                now.size = size as u16;
-                copy_code(&was, now, from, image);
+                move_line(now, here, size, from, image);
             } else {
                 let new = Placement {
                     value: 0,
@@ -401,7 +400,7 @@ impl Pass {
                 };
                 tally.put(placements, place, new);
             }
-            here += size;
+            here = next;
             place += 1;
         }
         self.here = here;

@@ -4,6 +4,7 @@ use Rattle.chip_asm.specs.Layout.{Placed}
 use Rattle.chip_asm.specs.computed.Walk.{place, placed}
 use Rattle.chip_asm.specs.declared.pass.Pass.{Pass}
 use Rattle.chip_asm.specs.declared.placement.Placement.{Placement}
+use Rattle.chip_asm.specs.inner.Codes.{IsCopied}
 use Rattle.chip_asm.specs.inner.Placements.{placement_of, Found, bare_status, found, is_accepted, nothing}
 use Rattle.chip_asm.specs.inner.Infos.{IsPlain}
 use Rattle.chip_asm.specs.inner.Records.{reading_in}
@@ -11,7 +12,7 @@ use Rattle.chip_asm.proofs.QuietLines.{number-within, passed-plain}
 use Rattle.chip_asm.proofs.Resumed.{end-low}
 use Rattle.chip_asm.proofs.LinesByPlace.{high, low, tally-same}
 use Rattle.chip_asm.proofs.PassSteps.{Copied, plain-held, plain-stood, copied, copied-held, copy-room, facing, noted-plain, passed-on, steps-plain, stood-there, zeros-next}
-use Rattle.chip_asm.proofs.pass.Pass.run_as.Goals.{else-active, else-active-via-else-active, else-active-via-then-active+else-is_accepted, else-loop-place-test, then-active+then-is_accepted, then-loop-place-test+in-Some+else-size-here+then-not-define_new, then-loop-place-test+in-Some+then-size-here, then-loop-place-test+in_default}
+use Rattle.chip_asm.proofs.pass.Pass.run_as.Goals.{else-active, else-active-via-else-active, else-active-via-then-active+else-is_accepted, else-loop-place-test, then-active+then-is_accepted, then-loop-place-test+in-Some+else-next-gt-MEMORY_BYTES+then-not-define_new, then-loop-place-test+in-Some+then-next-gt-MEMORY_BYTES, then-loop-place-test+in_default}
 use Rattle.chip_asm.proofs.pass.Pass.run_as.Goals as goal
 
 negated : (a b : Bool) → a ≡ not b → a ≡ true → b ≡ false
@@ -27,7 +28,7 @@ define_new-requires-clause-within c =
     let kept = c.index-lines-place.result in
     let u = l.invariant.under_way l.invariant.high c.requires.under_way.0 c.requires.under_way.1 in
     let f = facing c.requires.under_way.0 _ _ _ _ _ _ _ kept u c.loop-place-test.true c.index-lines-place.is in
-    number-within l.self.names.keys c.in-Some.defines _ (c.in-Some.ensures l.self.names.keys kept.several (reading_in kept) (rw c.info-info.ensures f.info)).named
+    number-within l.self.names.keys c.in-Some.defines _ (c.in-Some.ensures.is l.self.names.keys kept.several (reading_in kept) (rw c.info-info.ensures f.info)).named
 
 pub define_new-requires-clause-room : goal.define_new-requires-clause-room
 define_new-requires-clause-room c =
@@ -35,26 +36,37 @@ define_new-requires-clause-room c =
     let u = i.under_way i.high c.requires.under_way.0 c.requires.under_way.1 in
     omega (arith, u.room.names, c.loop-place-test.true)
 
-pub overflow_sub-here : goal.overflow_sub-here
-overflow_sub-here c =
-    let i = c.loop-place.invariant in
-    let u = i.under_way i.high c.requires.under_way.0 c.requires.under_way.1 in
-    omega (arith, u.walked.follows.at_address, end-low (take c.loop-place.place c.requires.under_way.0.now))
-
-pub copy_code-requires : goal.copy_code-requires
-copy_code-requires c =
+pub move_line-requires-clause-was_low : goal.move_line-requires-clause-was_low
+move_line-requires-clause-was_low c =
     let e = c.requires.under_way.0 in
     let l = c.loop-place in
     let kept = c.index-lines-place.result in
     let u = l.invariant.under_way l.invariant.high e c.requires.under_way.1 in
     let f = facing e _ _ _ _ _ _ _ kept u c.loop-place-test.true c.index-lines-place.is in
     let s = stood-there e _ l.place (reading_in kept) _ u.change f.line (f.slot nothing) (sym c.is_accepted.ensures ∙ c.if-is_accepted.true) in
-    record {
-      was_low = low e.was s.before _ s.at;
-      was_high = omega (arith, high e.was s.before _ s.at, u.from_long);
-      low = omega (arith, u.walked.follows.at_address, end-low (take l.place e.now));
-      high = omega (arith, l.invariant.high, c.if-size-here.false, u.image_long);
-    }
+    low e.was s.before _ s.at
+
+pub move_line-requires-clause-was_high : goal.move_line-requires-clause-was_high
+move_line-requires-clause-was_high c =
+    let e = c.requires.under_way.0 in
+    let l = c.loop-place in
+    let kept = c.index-lines-place.result in
+    let u = l.invariant.under_way l.invariant.high e c.requires.under_way.1 in
+    let f = facing e _ _ _ _ _ _ _ kept u c.loop-place-test.true c.index-lines-place.is in
+    let s = stood-there e _ l.place (reading_in kept) _ u.change f.line (f.slot nothing) (sym c.is_accepted.ensures ∙ c.if-is_accepted.true) in
+    omega (arith, high e.was s.before _ s.at, u.from_long)
+
+pub move_line-requires-clause-low : goal.move_line-requires-clause-low
+move_line-requires-clause-low c =
+    let i = c.loop-place.invariant in
+    let u = i.under_way i.high c.requires.under_way.0 c.requires.under_way.1 in
+    omega (arith, u.walked.follows.at_address, end-low (take c.loop-place.place c.requires.under_way.0.now))
+
+pub move_line-requires-clause-high : goal.move_line-requires-clause-high
+move_line-requires-clause-high c = omega (arith, c.loop-place.invariant.high, c.if-next-gt-MEMORY_BYTES.false)
+
+pub move_line-requires-clause-whole : goal.move_line-requires-clause-whole
+move_line-requires-clause-whole c = (let i = c.loop-place.invariant in (i.under_way i.high c.requires.under_way.0 c.requires.under_way.1).image_long)
 
 pub put-requires-clause-tally : goal.put-requires-clause-tally
 put-requires-clause-tally c = (let i = c.loop-place.invariant in (i.under_way i.high c.requires.under_way.0 c.requires.under_way.1).tallied)
@@ -68,7 +80,7 @@ loop-place-preserved c =
     let size = c.in-Some.size in
     let from = c.args.from.now in
     record {
-      high = omega (arith, i.high, c.if-size-here.false);
+      high = omega (arith, i.high, c.if-next-gt-MEMORY_BYTES.false);
       after = omega (arith, i.after);
       within = omega (arith, c.loop-place-test.true);
       same = i.same;
@@ -78,7 +90,7 @@ loop-place-preserved c =
           let f = facing e c.args.lines.now pass l.placements l.tally from l.image l.place kept u c.loop-place-test.true c.index-lines-place.is in
           let x : Placed = place (placed (take l.place e.now)) (reading_in kept) in
           let info = c.info-info.ensures in
-          let bare : IsPlain keys c.args.active l.self.aligning l.here (reading_in kept) size c.in-Some.defines = c.in-Some.ensures keys kept.several (reading_in kept) (rw c.info-info.ensures f.info) in
+          let bare : IsPlain keys c.args.active l.self.aligning l.here (reading_in kept) size c.in-Some.defines = c.in-Some.ensures.is keys kept.several (reading_in kept) (rw c.info-info.ensures f.info) in
           let cast : to_z w32 l.here ≡ pos l.here = (let h = i.high in grind arith) in
           let new = negated c.define_new.result _ c.define_new.ensures.new c.if-not-define_new.false in
           let given = c.define_new.ensures.symbols c.if-not-define_new.false ∙ (rw cast refl) in
@@ -94,11 +106,12 @@ loop-place-preserved c =
                 (let taken = sym w.is_accepted.ensures ∙ w.if-is_accepted.true in
                 let active : true ≡ c.args.active = sym w.if-active.true in
                 let is_now : found now ≡ placement_of x = ap (λ (r : Found). record r { here = l.here; size = size }) (plain-stood e pass l.placements from l.place kept x u.change f taken bare.plain) ∙ (rw active is) in
-                let image = copied q now from l.image w.copy_code.new.image w.copy_code.ensures (copy-room e c.args.lines.now pass l.placements l.tally from l.image l.place kept x now nothing u f taken is_now) in
-                let there : Copied q (placement_of x) from l.image w.copy_code.new.image = subst (λ r. Copied q r from l.image w.copy_code.new.image) is_now image in
-                rw (w.placements-is, w.tally-is, w.image-is)
-                (passed-on e c.args.lines.now pass next l.placements _ l.tally l.tally from l.image w.copy_code.new.image l.place kept now u c.loop-place-test.true f s refl is_now
-                (tally-same l.placements l.tally l.place now nothing u.tallied f.inside_was refl) w.copy_code.auto.image there.off (λ effect. copied-held e pass l.placements from l.image w.copy_code.new.image l.place kept x f u.change taken there zeros)))
+                let put : w.move_line.new.line ≡ now = w.move_line.ensures.line in
+                let image = copied q now from l.image w.move_line.new.image (subst (λ r. IsCopied q r from l.image w.move_line.new.image) put w.move_line.ensures.image) (copy-room e c.args.lines.now pass l.placements l.tally from l.image l.place kept x now nothing u f taken is_now) in
+                let there : Copied q (placement_of x) from l.image w.move_line.new.image = subst (λ r. Copied q r from l.image w.move_line.new.image) is_now image in
+                rw (w.placements-is, w.tally-is, w.image-is, put)
+                (passed-on e c.args.lines.now pass next l.placements _ l.tally l.tally from l.image w.move_line.new.image l.place kept now u c.loop-place-test.true f s refl is_now
+                (tally-same l.placements l.tally l.place now nothing u.tallied f.inside_was refl) w.move_line.auto.image there.off (λ effect. copied-held e pass l.placements from l.image w.move_line.new.image l.place kept x f u.change taken there zeros)))
             | else-active w ↦
                 (let refused : c.args.active ≡ true → is_accepted q.status ≡ false
                 = elim w.else-active.branch [
@@ -117,6 +130,6 @@ returns-clause-under_way c = λ e u.
     elim c.loop-place-test.branch [
       | else-loop-place-test w ↦ rw w.self-is (c.loop-place.invariant.under_way _ e u)
       | then-loop-place-test+in_default w ↦ rw w.self-is (c.loop-place.invariant.under_way _ e u)
-      | then-loop-place-test+in-Some+then-size-here w ↦ rw w.self-is (c.loop-place.invariant.under_way _ e u)
-      | then-loop-place-test+in-Some+else-size-here+then-not-define_new w ↦ rw (w.self-is, w.define_new.ensures.same w.if-not-define_new.true) (c.loop-place.invariant.under_way _ e u)
+      | then-loop-place-test+in-Some+then-next-gt-MEMORY_BYTES w ↦ rw w.self-is (c.loop-place.invariant.under_way _ e u)
+      | then-loop-place-test+in-Some+else-next-gt-MEMORY_BYTES+then-not-define_new w ↦ rw (w.self-is, w.define_new.ensures.same w.if-not-define_new.true) (c.loop-place.invariant.under_way _ e u)
     ]
