@@ -6,6 +6,7 @@ mod block;
 mod codes;
 mod cut;
 mod edit;
+mod effect;
 mod kept;
 mod kept_line;
 pub mod laws;

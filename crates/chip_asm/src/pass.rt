@@ -15,13 +15,12 @@ ghost use Rattle.chip_asm.specs.declared.limits.TheConstants.{MOST_LINES};
 ghost use Rattle.chip_lang.specs.declared.limits.TheConstants.{MEMORY_BYTES};
 
 use crate::block::{Block, all_hold, move_blocks};
-use crate::codes::{copy_code, move_line};
+use crate::codes::copy_two;
 use crate::kept_line::BoxedLine;
 use crate::layout::Tally;
-use crate::line_info::{is_data, size_of_body};
 use crate::placement::{Placement, Status};
 use crate::table::{NameId, Scope, Symbol, Table};
-use chip_lang::limits::MEMORY_BYTES;
+use chip_lang::limits::{IMAGE_START, MEMORY_BYTES};
 use chip_lang::{Body, Fault, Line, Names, eval};
 
 /// The state of the pass between two lines.
@@ -48,12 +47,34 @@ fn body_or<'a>(line: &'a Line, empty: &'a Body) -> &'a Body
     }
 }
 
+/// The bytes of a line itself.
+pub(crate) fn size_of_body(body: &Body, value: i32) -> usize
+    ensures size { result ≡ own_size (seen_body body.now) value }
+    ensures bound { result < 2 ^ 64 - 1 }
+{
+    match body {
+        Body::Code(_, _) => 2,
+        Body::Db(exprs) => exprs.len(),
+        Body::Dw(exprs) => 2 * exprs.len(),
+        Body::Da(bytes) => bytes.get().len(),
+        Body::Ds(_) => value.unsigned_abs() as usize,
+        _ => 0,
+    }
+}
+
+pub(crate) fn is_data(body: &Body) -> bool
+    ensures { result ≡ is_padded (seen_body body.now) }
+{
+    matches!(body, Body::Db(_) | Body::Da(_) | Body::Ds(_))
+}
+
 impl Pass {
     ghost use Rattle.chip_asm.specs.Layout.{Placed, has_ended};
     ghost use Rattle.chip_asm.specs.computed.Walk.{address, is_aligning, enclosing, is_active, is_misplaced, first_fault, symbols, place, placed};
     ghost use Rattle.chip_asm.specs.inner.Infos.{AreInfos, IsNumberOf};
     ghost use Rattle.chip_asm.specs.declared.placement.Status.TheVariants.{Pending};
-    ghost use Rattle.chip_asm.specs.inner.Placements.{found, is_accepted, Follows, placement_of, next_address, next_aligning};
+    ghost use Rattle.chip_asm.specs.inner.Placements.{found, is_accepted};
+    ghost use Rattle.chip_asm.specs.inner.Follows.{Follows, placement_of, next_address, next_aligning};
     ghost use Rattle.chip_asm.specs.inner.Passes.{Change, HasRoom, IsUnderWay};
 
     /// At an address, after lines that give these names, where no block is open, in the room of
@@ -320,9 +341,10 @@ impl Pass {
     }
 
     /// Goes on by the lines from a place on, and notes what holds of them, up to the first one of
-    /// which more is asked than its size and its name, or which has a fault. A line that was accepted
-    /// and still is takes its code along from the image before; another one that is accepted waits
-    /// for its code. The place behind the last of them.
+    /// which more is asked than its size and its name, or which has a fault, or where an
+    /// instruction has no room. A line that was accepted and still is takes its code along from the
+    /// image before; another one that is accepted waits for its code. The place behind the last of
+    /// them.
     #[inline(never)]
     pub(crate) fn run(
         &mut self,
@@ -372,12 +394,10 @@ impl Pass {
         let mut here = self.here;
         let mut place = first;
         while place < lines.len() {
-            let info = lines[place].info();
-            let Some((size, defines)) = info.plain(active, self.aligning, here) else {
+            let Some((size, defines)) = lines[place].info().bare(active) else {
                 break;
             };
-            let next = here + size;
-            if next > MEMORY_BYTES {
+            if here > MEMORY_BYTES - 2 {
                 break;
             }
             let symbol = Symbol {
@@ -389,18 +409,22 @@ impl Pass {
             }
             let was = placements[place];
             if active && was.status.is_accepted() {
-                let now = &mut placements[place];
-                move_line(now, here, size, from, image);
+                placements[place].here = here as u16;
+                if size == 2 {
+                    let at = was.address() - IMAGE_START;
+                    copy_two(image, here - IMAGE_START, from, at);
+                    here += 2;
+                }
             } else {
                 let new = Placement {
                     value: 0,
                     here: here as u16,
                     size: size as u16,
-                    status: Status::bare(active, info.is_coded),
+                    status: Status::bare(active, size == 2),
                 };
                 tally.put(placements, place, new);
+                here += size;
             }
-            here = next;
             place += 1;
         }
         self.here = here;
