@@ -1,12 +1,11 @@
 -- States that are alike in all but what is forgotten.
-use Rattle.std.proofs.Common.{◌≡◌, ◌==◌, ◌-◌, ◌<◌, ℕ, Bool, true, false, inl, inr, is_some, nat_le, slice_set, ap, subst, sym, ◌∙◌, refl, arith}
+use Rattle.std.proofs.Common.{◌≡◌, ◌==◌, ◌-◌, ◌<◌, ℕ, Bool, true, false, inl, inr, is_some, nat_le, ap, subst, sym, ◌∙◌, refl, arith}
 use Rattle.std.proofs.lemmas.Bool.{and_right}
-use Rattle.std.proofs.lemmas.List.{get_or-set_other, length-set}
 use Rattle.std.proofs.lemmas.Nat.Bits.{bit_at-zero}
 use Rattle.chip_machine.specs.Forgotten.{AreWithin, far_part, has_byte, has_part, register_part, index_part, screen_part}
 use Rattle.chip_machine.specs.Relevant.{Alike, AreNear}
 use Rattle.chip_machine.specs.declared.limits.TheConstants.{DIGITS_END}
-use Rattle.chip_machine.specs.State.{Core, State, IsProper, with_memory}
+use Rattle.chip_machine.specs.State.{Core, State, IsProper}
 use Rattle.chip_explore.specs.declared.setting.Setting.{Setting}
 use Rattle.chip_explore.specs.inner.Delays.{AlikeTicks, with_delay}
 use Rattle.chip_explore.proofs.Delays.{alike_delayed}
@@ -60,21 +59,6 @@ module _ (f : ℕ) (a b : State) (h : Alike f a b) where
   pub same_stop : is_some a.core.stopped ≡ is_some b.core.stopped
   same_stop = ap (λ (c : Core). is_some c.stopped) h.others
 
-  pub alike_turned : Alike f b a
-  alike_turned =
-      record {
-        proper = record { memory_size = sym h.size ∙ h.proper.memory_size };
-        others = sym h.others;
-        size = sym h.size;
-        draws = sym h.draws;
-        count = sym h.count;
-        registers = λ going x known. sym (h.registers (same_stop ∙ going) x known);
-        index = λ going known. sym (h.index (same_stop ∙ going) known);
-        near = λ going known. near_turned a.core.index b.core.index (h.near (same_stop ∙ going) known);
-        screen = λ going known. sym (h.screen (same_stop ∙ going) known);
-        memory = λ going at known. sym (h.memory (same_stop ∙ going) at known);
-      }
-
   pub alike_within : (g : ℕ) → AreWithin f g → Alike g a b
   alike_within g within =
       record {
@@ -104,27 +88,6 @@ module _ (f : ℕ) (a b : State) (h : Alike f a b) where
         screen = λ going known. h.screen going known ∙ k.screen (sym same_stop ∙ going) known;
         memory = λ going at known. h.memory going at known ∙ k.memory (sym same_stop ∙ going) at known;
       }
-
-pub alike_itself : (f : ℕ) (s : State) → IsProper s → Alike f s s
-alike_itself f s proper = alike_within 0 s s (alike_same s proper) f (all_within f)
-
--- a byte that is forgotten is any
-pub alike_poked : (f : ℕ) (a b : State) (at byte : ℕ) → has_byte f at ≡ true → Alike f a b → Alike f (with_memory a (slice_set a.memory at byte)) b
-alike_poked f a b at byte gone h =
-    record {
-      proper = record { memory_size = length-set a.memory at byte ∙ h.proper.memory_size };
-      others = h.others;
-      size = length-set a.memory at byte ∙ h.size;
-      draws = h.draws;
-      count = h.count;
-      registers = h.registers;
-      index = h.index;
-      near = h.near;
-      screen = h.screen;
-      memory = λ going k known.
-          get_or-set_other a.memory at k byte 0 (λ same. let here = ap (has_byte f) same in absurd (cc))
-          ∙ h.memory going k known;
-    }
 
 -- the same where the delay timer of the first may be a bound
 pub ticks_same : (p : Setting) (s : State) → IsProper s → AlikeTicks p 0 s s

@@ -199,9 +199,6 @@ goes p m n holds start more states forgotten closed same =
       };
     }
 
-pub goes_same : (p : Setting) (m : Members) → Holds p m → Goes p m m
-goes_same p m holds = record { start = refl; extends = extends_same p (view_of m); holds = holds }
-
 -- the same states with the same steps, and no fewer addresses
 pub goes_alike : (p : Setting) (m n : Members) → Holds p m → n.start ≡ m.start → n.base ≡ m.base → n.limit ≡ m.limit → Grows m.executed n.executed
     → n.states.items ≡ m.states.items → n.forgotten.items ≡ m.forgotten.items → n.steps.items ≡ m.steps.items → n.closed.items ≡ m.closed.items → Goes p m n

@@ -23,6 +23,3 @@ state_before base xs ys j l = ap (state_by base) (nth_append xs ys j l)
 
 pub state_last : (base : Base) (xs : List Kept) (x : Kept) → state_at base (xs ++ x ∷ []) (length xs) ≡ state_of base x
 state_last base xs x = ap (state_by base) (nth_last xs x)
-
-pub state_indexed : (base : Base) (xs : List Kept) (j : ℕ) (x : Kept) → j < length xs → x ≡ get_or xs j x → state_of base x ≡ state_at base xs j
-state_indexed base xs j x l e = ap (state_by base) (sym (nth_index xs j x l e))

@@ -2,7 +2,7 @@
 use Rattle.std.proofs.Common.{◌≡◌, ◌≢◌, Bool, true, false, Some, None, sym, refl, subst}
 use Rattle.std.specs.Bool.{beq}
 use Rattle.std.proofs.lemmas.Bool.{and_parts, false≢true}
-use Rattle.chip_machine.specs.Profile.{is_machine, is_move, is_sixteen, profile_with, quirks}
+use Rattle.chip_machine.specs.Profile.{are_same_quirks, is_move, is_sixteen, profile_with, quirks}
 use Rattle.chip_machine.specs.declared.profile.Profile.{Profile}
 use Rattle.chip_machine.specs.declared.profile.Profile.TheVariants as profile
 use Rattle.chip_machine.specs.declared.quirks.IndexMove.{IndexMove}
@@ -40,7 +40,7 @@ same_sixteens sixteen.Wide sixteen.Narrow is = absurd (false≢true is)
 same_sixteens sixteen.Wide sixteen.Wide is = refl
 
 -- machines with the same quirks are the same
-pub same_machine : (q other : Quirks) → is_machine q other ≡ true → q ≡ other
+pub same_machine : (q other : Quirks) → are_same_quirks q other ≡ true → q ≡ other
 same_machine q other is =
     let super = and_parts _ (beq q.has_super_instructions other.has_super_instructions) is in
     let flags = and_parts _ (beq q.flags_overflow other.flags_overflow) super.0 in
@@ -85,5 +85,5 @@ denied false isn't = refl
 pub profile_none : (q : Quirks) → ((p : Profile) → quirks p ≢ q) → profile_with q ≡ None
 unfolding profile_with
 profile_none q none =
-    let isn't : (p : Profile) → is_machine q (quirks p) ≡ false = λ p. denied _ (λ is. none p (sym (same_machine q (quirks p) is))) in
+    let isn't : (p : Profile) → are_same_quirks q (quirks p) ≡ false = λ p. denied _ (λ is. none p (sym (same_machine q (quirks p) is))) in
     rw (isn't profile.Schip, isn't profile.Vip, isn't profile.Chip48, isn't profile.Schip10, isn't profile.SchipModern, isn't profile.Octo) refl

@@ -18,7 +18,7 @@
 --     loaded, stored   how many bytes at I an effect reads and writes: those that are read are put
 --                      in the first registers, or drawn
 --     draws            whether they are drawn
---     stored_part      the part from which a byte comes that is written
+--     stored_part      the part of which a byte comes that is written
 --     AreKept          none of so many bytes in a row is forgotten
 --     AreWithin        what is forgotten in one way is so in another one
 --     IsUnneeded       the next step of a state needs nothing of what is forgotten
@@ -194,7 +194,7 @@ abbrev pub draws : Option Instr → Bool
 draws (Some (row.Draw x y n)) = true
 draws instr = false
 
--- the byte of a place in the row that is written
+-- `place`: that of the byte in the row that is written
 abbrev pub stored_part : Option Instr → (place : ℕ) → ℕ
 stored_part (Some (row.StoreDecimal x)) place = register_part x
 stored_part instr place = register_part place

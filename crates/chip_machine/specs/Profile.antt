@@ -135,8 +135,8 @@ is_sixteen sixteen.Narrow sixteen.Narrow = true
 is_sixteen sixteen.Wide sixteen.Wide = true
 is_sixteen _ _ = false
 
-abbrev pub is_machine : Quirks → Quirks → Bool
-is_machine q other =
+abbrev pub are_same_quirks : Quirks → Quirks → Bool
+are_same_quirks q other =
     beq q.shifts_second other.shifts_second && is_move q.index_move other.index_move
     && beq q.jumps_by_first other.jumps_by_first && beq q.clears_flag other.clears_flag
     && beq q.wraps other.wraps && is_sixteen q.low_sixteen other.low_sixteen
@@ -146,4 +146,4 @@ is_machine q other =
 
 -- the profile of a machine, if it has one
 unfoldable pub profile_with : Quirks → Option Profile
-profile_with q = find (λ p. is_machine q (quirks p)) profiles
+profile_with q = find (λ p. are_same_quirks q (quirks p)) profiles

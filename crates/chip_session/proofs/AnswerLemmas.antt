@@ -11,7 +11,7 @@ use Rattle.chip_replay.specs.Run.{run}
 use Rattle.chip_session.specs.declared.picture.PictureForm.{PictureForm}
 use Rattle.chip_session.specs.declared.question.StateQuestion.{StateQuestion}
 use Rattle.chip_session.specs.Kept.{KeptRun, session_on, IsLastImage, machine_after}
-use Rattle.chip_session.specs.Pictures.{picture_by, picture_of_run}
+use Rattle.chip_session.specs.Pictures.{picture_by, picture_of_image}
 use Rattle.chip_session.specs.Answers.{state_answer, step_refusal, unless_refused, answer_at, machine_at, machine_of}
 
 -- the states of the kept run are those of the session's machine
@@ -48,7 +48,7 @@ is_answer lines kept (Some image) asked step bytes is some fits answer =
 pub is_picture : (lines : List (List ℕ)) (kept : KeptRun) (image : Option (List ℕ)) (form : PictureForm) (step : ℕ) (bytes : List ℕ) →
     IsLastImage image kept.last_image → is_none image ≡ false → nat_lt last_step step ≡ false →
     bytes ≡ picture_by form (machine_after kept step) →
-    picture_of_run (session_on lines kept) form step image ≡ Ok bytes
+    picture_of_image (session_on lines kept) form step image ≡ Ok bytes
 is_picture lines kept None form step bytes is some fits picture = cc
 is_picture lines kept (Some image) form step bytes is some fits picture =
     rw fits (ap (λ b. Ok b) (ap (picture_by form) (sym (same_state lines kept image step (is image refl))) ∙ sym picture))

@@ -20,12 +20,12 @@ picture_by (form.Text letters) s = picture_of letters s
 picture_by form.Bitmap s = pbm_of s
 picture_by form.Png s = png_of s
 
-abbrev pub picture_of_run : Session → PictureForm → ℕ → Option (List ℕ) → Result (List ℕ) Refusal
-picture_of_run session form step None = Err NoImage
-picture_of_run session form step (Some image) =
+abbrev pub picture_of_image : Session → PictureForm → ℕ → Option (List ℕ) → Result (List ℕ) Refusal
+picture_of_image session form step None = Err NoImage
+picture_of_image session form step (Some image) =
     if nat_lt last_step step then Err StepPastLast
     else Ok (picture_by form (machine_at session image step))
 
 -- the bytes of the picture, or the first refusal that applies
 abbrev pub picture_asked : Session → PictureForm → ℕ → Result (List ℕ) Refusal
-picture_asked session form step = picture_of_run session form step (image_of session.lines)
+picture_asked session form step = picture_of_image session form step (image_of session.lines)
