@@ -1,13 +1,5 @@
 pub mod RunningLemmas
 pub mod TestLemmas
 pub mod TraceLemmas
-pub mod OpenedLemmas
-pub mod CheckLemmas
+pub mod SessionLemmas
 pub mod DoingLemmas
-pub mod SetLemmas
-pub mod ExploringLemmas
-pub mod NextLemmas
-pub mod ProvingLemmas
-pub mod ProveLemmas
-pub mod SearchedLemmas
-pub mod PropertiesLemmas

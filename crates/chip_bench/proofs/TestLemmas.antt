@@ -12,8 +12,8 @@ use Rattle.chip_cases.specs.declared.update.Given.{Given}
 use Rattle.chip_session.specs.Session.{Session}
 use Rattle.chip_session.specs.Settings.{SessionSettings}
 use Rattle.chip_bench.specs.Testing.{CasePasses, JudgesAll, Passes}
-use Rattle.chip_bench.specs.declared.ending.Code.{Code}
-use Rattle.chip_bench.specs.declared.ending.Failure.TheVariants as failure
+use Rattle.chip_host.specs.declared.ending.Code.{Code}
+use Rattle.chip_host.specs.declared.ending.Failure.TheVariants as failure
 use Rattle.chip_bench.specs.inner.Reads.{IsSessionOf, IsUnmade}
 use Rattle.std.specs.Borrow.{Bor}
 use Rattle.chip_session.specs.Transcript.{after, reply}

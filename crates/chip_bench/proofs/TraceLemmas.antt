@@ -1,16 +1,17 @@
 -- What a command prints part by part, and what `trace` prints.
 use Rattle.std.proofs.Common.{◌≡◌, inl, inr, ℕ, ◌<◌, Bool, true, false, List, [], ◌∷◌, ◌++◌, append_assoc, append-nil, Option, Some, None, Result, Ok, Err, refl, sym, ◌∙◌, ap, take, drop, length, arith}
 use Rattle.chip_bench.specs.Doing.{ShowsTrace}
-use Rattle.chip_bench.specs.Printing.{Printed, Prints, Streams, WritesFront, printed, printed_faults, unanswered}
+use Rattle.chip_host.specs.Printing.{Printed, Prints, Streams, WritesFront, printed, printed_faults}
+use Rattle.chip_bench.specs.Printing.{unanswered}
 use Rattle.chip_session.specs.Session.{Session}
 use Rattle.chip_session.specs.Tally.{Tally}
 use Rattle.chip_session.specs.Writing.{Breaks, Writes}
 use Rattle.chip_trace.specs.Machine.{names_machine}
 use Rattle.chip_bench.specs.Tracing.{below_machine, header_of, lines_after, trace_refusal}
-use Rattle.chip_bench.specs.declared.ending.Ending.{Ending}
-use Rattle.chip_bench.specs.declared.ending.Ending.TheVariants.{Done}
-use Rattle.chip_bench.specs.declared.ending.Failure.{Failure}
-use Rattle.chip_bench.specs.declared.ending.Failure.TheVariants as failure
+use Rattle.chip_host.specs.declared.ending.Ending.{Ending}
+use Rattle.chip_host.specs.declared.ending.Ending.TheVariants.{Done}
+use Rattle.chip_host.specs.declared.ending.Failure.{Failure}
+use Rattle.chip_host.specs.declared.ending.Failure.TheVariants as failure
 use Rattle.chip_session.specs.declared.refusal.Refusal.{Refusal}
 use Rattle.chip_bench.specs.declared.tracing.Shown.{Shown}
 use Rattle.chip_lang.specs.Meter.{one_more}

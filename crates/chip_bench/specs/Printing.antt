@@ -1,57 +1,29 @@
--- What the commands of the program print of a source, and how they end (own).
-use Rattle.std.specs.Prelude.{◌≡◌, ◌⊎◌, ℕ, Bool, true, false, List, [], ◌++◌, codes, Option, Some, None, Result, Ok, Err}
-use Rattle.std.specs.Io.KnownBytes.{Appends}
+-- What `list`, `syms`, `run` and `picture` print, and what was done with a session (own).
+use Rattle.std.specs.Prelude.{◌≡◌, ◌⊎◌, ℕ, Bool, true, false, List, ◌++◌, Option, Some, None, Result, Ok, Err}
 use Rattle.chip_asm.specs.Lines.{open_fault}
-use Rattle.chip_asm.specs.Program.{image_of, faults_of, symbols_of}
+use Rattle.chip_asm.specs.Program.{image_of, symbols_of}
 use Rattle.chip_asm.specs.Listing.{listing_of}
-use Rattle.chip_asm.specs.declared.refusal.OpenError.{OpenError}
-use Rattle.chip_asm.specs.declared.refusal.OpenError.TheVariants as unopened
-use Rattle.chip_check.specs.Check.{IsChecked}
-use Rattle.chip_check.specs.Json.{IsCheckJson, unopened_object}
-use Rattle.chip_session.specs.Answers.{answer_to, faults_text, listing_text, symbols_text}
+use Rattle.chip_session.specs.Answers.{answer_to, listing_text, symbols_text}
 use Rattle.chip_session.specs.KeyFile.{key_fault, session_under}
 use Rattle.chip_session.specs.Refusals.{refusal_code}
-use Rattle.chip_session.specs.Serving.{BeginsWith}
 use Rattle.chip_session.specs.Session.{Session, session_of}
 use Rattle.chip_session.specs.Settings.{SessionSettings}
 use Rattle.chip_session.specs.Tally.{Tally}
 use Rattle.chip_session.specs.Text.{full_stop}
 use Rattle.chip_session.specs.Transcript.{refused}
-use Rattle.chip_session.specs.Writing.{Breaks, Writes}
 use Rattle.chip_views.specs.Hexadecimal.{hex_listing, hex_symbols}
-use Rattle.chip_bench.specs.declared.ending.Ending.{Ending}
-use Rattle.chip_bench.specs.declared.ending.Ending.TheVariants.{Done, Faulty}
-use Rattle.chip_bench.specs.declared.ending.Failure.{Failure}
+use Rattle.chip_host.specs.declared.ending.Ending.{Ending}
+use Rattle.chip_host.specs.declared.ending.Ending.TheVariants.{Done, Faulty}
+use Rattle.chip_host.specs.declared.ending.Failure.{Failure}
 use Rattle.chip_bench.specs.declared.output.Table.{Table}
 use Rattle.chip_bench.specs.declared.output.Table.TheVariants.{Listing, Symbols}
-use Rattle.chip_bench.specs.declared.ending.Failure.TheVariants as failure
+use Rattle.chip_host.specs.declared.ending.Failure.TheVariants as failure
 use Rattle.chip_session.specs.Pictures.{picture_asked}
 use Rattle.chip_session.specs.declared.picture.PictureForm.{PictureForm}
 use Rattle.chip_session.specs.declared.question.Question.TheVariants.{Registers, Screen}
 use Rattle.chip_session.specs.declared.refusal.Refusal.{Refusal}
 use Rattle.chip_session.specs.declared.refusal.Refusal.TheVariants.{NoImage}
-
--- what a command prints on standard output, and how it ends then
-pub record Printed : Type 0 where
-  pub text : List ℕ
-  pub ending : Ending
-
-abbrev pub printed : List ℕ → Ending → Printed
-printed text ending = record { text = text; ending = ending }
-
--- why a source doesn't open, as the program prints it; nothing where memory ran out
-abbrev pub unopened_text : OpenError → List ℕ
-unopened_text (unopened.LineTooLong number) = codes "no O1\n"
-unopened_text unopened.TooManyLines = codes "no O2\n"
-unopened_text unopened.OutOfMemory = []
-
-abbrev pub printed_faults : List (List ℕ) → Printed
-printed_faults lines = printed (faults_text (faults_of lines)) Faulty
-
--- a source without an image is faulty
-abbrev pub ending_with : Option (List ℕ) → Ending
-ending_with (Some image) = Done
-ending_with None = Faulty
+use Rattle.chip_host.specs.Printing.{Printed, printed, printed_faults, ending_with, IfOpens}
 
 -- `list` and `syms`, with values in decimal or in hexadecimal: a source without an image has faults
 -- in the place of its names
@@ -65,29 +37,6 @@ table_with None Symbols is_hex lines = printed_faults lines
 
 abbrev pub printed_table : Table → (is_hex : Bool) → List (List ℕ) → Printed
 printed_table table is_hex lines = table_with (image_of lines) table is_hex lines
-
--- what `check` prints: text, in colours or without, or JSON objects
-abbrev pub IsCheckText : (is_json is_painted : Bool) → (name : List ℕ) (lines : List (List ℕ))
-    → (text : List ℕ) → Type 0
-IsCheckText false is_painted name lines text = IsChecked is_painted name lines text
-IsCheckText true is_painted name lines text = IsCheckJson name lines text
-
--- why a source doesn't open, as `check` prints it: where it is one of several, after its name; as JSON
--- an object
-abbrev pub unopened_check : (is_json is_alone : Bool) → (name : List ℕ) → OpenError → List ℕ
-unopened_check false true name fault = unopened_text fault
-unopened_check false false name fault = name ++ codes ": " ++ unopened_text fault
-unopened_check true is_alone name fault = unopened_object name fault
-
--- what `check` prints of a source: why it doesn't open, where it doesn't; else the reports of the
--- faults, with lines of help among them, and then warnings
-abbrev pub IsPrintedCheckOf : (is_json is_painted is_alone : Bool) → (name : List ℕ)
-    → Option OpenError → (lines : List (List ℕ)) → Printed → Type 0
-IsPrintedCheckOf is_json is_painted is_alone name (Some fault) lines wanted =
-    wanted ≡ printed (unopened_check is_json is_alone name fault) Faulty
-IsPrintedCheckOf is_json is_painted is_alone name None lines wanted =
-    IsCheckText is_json is_painted name lines wanted.text
-    × (wanted.ending ≡ ending_with (image_of lines))
 
 -- a question that isn't answered: the faults where there is no image, else the refusal's code
 abbrev pub unanswered : Refusal → Printed → Printed
@@ -116,41 +65,6 @@ printed_picture session step form =
     answer_or_why (picture_asked session form step) (printed_faults session.lines)
 
 module _ {W : Type 0} (contents : W → Option (List ℕ)) (old new : Tally W) where
-  -- What a command that prints this did: all of it, or a front where a write failed, or nothing for
-  -- that memory ran out.
-  abbrev pub Prints : Printed → Result Ending Failure → Type 0
-  Prints wanted (Ok ending) = (ending ≡ wanted.ending) × Writes contents old new wanted.text
-  Prints wanted (Err failure.Output) = Breaks contents old new wanted.text
-  Prints wanted (Err failure.OutOfMemory) = new ≡ old
-  Prints wanted (Err _) = ⊥
-
-  -- some front of this text was printed, and nothing else, and no write failed
-  pub record WritesFront (text : List ℕ) : Type 0 where
-    pub front : List ℕ
-    pub begins : BeginsWith text front
-    pub appended : Appends (contents old.inner) (contents new.inner) front
-    pub no_failure : new.failures ≡ old.failures
-
-  -- What a command that prints this part by part did: all of it, or a front where a write failed or
-  -- memory ran out.
-  abbrev pub Streams : Printed → Result Ending Failure → Type 0
-  Streams wanted (Ok ending) = (ending ≡ wanted.ending) × Writes contents old new wanted.text
-  Streams wanted (Err failure.Output) = Breaks contents old new wanted.text
-  Streams wanted (Err failure.OutOfMemory) = WritesFront wanted.text
-  Streams wanted (Err _) = ⊥
-
-  -- What was printed passes a test, or memory ran out before.
-  abbrev pub PrintsSuch : (Printed → Type 0) → Result Ending Failure → Type 0
-  PrintsSuch P result =
-      ((wanted : Printed) × P wanted × Prints wanted result)
-      ⊎ ((result ≡ Err failure.OutOfMemory) × (new ≡ old))
-
-  -- a source that opens, or why it doesn't
-  abbrev pub IfOpens : Option OpenError → (Did : Result Ending Failure → Type 0)
-      → Result Ending Failure → Type 0
-  IfOpens None Did result = Did result
-  IfOpens (Some fault) Did result = Prints (printed (unopened_text fault) Faulty) result
-
   -- key events that can all be made, or their first refused line: then nothing was printed, and the
   -- failure has its number and the code
   abbrev pub UnlessRefused : Option (ℕ × List ℕ) → (Did : Result Ending Failure → Type 0)
@@ -166,12 +80,7 @@ module _ {W : Type 0} (contents : W → Option (List ℕ)) (old new : Tally W) w
   abbrev pub WithSession : SessionSettings → (source keys : List ℕ)
       → (Session → Result Ending Failure → Type 0) → Result Ending Failure → Type 0
   WithSession settings source keys Did result =
-      IfOpens (open_fault source)
+      IfOpens contents old new (open_fault source)
       (UnlessRefused (key_fault (session_of settings source) keys)
       (Did (session_under (session_of settings source) keys))) result
       ⊎ ((result ≡ Err failure.OutOfMemory) × (new ≡ old))
-
-  -- a source that doesn't open is refused
-  abbrev pub Refuses : OpenError → Result Ending Failure → Type 0
-  Refuses unopened.OutOfMemory result = (result ≡ Err failure.OutOfMemory) × (new ≡ old)
-  Refuses fault result = Prints (printed (unopened_text fault) Faulty) result

@@ -1,50 +1,24 @@
 -- What a run of the program reads, writes and answers (own).
-use Rattle.std.specs.Prelude.{◌≡◌, ◌≢◌, ◌⊎◌, ℕ, ◌+◌, Bool, List, [], Option, Some, Result, Ok, Err, if◌then◌else◌}
+use Rattle.std.specs.Prelude.{◌≡◌, ◌≢◌, ◌⊎◌, ℕ, Bool, List, [], Option, Some, Result, Ok, Err, if◌then◌else◌}
 use Rattle.chip_asm.specs.Lines.{open_fault}
-use Rattle.chip_asm.specs.declared.limits.TheConstants.{SOURCE_BYTES}
 use Rattle.chip_asm.specs.declared.refusal.OpenError.TheVariants.{OutOfMemory as unopened_memory}
 use Rattle.clap.specs.Kinds.{Kinds, IsAmong}
-use Rattle.clap.specs.declared.error.Error.{Error}
-use Rattle.clap.specs.declared.error.kind.ErrorKind.{ErrorKind}
 use Rattle.clap.specs.declared.error.kind.ErrorKind.TheVariants as kind
-use Rattle.std.specs.Borrow.{Bor}
 use Rattle.std.specs.Io.KnownBytes.{Keeps}
-use Rattle.std.specs.declared.io.Error.{Error as IoError}
 use Rattle.std.specs.declared.io.ErrorKind.{ErrorKind as IoErrorKind}
 use Rattle.std.specs.declared.io.ErrorKind.TheVariants as io_kind
 use Rattle.chip_session.specs.Settings.{SessionSettings, default_settings}
 use Rattle.chip_session.specs.Session.{session_of}
 use Rattle.chip_session.specs.Serving.{Served, Exchanges, Opens, reader_failures, writer_failures}
-use Rattle.chip_bench.specs.Printing.{Refuses}
+use Rattle.chip_host.specs.Printing.{Refuses}
 use Rattle.chip_session.specs.Tally.{Tally, failures_after_flush}
-use Rattle.chip_bench.specs.declared.ending.Ending.{Ending}
-use Rattle.chip_bench.specs.declared.ending.Ending.TheVariants.{Done, Faulty, Short}
-use Rattle.chip_bench.specs.declared.ending.Failure.{Failure}
-use Rattle.chip_bench.specs.declared.ending.Failure.TheVariants as failure
+use Rattle.chip_host.specs.declared.ending.Ending.{Ending}
+use Rattle.chip_host.specs.declared.ending.Ending.TheVariants.{Done}
+use Rattle.chip_host.specs.declared.ending.Failure.{Failure}
+use Rattle.chip_host.specs.declared.ending.Failure.TheVariants as failure
 use Rattle.chip_session.specs.declared.server.ServeError.{ServeError}
 use Rattle.chip_session.specs.declared.server.ServeError.TheVariants as fault
-use Rattle.chip_session.specs.declared.settings.SetError.{SetError}
-use Rattle.chip_session.specs.declared.settings.SetError.TheVariants as set
-
--- the status after a way to end, where the flush at the end went well
-abbrev pub ending_status : Ending → ℕ
-ending_status Done = 0
-ending_status Faulty = 1
-ending_status Short = 4
-
--- the status after what hindered the program: 3 for a file, input or output, 4 where memory ran out,
--- and else 2, since the arguments, or a file of key events or a trace that they name, are at fault
-abbrev pub failure_status : Failure → ℕ
-failure_status (failure.CannotRead name error) = 3
-failure_status (failure.TooLong name most) = 3
-failure_status (failure.CannotWrite name error) = 3
-failure_status (failure.BadTest name line fault) = 3
-failure_status (failure.UnreadInTest name line error) = 3
-failure_status failure.Input = 3
-failure_status failure.Output = 3
-failure_status failure.TooMuchInput = 3
-failure_status failure.OutOfMemory = 4
-failure_status _ = 2
+use Rattle.chip_host.specs.Endings.{ending_status, failure_status}
 
 -- the status after a way to end and a flush: a flush that failed takes the place of a good ending
 -- alone
@@ -104,15 +78,6 @@ abbrev pub RunsSession : {R W : Type 0} → (remaining : R → Option (List ℕ)
 RunsSession remaining contents in_old in_new out_old =
     Ends contents (AnswersScript remaining contents default_settings [] in_old in_new out_old)
 
-abbrev pub settings_failure : SetError → Failure
-settings_failure set.OutOfMemory = failure.OutOfMemory
-settings_failure _ = failure.BadTape
-
--- what hinders the program where `clap` answers an error of that kind
-abbrev pub arguments_failure : ErrorKind → Error → Failure
-arguments_failure kind.OutOfMemory error = failure.OutOfMemory
-arguments_failure _ error = failure.Usage error
-
 -- the status where the system can't give the program's arguments as text; 4 after any error where
 -- memory runs out to say so
 abbrev pub IsWithoutArguments : IoErrorKind → ℕ → Type 0
@@ -123,18 +88,3 @@ IsWithoutArguments _ status = (status ≡ 2) ⊎ (status ≡ 4)
 abbrev pub AreFaulty : Kinds → Type 0
 AreFaulty kinds =
     (kinds ≢ []) × (IsAmong kind.DisplayHelp kinds → ⊥) × (IsAmong kind.DisplayVersion kinds → ⊥)
-
--- what hinders reading a file of that name
-abbrev pub IsUnread : Bor (List ℕ) → Failure → Type 0
-IsUnread name hindrance =
-    (hindrance ≡ failure.OutOfMemory)
-    ⊎ ((why : IoError) × (hindrance ≡ failure.CannotRead name why))
-
--- the same of a file that may have so many bytes
-abbrev pub IsUnreadWithin : (most : ℕ) → Bor (List ℕ) → Failure → Type 0
-IsUnreadWithin most name hindrance =
-    IsUnread name hindrance ⊎ (hindrance ≡ failure.TooLong name most)
-
--- how many bytes of a source are read; one of that length or more doesn't open
-abbrev pub source_bytes_read : ℕ
-source_bytes_read = SOURCE_BYTES + 1

@@ -21,18 +21,18 @@ use Rattle.chip_cases.specs.declared.case.CaseSource.TheVariants as case_source
 use Rattle.chip_lang.specs.declared.limits.TheConstants.{IMAGE_BYTES}
 use Rattle.chip_replay.specs.declared.limits.TheConstants.{LEAST_SPACING}
 use Rattle.chip_session.specs.KeyFile.{key_fault, session_under}
-use Rattle.chip_bench.specs.Running.{failure_status}
+use Rattle.chip_host.specs.Endings.{failure_status}
 use Rattle.chip_session.specs.Session.{Session, session_of}
-use Rattle.chip_bench.specs.SettingArguments.{settings_asked}
+use Rattle.chip_host.specs.SettingArguments.{settings_asked}
 use Rattle.chip_session.specs.Settings.{SessionSettings}
 use Rattle.chip_session.specs.Transcript.{after, reply}
 use Rattle.chip_views.specs.Dis.{source_of_image}
 use Rattle.chip_bench.specs.declared.case_run.Verdict.{Verdict}
 use Rattle.chip_bench.specs.declared.case_run.Verdict.TheVariants as verdict
-use Rattle.chip_bench.specs.declared.ending.Ending.{Ending}
-use Rattle.chip_bench.specs.declared.ending.Ending.TheVariants.{Done, Faulty}
-use Rattle.chip_bench.specs.declared.ending.Failure.{Failure}
-use Rattle.chip_bench.specs.declared.limits.TheConstants.{KEY_FILE_BYTES, TEST_FILE_BYTES}
+use Rattle.chip_host.specs.declared.ending.Ending.{Ending}
+use Rattle.chip_host.specs.declared.ending.Ending.TheVariants.{Done, Faulty}
+use Rattle.chip_host.specs.declared.ending.Failure.{Failure}
+use Rattle.chip_host.specs.declared.limits.TheConstants.{KEY_FILE_BYTES, TEST_FILE_BYTES}
 
 -- the answer of the session to each of these commands, one after another, is as expected
 abbrev pub Passes : Session → List Expectation → Type 0

@@ -7,9 +7,10 @@ use Rattle.chip_trace.specs.Lines.{trace_lines, trace_text}
 use Rattle.chip_trace.specs.Machine.{names_machine}
 use Rattle.chip_trace.specs.declared.difference.Difference.{Difference}
 use Rattle.chip_session.specs.Answers.{machine_of}
-use Rattle.chip_bench.specs.Printing.{Printed, printed, printed_faults, unanswered}
+use Rattle.chip_host.specs.Printing.{Printed, printed, printed_faults}
+use Rattle.chip_bench.specs.Printing.{unanswered}
 use Rattle.chip_session.specs.Session.{Session}
-use Rattle.chip_bench.specs.declared.ending.Ending.TheVariants.{Done, Faulty}
+use Rattle.chip_host.specs.declared.ending.Ending.TheVariants.{Done, Faulty}
 use Rattle.chip_session.specs.declared.refusal.Refusal.{Refusal}
 use Rattle.chip_session.specs.declared.refusal.Refusal.TheVariants.{NoImage, StepPastLast}
 use Rattle.chip_bench.specs.declared.tracing.Shown.{Shown}

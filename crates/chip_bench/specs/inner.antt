@@ -1,7 +1,3 @@
--- What private contracts say: what was read for a command, what `explore` tells, what
--- `check --cover` takes as executed, what was written to files, and what `prove` tells.
+-- What private contracts say: what was read for a command, and what was written to files.
 pub mod Reads
-pub mod Sets
-pub mod Covering
 pub mod Written
-pub mod Proofs

@@ -3,11 +3,10 @@ ghost use Rattle.std.specs.Prelude.{◌≡◌, ◌↔◌, false, [], IsTrue, IfO
 ghost use Rattle.chip_cases.specs.Steps.{expectation_of};
 ghost use Rattle.chip_bench.specs.Testing.{CasePasses, Passes, has_passed};
 
-use crate::ending::{Code, Failure};
 use crate::opening::open_under;
-use crate::reading::KeyFile;
 use chip_asm::OpenError;
 use chip_cases::{Given, Step, is_answered, is_refusal};
+use chip_host::{Code, Failure, KeyFile};
 use chip_session::{Bench, Settings, respond};
 use std::alloc::{AllocError, Global};
 

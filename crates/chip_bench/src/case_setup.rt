@@ -1,16 +1,13 @@
 //! The settings, the source and the key events that the lines of a case ask for.
 ghost use Rattle.std.specs.Prelude.{◌≡◌, ◌≤◌, IfOk, IfErr, Some, length, option_copied};
 ghost use Rattle.chip_arguments.specs.CommandArguments.{ReadsNumber, ReadsOr};
-ghost use Rattle.chip_bench.specs.SettingArguments.{settings_asked};
+ghost use Rattle.chip_host.specs.SettingArguments.{settings_asked};
 ghost use Rattle.chip_bench.specs.Testing.{IsCaseKeys, IsCaseSource, IsHindrance, SetBy, text_of};
 
-use crate::ending::{Failure, TestFault};
-use crate::file_access::FileAccess;
-use crate::limits::KEY_FILE_BYTES;
-use crate::reading::{MOST_SOURCE, settings_of};
-use crate::system::System;
 use chip_arguments::{SettingArguments, number, seed};
 use chip_cases::{CaseSource, Placed, Setup};
+use chip_host::limits::KEY_FILE_BYTES;
+use chip_host::{Failure, FileAccess, MOST_SOURCE, System, TestFault, settings_of};
 use chip_machine::Profile;
 use chip_machine::limits::IMAGE_BYTES;
 use chip_replay::{LEAST_SPACING, MOST_RATE, MOST_SPACING};

@@ -1,9 +1,11 @@
 //! The program behind `main`.
 ghost use Rattle.std.specs.Prelude.{◌≡◌, [], ◌∷◌, ◌⊎◌, map, Ok};
 ghost use Rattle.chip_asm.specs.Program.{image_of};
-ghost use Rattle.chip_bench.specs.Printing.{ending_with, printed_faults, printed_table};
+ghost use Rattle.chip_host.specs.Printing.{ending_with, printed_faults};
+ghost use Rattle.chip_bench.specs.Printing.{printed_table};
 ghost use Rattle.chip_session.specs.Settings.{default_settings};
-ghost use Rattle.chip_bench.specs.Running.{AnswersScript, Ends, RunsSession, status_of, failure_status, AreFaulty, IsWithoutArguments};
+ghost use Rattle.chip_bench.specs.Running.{AnswersScript, Ends, RunsSession, status_of, AreFaulty, IsWithoutArguments};
+ghost use Rattle.chip_host.specs.Endings.{failure_status};
 ghost use Rattle.chip_bench.specs.inner.Reads.{IsUsage};
 ghost use Rattle.chip_bench.specs.inner.Written.{IsFoundWritten, IsImageWritten};
 ghost use Rattle.chip_bench.specs.Doing.{Assembles, Debugs, Does, Performs, Runs, ShowsHelp, ShowsVersion, Tells, WritesBy};
@@ -11,25 +13,19 @@ ghost use Rattle.chip_arguments.specs.CommandArguments.{argument_faults};
 ghost use Rattle.std.specs.Io.KnownBytes.{Keeps};
 ghost use Rattle.std.specs.IoError.{error_kind};
 
-use crate::checking::check;
-use crate::ending::{Ending, Failure};
-use crate::exploring::explore;
-use crate::file_access::FileAccess;
 use crate::opening::open_under;
-use crate::output::{
-    Table, deliver, explain, faults, print, refuse_source, run_at, tabulate, version,
-};
+use crate::output::{Table, explain, run_at, tabulate, version};
 use crate::picturing::picture;
-use crate::proving::prove;
-use crate::reading::{
-    AskedRun, MOST_SOURCE, as_source, file_name, read_asked, read_given, read_source, settings_of,
-};
-use crate::system::System;
 use crate::terminal::{Begun, answer_begun};
 use crate::testing::test_files;
 use crate::tracing::trace;
+use chip_analysis::{check, explore, prove};
 use chip_arguments::{CommandLine, RunArguments, SettingArguments, not_text, parse_arguments};
 use chip_asm::Source;
+use chip_host::{
+    AskedRun, Ending, Failure, FileAccess, MOST_SOURCE, System, as_source, deliver, faults,
+    file_name, print, read_asked, read_given, read_source, refuse_source, settings_of,
+};
 use chip_session::Counted;
 use clap::error::ErrorKind;
 use std::alloc::Global;
@@ -171,7 +167,7 @@ fn perform<'a, F: FileAccess + Clock, I: Read, O: Write, E: Write>(
             is_quiet,
             settings,
         } => {
-            let given = Given {
+            let given = DebugArguments {
                 source: *source,
                 is_image: *is_image,
                 is_quiet: *is_quiet,
@@ -206,7 +202,7 @@ fn perform<'a, F: FileAccess + Clock, I: Read, O: Write, E: Write>(
 
 // What a session is begun on: a source or an image of that name, or the empty source.
 #[derive(Clone, Copy)]
-struct Given<'a> {
+struct DebugArguments<'a> {
     source: Option<&'a str>,
     is_image: bool,
     /// Whether who types the script wants nothing said of it.
@@ -216,7 +212,7 @@ struct Given<'a> {
 // The settings are judged before SOURCE is read.
 fn debug<'a, F: FileAccess, I: Read, O: Write, E: Write>(
     system: &System<'_, F>,
-    given: Given<'a>,
+    given: DebugArguments<'a>,
     arguments: &SettingArguments<'_>,
     input: &mut Counted<I>,
     output: &mut Counted<O>,

@@ -4,24 +4,11 @@
 mod case_report;
 mod case_run;
 mod case_setup;
-mod checking;
-mod covering;
-mod ending;
 mod entry;
-mod exploring;
-mod file_access;
 mod held_writer;
-pub mod laws;
-pub mod limits;
 mod opening;
 mod output;
 mod picturing;
-mod progress;
-mod proving;
-mod reading;
-mod sets;
-mod stop_place;
-mod system;
 mod terminal;
 mod testing;
 mod tracing;
@@ -30,10 +17,10 @@ pub use chip_arguments::{
     CommandLine, ExploreArguments, PictureArguments, ProveArguments, RunArguments, SearchArguments,
     SettingArguments, TestArguments, TraceArguments, parse_arguments,
 };
+pub use chip_host::{Host, System};
 pub use chip_session::{
     Bench, Change, Command, CommandFault, Counted, Letters, OpenError, PictureForm, Question,
     Refusal, ServeError, SetError, Settings, StateQuestion, read_command, serve, tape_of,
 };
 pub use entry::{program, refuse_arguments};
 pub use held_writer::HeldWriter;
-pub use system::{Host, System};

@@ -1,10 +1,10 @@
 //! A session on a source, under the key events of a file.
 ghost use Rattle.std.specs.Prelude.{IfErr, IfOk};
-ghost use Rattle.chip_bench.specs.inner.Reads.{IsSessionOf, IsUnmade, IsUnopened};
+ghost use Rattle.chip_bench.specs.inner.Reads.{IsSessionOf, IsUnmade};
+ghost use Rattle.chip_host.specs.Printing.{IsUnopened};
 
-use crate::ending::{Code, Failure};
-use crate::reading::KeyFile;
 use chip_asm::OpenError;
+use chip_host::{Code, Failure, KeyFile};
 use chip_session::{Bench, KeyFileError, Settings, insert_keys};
 use std::alloc::Global;
 

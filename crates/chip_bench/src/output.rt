@@ -1,19 +1,18 @@
 //! What each command reads and prints, from the bytes of a source.
 ghost use Rattle.std.specs.Prelude.{◌≡◌, Err, IfErr, IfOk, IsErr};
-ghost use Rattle.chip_asm.specs.Program.{image_of};
-ghost use Rattle.chip_bench.specs.Printing.{Prints, ending_with, Refuses, printed, printed_faults, printed_run, printed_picture, printed_table, unanswered, unopened_text, Printed};
+ghost use Rattle.chip_host.specs.Printing.{printed, printed_faults, printed_by};
+ghost use Rattle.chip_bench.specs.Printing.{printed_run, printed_picture, printed_table, unanswered};
 ghost use Rattle.chip_bench.specs.Running.{AnswersScript};
 ghost use Rattle.chip_bench.specs.Doing.{IsExplanation, IsUnexplained};
-ghost use Rattle.chip_bench.specs.inner.Reads.{printed_by};
 ghost use Rattle.chip_arguments.specs.Version.{version_text};
 
-use crate::ending::{Ending, Failure};
 use chip_arguments::VERSION;
-use chip_asm::{OpenError, Source};
+use chip_asm::Source;
+use chip_host::{Answer, Ending, Failure, faults, refuse_source};
 use chip_pages::{contents, page_text};
 use chip_session::{
-    Bench, Counted, Observer, PictureForm, Question, Refusal, ServeError, Settings, faults_answer,
-    listing_answer, refuse, serve_observed, symbols_answer, write_all,
+    Bench, Counted, Observer, PictureForm, Question, Refusal, ServeError, Settings, listing_answer,
+    refuse, serve_observed, symbols_answer,
 };
 use chip_views::{hex_listing, hex_symbols};
 use std::alloc::{AllocError, Global};
@@ -113,47 +112,6 @@ pub(crate) fn version(alloc: Global) -> Result<Answer, AllocError>
     })
 }
 
-/// What a command prints on standard output, and how it ends then.
-#[derive(Drop)]
-pub(crate) struct Answer {
-    pub(crate) text: Vec<u8>,
-    pub(crate) ending: Ending,
-}
-
-impl Answer {
-    /// A text on a source, which is faulty where it has no image.
-    pub(crate) fn on(source: &Source, text: Vec<u8>) -> Answer
-        ensures { printed_by result ≡ printed text.items (ending_with (image_of source.now.lines)) }
-    {
-        match source.image() {
-            Some(_) => Answer {
-                text,
-                ending: Ending::Done,
-            },
-            None => Answer {
-                text,
-                ending: Ending::Faulty,
-            },
-        }
-    }
-}
-
-/// Prints an answer, unless memory ran out for it.
-pub(crate) fn deliver<'a, O: Write>(
-    answer: Result<Answer, AllocError>,
-    output: &mut Counted<O>,
-) -> Result<Ending, Failure<'a>>
-    ensures wanted { (wanted : Printed) → IfOk answer (λ given. printed_by given ≡ wanted)
-        → Prints O.contents output.old output.new wanted result }
-    ensures short { IfErr answer (λ e. (result ≡ Err Failure.OutOfMemory)
-        × (output.new ≡ output.old)) }
-{
-    match answer {
-        Ok(answer) => print(&answer.text, answer.ending, output),
-        Err(_) => Err(Failure::OutOfMemory),
-    }
-}
-
 /// `run`: the answers to the questions about a step, or the faults where there is no image.
 pub(crate) fn run_at(alloc: Global, bench: &mut Bench, step: u32) -> Result<Answer, AllocError>
     ensures { IfOk result (λ answer. printed_by answer ≡ printed_run bench.old.session step) }
@@ -208,51 +166,5 @@ pub(crate) fn unanswered(alloc: Global, bench: &Bench, why: Refusal) -> Result<A
                 ending: Ending::Faulty,
             })
         }
-    }
-}
-
-pub(crate) fn faults(alloc: Global, source: &Source) -> Result<Answer, AllocError>
-    ensures { IfOk result (λ answer. printed_by answer ≡ printed_faults source.now.lines) }
-{
-    Ok(Answer {
-        text: faults_answer(alloc, source)?,
-        ending: Ending::Faulty,
-    })
-}
-
-// Prints why a source doesn't open.
-pub(crate) fn refuse_source<'a, O: Write>(
-    error: OpenError,
-    output: &mut Counted<O>,
-) -> Result<Ending, Failure<'a>>
-    ensures { Refuses O.contents output.old output.new error result }
-{
-    match error {
-        OpenError::OutOfMemory => Err(Failure::OutOfMemory),
-        _ => print(unopened_text(error), Ending::Faulty, output),
-    }
-}
-
-/// Why a source doesn't open, as the program prints it; nothing where memory ran out.
-pub(crate) fn unopened_text(error: OpenError) -> &'static [u8]
-    ensures { result.now ≡ unopened_text error }
-{
-    match error {
-        OpenError::LineTooLong(_) => b"no O1\n",
-        OpenError::TooManyLines => b"no O2\n",
-        OpenError::OutOfMemory => b"",
-    }
-}
-
-pub(crate) fn print<'a, O: Write>(
-    bytes: &[u8],
-    ending: Ending,
-    output: &mut Counted<O>,
-) -> Result<Ending, Failure<'a>>
-    ensures { Prints O.contents output.old output.new (printed bytes.now ending) result }
-{
-    match write_all(output, bytes) {
-        Ok(()) => Ok(ending),
-        Err(_) => Err(Failure::Output),
     }
 }

@@ -3,15 +3,14 @@ ghost use Rattle.std.specs.Prelude.{◌≡◌, Ok, if◌then◌else◌};
 ghost use Rattle.chip_views.specs.declared.picture.Letters.TheVariants.{Blocks, Plain};
 ghost use Rattle.chip_bench.specs.Doing.{Pictures, PicturesBy, WritesPicture};
 ghost use Rattle.chip_bench.specs.Printing.{printed_picture};
-ghost use Rattle.chip_bench.specs.inner.Written.{IsSomeWritten};
+ghost use Rattle.chip_host.specs.Endings.{IsSomeWritten};
 
-use crate::ending::{Ending, Failure};
-use crate::file_access::FileAccess;
 use crate::opening::open_under;
-use crate::output::{deliver, picture_at, refuse_source};
-use crate::reading::{AskedRun, file_name, read_asked};
-use crate::system::System;
+use crate::output::picture_at;
 use chip_arguments::PictureArguments;
+use chip_host::{
+    AskedRun, Ending, Failure, FileAccess, System, deliver, file_name, read_asked, refuse_source,
+};
 use chip_session::{Bench, Counted, PictureForm};
 use chip_views::Letters;
 use std::io::{Read, Write};

@@ -2,9 +2,9 @@
 ghost use Rattle.std.specs.Prelude.{◌≡◌, false};
 ghost use Rattle.chip_bench.specs.Running.{AnswersScript};
 
-use crate::ending::{Ending, Failure};
 use crate::output::answer_script;
 use chip_asm::Source;
+use chip_host::{Ending, Failure};
 use chip_pages::{page_on, word_pages};
 use chip_session::{Bench, CommandFault, Counted, Nobody, Observer, Refusal, Refused, Settings};
 use std::alloc::Global;

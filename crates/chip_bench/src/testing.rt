@@ -5,14 +5,10 @@ ghost use Rattle.chip_bench.specs.Testing.{IsHindrance, JudgesAll, JudgesCase, J
 use crate::case_report::Report;
 use crate::case_run::{Verdict, run_case};
 use crate::case_setup::{case_keys, case_settings, case_source};
-use crate::ending::{Ending, Failure, TestFault};
-use crate::file_access::FileAccess;
-use crate::limits::TEST_FILE_BYTES;
-use crate::output::print;
-use crate::reading::KeyFile;
-use crate::system::System;
 use chip_arguments::TestArguments;
 use chip_cases::{Case, FileFault, Given, misplaced_refusal, read_cases, updated_text};
+use chip_host::limits::TEST_FILE_BYTES;
+use chip_host::{Ending, Failure, FileAccess, KeyFile, System, TestFault, print};
 use chip_session::Counted;
 use std::io::Write;
 

@@ -2,20 +2,20 @@
 ghost use Rattle.std.specs.Prelude.{◌≡◌, None, IfOk, option_copied, option_map};
 ghost use Rattle.std.specs.Str.Lines.{lines};
 ghost use Rattle.chip_bench.specs.Doing.{ShowsTrace, Traces, shown_by};
-ghost use Rattle.chip_bench.specs.Printing.{Streams, WithSession, printed};
+ghost use Rattle.chip_host.specs.Printing.{Streams, printed, printed_by};
+ghost use Rattle.chip_bench.specs.Printing.{WithSession};
 ghost use Rattle.chip_bench.specs.Tracing.{IsBeside, below_machine, header_of, lines_after, trace_of, trace_refusal};
-ghost use Rattle.chip_bench.specs.declared.ending.Ending.TheVariants.{Done};
-ghost use Rattle.chip_bench.specs.inner.Reads.{printed_by};
+ghost use Rattle.chip_host.specs.declared.ending.Ending.TheVariants.{Done};
 
-use crate::ending::{Ending, Failure};
-use crate::file_access::FileAccess;
-use crate::limits::TRACE_FILE_BYTES;
 use crate::opening::open_under;
-use crate::output::{Answer, deliver, print, refuse_source, unanswered};
-use crate::reading::{AskedRun, read_asked};
-use crate::system::System;
+use crate::output::unanswered;
 use chip_arguments::TraceArguments;
 use chip_files::first_line;
+use chip_host::limits::TRACE_FILE_BYTES;
+use chip_host::{
+    Answer, AskedRun, Ending, Failure, FileAccess, System, deliver, print, read_asked,
+    refuse_source,
+};
 use chip_replay::LAST_STEP;
 use chip_session::{Bench, Counted, Refusal};
 use chip_trace::{Columns, Form, HeaderError, Trace, difference_text, names_machine};

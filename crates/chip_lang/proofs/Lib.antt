@@ -25,7 +25,6 @@ pub mod TokenList
 pub mod NamesUsed
 pub mod NamesBound
 pub mod FormedLine
-pub mod Lookup
 pub mod Misfit
 pub mod FaultSpan
 pub mod Keywords

@@ -1,17 +1,9 @@
 -- What the commands wrote to files, where `wrote` says of bytes that a file took them: nothing says so
 -- but a write that went well (own).
---     IsSomeWritten     some bytes
 --     IsFoundWritten    an image, if there is one
 --     IsImageWritten    the image of a source
---     IsNamedWritten, IsScriptWritten    the file of `explore --keys-to`, where a script was found
 use Rattle.std.specs.Prelude.{◌≡◌, List, ℕ, Option, Some, None}
-use Rattle.std.specs.Borrow.{Bor}
-use Rattle.chip_explore.specs.declared.question.Outcome.{Outcome as SearchOutcome}
-use Rattle.chip_explore.specs.declared.question.Outcome.TheVariants.{Found, Later, Within, Never}
-use Rattle.chip_bench.specs.Doing.{image_in}
-
-abbrev pub IsSomeWritten : (wrote : List ℕ → Type 0) → Type 0
-IsSomeWritten wrote = (bytes : List ℕ) × wrote bytes
+use Rattle.chip_host.specs.Reading.{image_in}
 
 abbrev pub IsFoundWritten : (wrote : List ℕ → Type 0) → Option (List ℕ) → Type 0
 IsFoundWritten wrote None = ⊥
@@ -20,15 +12,3 @@ IsFoundWritten wrote (Some image) = wrote image
 abbrev pub IsImageWritten : (wrote : List ℕ → Type 0) → Type 0
 IsImageWritten wrote =
     (source : List ℕ) × ((image : List ℕ) × (image_in source ≡ Some image) × wrote image)
-
-abbrev pub IsNamedWritten : (wrote : List ℕ → List ℕ → Type 0) → Option (Bor (List ℕ)) → Type 0
-IsNamedWritten wrote None = Unit {0}
-IsNamedWritten wrote (Some name) = IsSomeWritten (wrote name.now)
-
--- whatever was found; without a script there is nothing to write
-abbrev pub IsScriptWritten : (wrote : List ℕ → List ℕ → Type 0) → SearchOutcome
-    → Option (Bor (List ℕ)) → Type 0
-IsScriptWritten wrote (Found events step met) name = IsNamedWritten wrote name
-IsScriptWritten wrote (Later events step met covered) name = IsNamedWritten wrote name
-IsScriptWritten wrote (Within n) name = Unit {0}
-IsScriptWritten wrote Never name = Unit {0}

@@ -3,9 +3,10 @@ use Rattle.std.proofs.Common.{◌∙◌, ap, Err}
 use Rattle.chip_asm.specs.Lines.{lines_of}
 use Rattle.chip_asm.specs.Program.{image_of}
 use Rattle.chip_bench.specs.Doing.{WritesBy}
-use Rattle.chip_bench.specs.Printing.{ending_with, printed_faults}
+use Rattle.chip_host.specs.Printing.{ending_with, printed_faults}
 use Rattle.chip_bench.proofs.DoingLemmas.{assembles_unread}
-use Rattle.chip_bench.proofs.OpenedLemmas.{image_written, not_done, of_opened, of_unopened, writes_short}
+use Rattle.chip_bench.proofs.SessionLemmas.{image_written, not_done, writes_short}
+use Rattle.chip_host.proofs.OpenedLemmas.{of_opened, of_unopened}
 use Rattle.chip_bench.proofs.entry.asm.Goals as goal
 
 pub returns-in_err-bytes-clause-did : goal.returns-in_err-bytes-clause-did

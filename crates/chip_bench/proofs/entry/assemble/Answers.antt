@@ -1,6 +1,6 @@
 use Rattle.std.proofs.Common.{◌≡◌, refl, sym}
-use Rattle.chip_bench.specs.Printing.{printed_faults}
-use Rattle.chip_bench.specs.declared.ending.Ending.TheVariants.{Done, Faulty}
+use Rattle.chip_host.specs.Printing.{printed_faults}
+use Rattle.chip_host.specs.declared.ending.Ending.TheVariants.{Done, Faulty}
 use Rattle.chip_bench.proofs.entry.assemble.Goals as goal
 
 pub returns-in-Some-clause-did : goal.returns-in-Some-clause-did

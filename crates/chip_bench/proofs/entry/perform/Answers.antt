@@ -1,10 +1,10 @@
 use Rattle.std.proofs.lemmas.Result.{err_from_is_err_and}
 use Rattle.std.proofs.Common.{◌≡◌, ◌∙◌, ap, refl, inl, inr, true, Err}
 use Rattle.chip_bench.specs.Doing.{IsUnexplained}
-use Rattle.chip_bench.specs.Printing.{Prints, printed}
-use Rattle.chip_bench.specs.declared.ending.Ending.TheVariants.{Done}
-use Rattle.chip_bench.specs.inner.Reads.{printed_by}
-use Rattle.chip_bench.proofs.DoingLemmas.{does_it, fails, given_else, given_then}
+use Rattle.chip_host.specs.Printing.{Prints, printed, printed_by}
+use Rattle.chip_host.specs.declared.ending.Ending.TheVariants.{Done}
+use Rattle.chip_bench.proofs.DoingLemmas.{does_it}
+use Rattle.chip_host.proofs.ReadingLemmas.{fails, given_else, given_then}
 use Rattle.chip_bench.proofs.entry.perform.Goals as goal
 
 pub returns-in-Debug : goal.returns-in-Debug

@@ -1,8 +1,9 @@
 use Rattle.std.proofs.lemmas.Result.{err_from_is_err_and}
 use Rattle.std.proofs.Common.{◌∙◌, ap, refl, Err}
-use Rattle.chip_bench.specs.Printing.{Prints, printed_run}
+use Rattle.chip_host.specs.Printing.{Prints}
+use Rattle.chip_bench.specs.Printing.{printed_run}
 use Rattle.chip_bench.proofs.DoingLemmas.{runs, runs_not}
-use Rattle.chip_bench.proofs.OpenedLemmas.{unmade_session, with_session, without_session}
+use Rattle.chip_bench.proofs.SessionLemmas.{unmade_session, with_session, without_session}
 use Rattle.chip_bench.proofs.entry.run.Goals as goal
 
 pub returns-in_err-source : goal.returns-in_err-source

@@ -1,8 +1,9 @@
 use Rattle.std.proofs.lemmas.Result.{err_from_is_err_and}
 use Rattle.std.proofs.Common.{◌∙◌, ap, Err}
-use Rattle.chip_bench.specs.Printing.{Prints, printed_table}
+use Rattle.chip_host.specs.Printing.{Prints}
+use Rattle.chip_bench.specs.Printing.{printed_table}
 use Rattle.chip_bench.proofs.DoingLemmas.{tells_not}
-use Rattle.chip_bench.proofs.OpenedLemmas.{of_opened, of_unopened}
+use Rattle.chip_host.proofs.OpenedLemmas.{of_opened, of_unopened}
 use Rattle.chip_bench.proofs.entry.tell.Goals as goal
 
 pub returns-in_err-bytes : goal.returns-in_err-bytes

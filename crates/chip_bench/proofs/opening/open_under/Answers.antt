@@ -1,5 +1,5 @@
 use Rattle.std.proofs.Common.{inr}
-use Rattle.chip_bench.proofs.OpenedLemmas.{session_is, unmade_is}
+use Rattle.chip_bench.proofs.SessionLemmas.{session_is, unmade_is}
 use Rattle.chip_bench.proofs.opening.open_under.Goals as goal
 
 pub returns-in-Ok-insert_keys-clause-opened : goal.returns-in-Ok-insert_keys-clause-opened

@@ -1,6 +1,6 @@
 use Rattle.chip_session.specs.Pictures.{picture_asked}
-use Rattle.chip_bench.specs.Printing.{printed_faults}
-use Rattle.chip_bench.proofs.OpenedLemmas.{told_why}
+use Rattle.chip_host.specs.Printing.{printed_faults}
+use Rattle.chip_bench.proofs.SessionLemmas.{told_why}
 use Rattle.chip_bench.proofs.output.picture_at.Goals as goal
 
 pub returns-in-Err-clause-answer : goal.returns-in-Err-clause-answer

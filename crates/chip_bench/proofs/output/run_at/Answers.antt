@@ -1,7 +1,7 @@
 use Rattle.chip_session.specs.Answers.{answer_to}
 use Rattle.chip_session.specs.declared.question.Question.TheVariants.{Registers, Screen}
-use Rattle.chip_bench.specs.Printing.{printed_faults}
-use Rattle.chip_bench.proofs.OpenedLemmas.{told_first, told_second}
+use Rattle.chip_host.specs.Printing.{printed_faults}
+use Rattle.chip_bench.proofs.SessionLemmas.{told_first, told_second}
 use Rattle.chip_bench.proofs.output.run_at.Goals as goal
 
 pub returns-in-Err : goal.returns-in-Err

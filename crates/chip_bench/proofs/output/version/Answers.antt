@@ -1,7 +1,7 @@
 use Rattle.std.proofs.Common.{List, ℕ, codes, ap}
-use Rattle.chip_bench.specs.Printing.{printed}
+use Rattle.chip_host.specs.Printing.{printed}
 use Rattle.chip_arguments.specs.declared.commands.TheConstants.{VERSION}
-use Rattle.chip_bench.specs.declared.ending.Ending.TheVariants.{Done}
+use Rattle.chip_host.specs.declared.ending.Ending.TheVariants.{Done}
 use Rattle.chip_bench.proofs.DoingLemmas.{three_parts}
 use Rattle.chip_bench.proofs.output.version.Goals as goal
 

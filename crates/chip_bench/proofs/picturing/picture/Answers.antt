@@ -1,7 +1,7 @@
 use Rattle.std.proofs.lemmas.Result.{err_from_is_err_and}
 use Rattle.std.proofs.Common.{◌∙◌, ap, refl, Err}
 use Rattle.chip_bench.proofs.DoingLemmas.{Pictured, pictures, pictures_not}
-use Rattle.chip_bench.proofs.OpenedLemmas.{unmade_session, with_session, without_session}
+use Rattle.chip_bench.proofs.SessionLemmas.{unmade_session, with_session, without_session}
 use Rattle.chip_bench.proofs.picturing.picture.Goals as goal
 
 pub returns-in_err-source : goal.returns-in_err-source

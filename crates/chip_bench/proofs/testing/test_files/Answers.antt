@@ -1,7 +1,7 @@
 use Rattle.std.proofs.Common.{◌≡◌, ◌∙◌, ◌+◌, ◌&&◌, ap, subst, sym}
 use Rattle.std.specs.Prelude.{if◌then◌else◌}
 use Rattle.chip_bench.specs.Testing.{JudgesFile}
-use Rattle.chip_bench.specs.declared.ending.Ending.TheVariants.{Done, Faulty}
+use Rattle.chip_host.specs.declared.ending.Ending.TheVariants.{Done, Faulty}
 use Rattle.chip_bench.proofs.TestLemmas.{JudgesSoFar, judges_all, judges_any}
 use Rattle.chip_bench.proofs.testing.test_files.Goals as goal
 use Rattle.chip_bench.proofs.testing.test_files.Goals.{then-has_passed, else-has_passed, then-has_passed-2, else-has_passed-2}

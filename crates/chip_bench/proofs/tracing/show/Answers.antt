@@ -1,9 +1,10 @@
 use Rattle.std.proofs.Common.{◌∙◌, sym}
 use Rattle.std.specs.Prelude.{option_copied, option_map}
 use Rattle.std.specs.Str.Lines.{lines}
-use Rattle.chip_bench.specs.Printing.{printed_faults, unanswered}
+use Rattle.chip_host.specs.Printing.{printed_faults}
+use Rattle.chip_bench.specs.Printing.{unanswered}
 use Rattle.chip_bench.specs.Tracing.{IsBeside}
-use Rattle.chip_bench.proofs.OpenedLemmas.{delivers_such}
+use Rattle.chip_host.proofs.OpenedLemmas.{delivers_such}
 use Rattle.chip_bench.proofs.TraceLemmas.{refused_trace}
 use Rattle.chip_bench.proofs.tracing.show.Goals as goal
 

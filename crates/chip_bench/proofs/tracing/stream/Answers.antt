@@ -2,11 +2,11 @@ use Rattle.std.proofs.Common.{rules, ◌≡◌, ◌∙◌, ap, subst, refl, Err,
 use Rattle.std.proofs.lemmas.Result.{err_from_is_err_and}
 use Rattle.chip_trace.specs.Form.{header_lines}
 use Rattle.chip_trace.specs.Lines.{newline_ended, trace_lines}
-use Rattle.chip_bench.specs.Printing.{Prints, printed}
+use Rattle.chip_host.specs.Printing.{Prints, printed}
 use Rattle.chip_session.specs.Answers.{machine_of}
 use Rattle.chip_bench.specs.Tracing.{trace_of}
-use Rattle.chip_bench.specs.declared.ending.Ending.TheVariants.{Done}
-use Rattle.chip_bench.specs.declared.ending.Failure.TheVariants as failure
+use Rattle.chip_host.specs.declared.ending.Ending.TheVariants.{Done}
+use Rattle.chip_host.specs.declared.ending.Failure.TheVariants as failure
 use Rattle.chip_bench.proofs.TraceLemmas.{fewer_left, none_left, short, stream_adds, stream_ends, stream_fails, stream_starts, stream_writes}
 use Rattle.chip_bench.proofs.tracing.stream.Goals as goal
 

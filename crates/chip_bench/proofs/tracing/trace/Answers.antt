@@ -5,12 +5,13 @@ use Rattle.chip_trace.specs.Header.{header_fault}
 use Rattle.chip_trace.specs.declared.form.Form.TheVariants.{Fields}
 use Rattle.chip_bench.specs.Doing.{ShowsTrace, TracesBeside, shown_by}
 use Rattle.chip_bench.specs.Printing.{WithSession}
-use Rattle.chip_bench.specs.Running.{IsUnreadWithin}
+use Rattle.chip_host.specs.Endings.{IsUnreadWithin}
 use Rattle.chip_bench.specs.Tracing.{below_machine, header_of, lines_after}
-use Rattle.chip_bench.specs.declared.ending.Failure.TheVariants as failure
-use Rattle.chip_bench.specs.declared.limits.TheConstants.{TRACE_FILE_BYTES}
+use Rattle.chip_host.specs.declared.ending.Failure.TheVariants as failure
+use Rattle.chip_host.specs.declared.limits.TheConstants.{TRACE_FILE_BYTES}
 use Rattle.chip_bench.specs.declared.tracing.Shown.{Shown}
-use Rattle.chip_bench.proofs.DoingLemmas.{fails, traces, traces_not}
+use Rattle.chip_host.proofs.ReadingLemmas.{fails}
+use Rattle.chip_bench.proofs.DoingLemmas.{traces, traces_not}
 use Rattle.chip_bench.proofs.tracing.trace.Goals as goal
 
 pub returns-in_err-asked : goal.returns-in_err-asked

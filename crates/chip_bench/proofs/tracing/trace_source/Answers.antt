@@ -3,7 +3,7 @@ use Rattle.std.proofs.Common.{◌∙◌, ap, refl, Err}
 use Rattle.std.specs.Prelude.{option_copied, option_map}
 use Rattle.std.specs.Str.Lines.{lines}
 use Rattle.chip_bench.specs.Doing.{ShowsTrace}
-use Rattle.chip_bench.proofs.OpenedLemmas.{unmade_session, with_session, without_session}
+use Rattle.chip_bench.proofs.SessionLemmas.{unmade_session, with_session, without_session}
 use Rattle.chip_bench.proofs.tracing.trace_source.Goals as goal
 
 pub returns-in_err-opened : goal.returns-in_err-opened

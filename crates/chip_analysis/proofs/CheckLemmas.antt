@@ -1,0 +1,140 @@
+-- What `check` did with sources, one after another.
+use Rattle.std.proofs.Common.{◌≡◌, ◌⊎◌, inl, inr, ℕ, suc, ◌+◌, ◌<◌, ◌≤◌, ◌==◌, Bool, List, ◌∷◌, drop, length, get_or, Option, Some, None, Result, Ok, Err, IfErr, IfOk, refl, sym, ◌∙◌, ap, subst, add-one, drop-cons}
+use Rattle.std.proofs.lemmas.List.{drop_all}
+use Rattle.std.specs.Borrow.{Bor}
+use Rattle.std.specs.Prelude.{IsErr, option_copied}
+use Rattle.chip_asm.specs.Lines.{lines_of, open_fault}
+use Rattle.chip_asm.specs.Program.{image_of}
+use Rattle.chip_asm.specs.declared.refusal.OpenError.{OpenError}
+use Rattle.chip_asm.specs.declared.refusal.OpenError.TheVariants as unopened
+use Rattle.chip_session.specs.Tally.{Tally}
+use Rattle.chip_arguments.specs.declared.command_line.CheckArguments.{CheckArguments}
+use Rattle.chip_analysis.specs.Exploring.{AsksSet, warning_named}
+use Rattle.chip_analysis.specs.Commands.{Checks, ChecksEach, ChecksOne, IsBadSet}
+use Rattle.chip_host.specs.Reading.{GivesSource, IsSourceUnread}
+use Rattle.chip_host.specs.Endings.{Outcome}
+use Rattle.chip_analysis.specs.Checking.{paints, with_ending, worse, IsCheckText, IsPrintedCheckOf, unopened_check}
+use Rattle.chip_host.specs.Printing.{Printed, Prints, PrintsSuch, ending_with, printed, printed_by}
+use Rattle.chip_host.specs.declared.printing.Answer.{Answer}
+use Rattle.chip_host.specs.declared.ending.Ending.{Ending}
+use Rattle.chip_host.specs.declared.ending.Ending.TheVariants.{Done, Faulty, Short}
+use Rattle.chip_host.specs.declared.ending.Failure.{Failure}
+use Rattle.chip_host.specs.declared.ending.Failure.TheVariants as failure
+use Rattle.chip_host.proofs.ReadingLemmas.{declines, source_unread}
+use Rattle.chip_host.proofs.OpenedLemmas.{delivers_such, false_is_true}
+
+done_first : (later : Outcome) → with_ending Done later ≡ later
+done_first (Ok ending) = refl
+done_first (Err why) = refl
+
+done_last : (ending : Ending) → worse ending Done ≡ ending
+done_last Done = refl
+done_last Faulty = refl
+done_last Short = refl
+
+one_after_another : (first second : Ending) (later : Outcome) → with_ending first (with_ending second later) ≡ with_ending (worse first second) later
+one_after_another Done second later = done_first (with_ending second later)
+one_after_another Faulty second (Ok later) = refl
+one_after_another Faulty second (Err why) = refl
+one_after_another Short second (Ok later) = refl
+one_after_another Short second (Err why) = refl
+
+module _ (is_json is_painted is_alone : Bool) (name bytes : List ℕ) where
+  -- what is found in a source that opens
+  pub found_opened : (lines : List (List ℕ)) (wanted : Printed) → open_fault bytes ≡ None → lines ≡ lines_of bytes →
+      IsCheckText is_json is_painted name lines wanted.text × (wanted.ending ≡ ending_with (image_of lines)) → IsPrintedCheckOf is_json is_painted is_alone name (open_fault bytes) (lines_of bytes) wanted
+  found_opened lines wanted opens are is = rw (opens, sym are) is
+
+  -- or why it doesn't
+  pub found_unopened : {E : Type 0} (error : OpenError) (answer : Result Answer E) → (error ≡ unopened.OutOfMemory) ⊎ (open_fault bytes ≡ Some error) →
+      IfOk answer (λ given. printed_by given ≡ printed (unopened_check is_json is_alone name error) Faulty) → (error ≡ unopened.OutOfMemory → IsErr answer) →
+      IfOk answer (λ given. IsPrintedCheckOf is_json is_painted is_alone name (open_fault bytes) (lines_of bytes) (printed_by given))
+  found_unopened error (Ok given) (inl memory) told short = absurd (false_is_true (short memory))
+  found_unopened error (Ok given) (inr fault) told short = rw fault told
+  found_unopened error (Err e) why told short = tt
+
+module _ {R W : Type 0} (remaining : R → Option (List ℕ)) (contents : W → Option (List ℕ)) (is_json is_painted is_alone : Bool) where
+  abbrev Each : List (Bor (List ℕ)) → Tally R → Tally R → Tally W → Tally W → Outcome → Type 0
+  Each = ChecksEach remaining contents is_json is_painted is_alone
+
+  abbrev One : Bor (List ℕ) → Tally R → Tally R → Tally W → Tally W → Outcome → Type 0
+  One = ChecksOne remaining contents is_json is_painted is_alone
+
+  module _ (in_old in_new : Tally R) (out_old out_new : Tally W) (name : Bor (List ℕ)) (bytes text : List ℕ) (ended : Outcome) (same : text ≡ bytes)
+      (gives : GivesSource remaining in_old in_new name.now bytes) where
+    of_text : PrintsSuch contents out_old out_new (IsPrintedCheckOf is_json is_painted is_alone name.now (open_fault text) (lines_of text)) ended →
+        One name in_old in_new out_old out_new ended
+    of_text such = inl (
+      bytes,
+      gives,
+      subst (λ (t : List ℕ). PrintsSuch contents out_old out_new (IsPrintedCheckOf is_json is_painted is_alone name.now (open_fault t) (lines_of t)) ended) same such,
+    )
+
+    -- what is found in it is printed; what reading it came to gives its name
+    pub one_found : {T E : Type 0} (read : Result T Failure) (shown : List ℕ) (answer : Result Answer E) → IfErr read (IsSourceUnread in_old in_new name) → shown ≡ name.now →
+        IfOk answer (λ given. IsPrintedCheckOf is_json is_painted is_alone shown (open_fault text) (lines_of text) (printed_by given)) →
+        ((wanted : Printed) → IfOk answer (λ given. printed_by given ≡ wanted) → Prints contents out_old out_new wanted ended) →
+        IfErr answer (λ e. (ended ≡ Err failure.OutOfMemory) × (out_new ≡ out_old)) → One name in_old in_new out_old out_new ended
+    one_found {T} {E} read shown answer unread called found prints short =
+        of_text
+        (delivers_such contents out_old out_new answer (IsPrintedCheckOf is_json is_painted is_alone name.now (open_fault text) (lines_of text)) ended
+        (subst (λ (n : List ℕ). IfOk answer (λ given. IsPrintedCheckOf is_json is_painted is_alone n (open_fault text) (lines_of text) (printed_by given))) called found)
+        prints short)
+
+  -- a source that can't be read
+  pub one_unread : (in_old in_new : Tally R) (output : Tally W) (name : Bor (List ℕ)) (ended : Outcome) (why : Failure) → ended ≡ Err why →
+      IsSourceUnread in_old in_new name why → One name in_old in_new output output ended
+  one_unread in_old in_new output name ended why e w =
+      source_unread remaining in_old in_new (output ≡ output) refl name
+      (λ bytes. PrintsSuch contents output output (IsPrintedCheckOf is_json is_painted is_alone name.now (open_fault bytes) (lines_of bytes))) ended why e w
+
+  module _ (names : List (Bor (List ℕ))) (in_old : Tally R) (out_old : Tally W) where
+    -- what was done with all of them, by what is done with those that are left
+    abbrev pub ChecksSoFar : ℕ → Tally R → Tally W → Ending → Type 0
+    ChecksSoFar place in_mid out_mid ending =
+        (in_new : Tally R) (out_new : Tally W) (later : Outcome) → Each (drop place names) in_mid in_new out_mid out_new later →
+        Each names in_old in_new out_old out_new (with_ending ending later)
+
+    pub checks_none : ChecksSoFar 0 in_old out_old Done
+    checks_none in_new out_new later left = subst (Each names in_old in_new out_old out_new) (sym (done_first later)) left
+
+    next_left : (place : ℕ) (name nothing : Bor (List ℕ)) → place < length names → name ≡ get_or names place nothing →
+        drop place names ≡ name ∷ drop (place + 1) names
+    next_left place name nothing within is =
+        drop-cons names place nothing within ∙ ap (λ n. n ∷ drop (suc place) names) (sym is) ∙ ap (λ n. name ∷ drop n names) (sym (add-one place))
+
+    module _ (place : ℕ) (name nothing : Bor (List ℕ)) (in_mid in_next : Tally R) (out_mid out_next : Tally W) (ending : Ending)
+        (within : place < length names) (is : name ≡ get_or names place nothing) (so_far : ChecksSoFar place in_mid out_mid ending) where
+      pub checks_more : (one : Ending) → One name in_mid in_next out_mid out_next (Ok one) → ChecksSoFar (place + 1) in_next out_next (worse ending one)
+      checks_more one did in_new out_new later left =
+          subst (Each names in_old in_new out_old out_new) (one_after_another ending one later)
+          (so_far in_new out_new (with_ending one later)
+          (subst (λ these. Each these in_mid in_new out_mid out_new (with_ending one later)) (sym (next_left place name nothing within is))
+          (in_next, out_next, Ok one, did, (later, left, refl))))
+
+      -- one of them ends it
+      pub checks_stop : (why : Failure) → One name in_mid in_next out_mid out_next (Err why) → Each names in_old in_next out_old out_next (Err why)
+      checks_stop why did =
+          so_far in_next out_next (Err why)
+          (subst (λ these. Each these in_mid in_next out_mid out_next (Err why)) (sym (next_left place name nothing within is))
+          (in_next, out_next, Err why, did, ((refl, refl), refl)))
+
+    pub checks_all : (place : ℕ) (in_new : Tally R) (out_new : Tally W) (ending : Ending) → length names ≤ place → ChecksSoFar place in_new out_new ending →
+        Each names in_old in_new out_old out_new (Ok ending)
+    checks_all place in_new out_new ending past so_far =
+        subst (Each names in_old in_new out_old out_new) (ap (λ e. Ok e) (done_last ending))
+        (so_far in_new out_new (Ok Done) (subst (λ these. Each these in_new in_new out_new out_new (Ok Done)) (sym (drop_all place names past)) (refl, refl, refl)))
+
+module _ {R W : Type 0} (remaining : R → Option (List ℕ)) (contents : W → Option (List ℕ)) where
+  -- the argument for warnings names none
+  pub checks_bad : (input : Tally R) (output : Tally W) (takes_color : Bool) (arguments : CheckArguments) (ended : Outcome) (why : Failure) → ended ≡ Err why →
+      IsBadSet why → AsksSet warning_named 0 (option_copied arguments.allowed) None → Checks remaining contents input input output output takes_color arguments ended
+  checks_bad input output takes_color arguments ended why e bad asks =
+      (None, asks, declines remaining input input (output ≡ output) refl IsBadSet ended why e bad refl)
+
+  pub checks : (in_old in_new : Tally R) (out_old out_new : Tally W) (takes_color : Bool) (arguments : CheckArguments) (set : ℕ) (painted alone : Bool)
+      (names : List (Bor (List ℕ))) (ended : Outcome) → AsksSet warning_named 0 (option_copied arguments.allowed) (Some set) →
+      painted ≡ paints arguments.color takes_color → alone ≡ (length arguments.sources.items == 1) → names ≡ arguments.sources.items →
+      ChecksEach remaining contents arguments.is_json painted alone names in_old in_new out_old out_new ended →
+      Checks remaining contents in_old in_new out_old out_new takes_color arguments ended
+  checks in_old in_new out_old out_new takes_color arguments set painted alone names ended asks p a n did = (Some set, asks, rw (sym p, sym a, sym n) did)

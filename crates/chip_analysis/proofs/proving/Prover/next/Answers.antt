@@ -1,0 +1,32 @@
+use Rattle.std.proofs.Common.{arith, ◌≡◌, ◌∙◌, ap, sym, subst, length}
+use Rattle.chip_explore.specs.declared.property.Property.{Property}
+use Rattle.chip_analysis.specs.Proving.{IsForeseen}
+use Rattle.chip_analysis.specs.inner.Proofs.{met_property}
+use Rattle.chip_analysis.proofs.NextLemmas.{Rights, is_foreseen, is_the_can, others_next, property_is, property_there}
+use Rattle.chip_analysis.proofs.PropertiesLemmas.{same_count}
+use Rattle.chip_analysis.proofs.proving.Prover.next.Goals as goal
+
+pub returns-in-Some-clause-right : goal.returns-in-Some-clause-right
+returns-in-Some-clause-right g c = λ asked is one there.
+    let p = c.args.self.now in
+    let explored = c.foresee-explored.result in
+    let left = c.args.left.now in
+    let property : c.index.result.now ≡ one.property =
+    property_is left.properties.items c.in-Some.place one.property c.index.result.now (property_there asked left is c.in-Some.place one there) c.index.ensures in
+    is_foreseen p.arguments.now p.rate p.keys p.start.now explored one (is_the_can asked left is c.in-Some.place one (sym c.in-Some.ensures) there)
+    c.foresee-explored.ensures.speed
+    (subst (λ (property : Property). IsForeseen p.rate p.keys property p.start.now explored.outcome) property c.foresee-explored.ensures.foreseen)
+
+pub returns-clause-right : goal.returns-clause-right
+returns-clause-right g c = λ asked is.
+    let p = c.args.self.now in
+    let left = c.args.left.now in
+    let explored = c.search-explored.result in
+    let rights : Rights p.arguments.now p.rate p.keys p.start.now left.properties.items explored =
+    subst (λ ps. Rights p.arguments.now p.rate p.keys p.start.now ps explored) c.deref.ensures.value
+    (record { answers = c.search-explored.ensures.answers; any_speed = c.search-explored.ensures.any_speed }) in
+    let count : c.len.result ≡ length left.heads.items = omega (arith, left.heads.ok.0, c.len.ensures) in
+    let long : length c.deref.result.now ≡ length left.heads.items = ap length c.deref.ensures.value ∙ same_count asked left is in
+    others_next p.arguments.now p.rate p.keys p.start.now asked left _ is rights (sym c.in_default.ensures)
+    (λ none. c.search-explored.ensures.met (ap (met_property explored.outcome) long ∙ none))
+    (c.met_property-place.ensures ∙ ap (met_property explored.outcome) count)

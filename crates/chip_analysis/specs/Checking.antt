@@ -1,0 +1,56 @@
+-- What `check` prints of a source (own).
+--     IsCheckText, unopened_check, IsPrintedCheckOf    what is printed of a source, or why it doesn't open
+--     worse, with_ending             how a list of sources ends
+--     paints                         whether what is printed has colours
+use Rattle.std.specs.Prelude.{◌≡◌, ℕ, Bool, true, false, List, ◌++◌, codes, Option, Some, None, Ok, Err}
+use Rattle.chip_asm.specs.Program.{image_of}
+use Rattle.chip_asm.specs.declared.refusal.OpenError.{OpenError}
+use Rattle.chip_check.specs.Check.{IsChecked}
+use Rattle.chip_check.specs.Json.{IsCheckJson, unopened_object}
+use Rattle.chip_host.specs.declared.ending.Ending.{Ending}
+use Rattle.chip_host.specs.declared.ending.Ending.TheVariants.{Done, Faulty}
+use Rattle.chip_host.specs.Printing.{Printed, printed, unopened_text, ending_with}
+use Rattle.std.specs.Str.Lines.{lines}
+use Rattle.chip_arguments.specs.declared.command_line.ColorChoice.{ColorChoice}
+use Rattle.chip_arguments.specs.declared.command_line.ColorChoice.TheVariants as color
+use Rattle.chip_host.specs.Endings.{Outcome}
+
+-- what `check` prints: text, in colours or without, or JSON objects
+abbrev pub IsCheckText : (is_json is_painted : Bool) → (name : List ℕ) (lines : List (List ℕ))
+    → (text : List ℕ) → Type 0
+IsCheckText false is_painted name lines text = IsChecked is_painted name lines text
+IsCheckText true is_painted name lines text = IsCheckJson name lines text
+
+-- why a source doesn't open, as `check` prints it: where it is one of several, after its name; as JSON
+-- an object
+abbrev pub unopened_check : (is_json is_alone : Bool) → (name : List ℕ) → OpenError → List ℕ
+unopened_check false true name fault = unopened_text fault
+unopened_check false false name fault = name ++ codes ": " ++ unopened_text fault
+unopened_check true is_alone name fault = unopened_object name fault
+
+-- what `check` prints of a source: why it doesn't open, where it doesn't; else the reports of the
+-- faults, with lines of help among them, and then warnings
+abbrev pub IsPrintedCheckOf : (is_json is_painted is_alone : Bool) → (name : List ℕ)
+    → Option OpenError → (lines : List (List ℕ)) → Printed → Type 0
+IsPrintedCheckOf is_json is_painted is_alone name (Some fault) lines wanted =
+    wanted ≡ printed (unopened_check is_json is_alone name fault) Faulty
+IsPrintedCheckOf is_json is_painted is_alone name None lines wanted =
+    IsCheckText is_json is_painted name lines wanted.text
+    × (wanted.ending ≡ ending_with (image_of lines))
+
+-- the worse of two endings: faulty where one of them is
+abbrev pub worse : Ending → Ending → Ending
+worse Done later = later
+worse ending later = ending
+
+-- sources one after another end as the worst of them, or with what hinders a later one
+abbrev pub with_ending : Ending → Outcome → Outcome
+with_ending ending (Ok later) = Ok (worse ending later)
+with_ending ending (Err why) = Err why
+
+-- whether what is printed has colours: where the arguments leave that open, whether the output
+-- takes them
+abbrev pub paints : ColorChoice → (takes_color : Bool) → Bool
+paints color.Auto takes_color = takes_color
+paints color.Always takes_color = true
+paints color.Never takes_color = false

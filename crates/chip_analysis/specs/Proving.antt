@@ -1,0 +1,119 @@
+-- What `prove` prints of the properties that a source states (own).
+--     is_asked, asked_of, has_faults, unstated_line    which properties of a source are asked for,
+--                        whether one of them can't be read, and the line that is named without one
+--     text_at            the text of the property of a line
+--     looks_for          a search that looks for a property alone
+--     IsForeseen, AnswersKind    whether the answer to a `can` holds; whether that to any property does
+--     Answered, IsRight  a property with an answer; that the answer holds
+--     proof_ending       how the program ends after the answers
+--     IsProofPrinted     what is printed of properties that are answered
+use Rattle.std.specs.Prelude.{◌≡◌, ℕ, ◌==◌, ◌||◌, Bool, true, false, List, [], ◌∷◌, ◌++◌, filter, map, Option, Some, None, unwrap_or, if◌then◌else◌}
+use Rattle.std.specs.List.{All, flat_map, list_any}
+use Rattle.std.specs.List.Sorted.{IsPermutation}
+use Rattle.chip_arguments.specs.declared.command_line.ProveArguments.{ProveArguments}
+use Rattle.chip_asm.specs.LineViews.{LineFacts, line_at}
+use Rattle.chip_check.specs.Answer.{answer_text, is_bad}
+use Rattle.chip_explore.specs.Answers.{Answers}
+use Rattle.chip_explore.specs.Prospects.{Foresees, outcome_of}
+use Rattle.chip_explore.specs.Speeds.{NeverAtAnySpeed}
+use Rattle.chip_explore.specs.declared.prospect.Prospect.{Prospect}
+use Rattle.chip_explore.specs.declared.property.Property.{Property}
+use Rattle.chip_explore.specs.declared.target.Target.{Target}
+use Rattle.chip_machine.specs.State.{State}
+use Rattle.chip_properties.specs.Lines.{property_text_of}
+use Rattle.chip_properties.specs.declared.fault.PropertyFault.{PropertyFault}
+use Rattle.chip_properties.specs.declared.stated.Stated.{Stated}
+use Rattle.chip_host.specs.Printing.{Printed}
+use Rattle.chip_host.specs.declared.ending.Ending.{Ending}
+use Rattle.chip_host.specs.declared.ending.Ending.TheVariants.{Done, Faulty, Short}
+use Rattle.chip_explore.specs.declared.question.Outcome.{Outcome}
+use Rattle.chip_properties.specs.declared.stated.Kind.{Kind}
+use Rattle.chip_properties.specs.declared.stated.Kind.TheVariants as kind
+
+-- the property of a line is asked for: of each one, unless a line is named
+abbrev pub is_asked : (only : Option ℕ) → (line : ℕ) → Bool
+is_asked None line = true
+is_asked (Some only) line = only == line
+
+abbrev pub asked_of : (only : Option ℕ) → List Stated → List Stated
+asked_of only stated = filter (λ one. is_asked only one.line) stated
+
+abbrev pub has_faults : (only : Option ℕ) → List PropertyFault → Bool
+has_faults only faults = list_any (λ fault. is_asked only fault.line) faults
+
+-- the line that is named, where it states no property
+abbrev pub unstated_line : (only : Option ℕ) → (asked : List Stated) → (has_faults : Bool) → Option ℕ
+unstated_line only [] false = only
+unstated_line only asked has_faults = None
+
+-- the text of the property of a line, if there is such a line
+abbrev pub stated_text : Option LineFacts → List ℕ
+stated_text None = []
+stated_text (Some line) = unwrap_or (property_text_of line.text) []
+
+abbrev pub text_at : (lines : List (List ℕ)) → (number : ℕ) → List ℕ
+text_at lines number = stated_text (line_at lines number)
+
+-- no stop and no address
+abbrev pub looks_for : Property → Target
+looks_for property = record {
+  causes = 0;
+  address = None;
+  properties = record { ref_ptr = (0, 0); now = property ∷ [] };
+}
+
+-- a property, an answer, whether that is said of all speeds, and whether memory ran out in its search
+pub record Answered : Type 0 where
+  pub stated : Stated
+  pub outcome : Outcome
+  pub is_at_any_speed : Bool
+  pub is_short : Bool
+
+-- an outcome says whether the property can be met from everywhere
+pub record IsForeseen (rate keys : ℕ) (property : Property) (start : State) (outcome : Outcome) : Type 0 where
+  pub prospect : Prospect
+  pub is : outcome ≡ outcome_of prospect
+  pub foreseen : Foresees rate keys (property ∷ []) start prospect
+
+-- the answer to a property of a kind
+abbrev pub AnswersKind : Kind → (rate keys : ℕ) → Property → State → Outcome → Type 0
+AnswersKind kind.Can rate keys property start outcome = IsForeseen rate keys property start outcome
+AnswersKind kind rate keys property start outcome =
+    Answers rate keys (looks_for property) start outcome
+
+-- the answer holds, and so does what is said of all speeds
+pub record IsRight (rate keys : ℕ) (start : State) (one : Answered) : Type 0 where
+  pub answers : AnswersKind one.stated.kind rate keys one.stated.property start one.outcome
+  pub any_speed : one.is_at_any_speed ≡ true
+      → NeverAtAnySpeed keys (looks_for one.stated.property) start
+
+-- what is printed of an answer to a property of these lines
+abbrev pub printed_answer : ProveArguments → (lines : List (List ℕ)) → Answered → List ℕ
+printed_answer arguments lines one =
+    answer_text arguments.is_json arguments.search.source.now one.stated.line
+    (text_at lines one.stated.line) one.stated.kind one.is_at_any_speed one.outcome
+
+abbrev pub has_bad : List Answered → Bool
+has_bad given = list_any (λ one. is_bad one.stated.kind one.outcome) given
+
+abbrev pub has_short : List Answered → Bool
+has_short given = list_any (λ one. one.is_short) given
+
+-- memory that ran out comes before what is bad
+abbrev pub proof_ending : (is_short is_bad : Bool) → Ending
+proof_ending is_short is_bad = if is_short then Short else (if is_bad then Faulty else Done)
+
+-- Some of the properties have these answers, and the others are left.
+pub record AreAnswered (rate keys : ℕ) (start : State) (asked : List Stated)
+    (given : List Answered) (left : List Stated) : Type 0 where
+  pub all : IsPermutation asked (map (λ one. one.stated) given ++ left)
+  pub right : All (IsRight rate keys start) given
+
+-- What is printed of these answers: before them reports of what can't be read, after them how many
+-- states the searches kept; of both no contract speaks.
+pub record IsProofPrinted (arguments : ProveArguments) (lines : List (List ℕ)) (is_faulty : Bool)
+    (given : List Answered) (wanted : Printed) : Type 0 where
+  pub reports : List ℕ
+  pub others : List ℕ
+  pub text : wanted.text ≡ reports ++ (flat_map (printed_answer arguments lines) given ++ others)
+  pub ending : wanted.ending ≡ proof_ending (has_short given) (is_faulty || has_bad given)

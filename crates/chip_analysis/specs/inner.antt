@@ -1,0 +1,6 @@
+-- What private contracts say: the sets that arguments ask for, what `check --cover` takes as executed,
+-- what `explore` wrote to a file, and what `prove` tells.
+pub mod Sets
+pub mod Covering
+pub mod Written
+pub mod Proofs

@@ -1,0 +1,39 @@
+-- What `check --cover` takes as executed (own).
+--     covered_step    the step up to which a search tells what is executed, or none where it tells so
+--                     of all steps
+--     IsCoverage      under no key script is a step made at another address than these, up to a step,
+--                     or at any step below the end
+--     IsCovered       that of a source's machine, where it is asked for and the source has an image
+use Rattle.std.specs.Prelude.{◌≡◌, ℕ, ◌<◌, ◌-◌, Bool, true, false, List, [], ◌∷◌, Option, Some, None}
+use Rattle.chip_arguments.specs.SettingArguments.{default_arguments}
+use Rattle.chip_explore.specs.Executed.{StaysAmong}
+use Rattle.chip_explore.specs.declared.limits.TheConstants.{END}
+use Rattle.chip_explore.specs.declared.question.Outcome.{Outcome}
+use Rattle.chip_explore.specs.declared.question.Outcome.TheVariants.{Found, Later, Within, Never}
+use Rattle.chip_machine.specs.Start.{start_of}
+use Rattle.chip_machine.specs.State.{State}
+use Rattle.chip_machine.specs.declared.quirks.Quirks.{Quirks}
+use Rattle.chip_analysis.specs.Exploring.{usual_keys}
+use Rattle.chip_analysis.specs.declared.covering.Covered.{Covered}
+
+abbrev pub covered_step : Outcome → Option ℕ
+covered_step (Found events step met) = Some (step - 1)
+covered_step (Later events step met covered) = Some covered
+covered_step (Within n) = Some n
+covered_step Never = None
+
+abbrev pub IsCoverage : (rate keys : ℕ) → (executed : List Bool) → State → (within : Option ℕ) → Type 0
+IsCoverage rate keys executed start (Some n) = StaysAmong rate keys executed start n
+IsCoverage rate keys executed start None =
+    (n : ℕ) → n < END → StaysAmong rate keys executed start n
+
+-- what `check` takes as executed: nothing, unless it is asked for and there is an image; then that of
+-- its machine with these quirks, with the tape 00 and the usual rate, for all keys
+abbrev pub IsCovered : (is_covering : Bool) → Quirks → (image : Option (List ℕ)) → Option Covered
+    → Type 0
+IsCovered true quirks (Some image) (Some covered) =
+    IsCoverage default_arguments.rate usual_keys covered.executed (start_of image (0 ∷ []) quirks)
+    covered.within
+IsCovered true quirks (Some image) None = ⊥
+IsCovered true quirks None covered = covered ≡ None
+IsCovered false quirks image covered = covered ≡ None

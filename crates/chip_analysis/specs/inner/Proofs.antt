@@ -1,0 +1,127 @@
+-- What private contracts of `prove` say (own).
+--     head_of, IsLeft   the properties that aren't answered yet, as the code has them
+--     is_can            whether a property asks whether it can be met from everywhere
+--     missing_line      the line that the arguments name, where no property is asked for
+--     met_property      which of so many properties a search met
+--     IsUnmet           a search met nothing
+--     IsNext            what one search answers is right: of the property at the place, or of all
+--     WritesAll         a text was written; a front of it where a write failed or memory ran out
+--     WritesUpTo        the same, where something else may have hindered the rest
+--     printed_head      what is printed of a property
+--     IsAnswering       what the answers to some properties came to
+use Rattle.std.specs.Prelude.{◌≡◌, ◌⊎◌, ℕ, ◌&&◌, ◌||◌, Bool, true, false, List, [], map, nat_lt, Option, Some, None, MatchOption, Result, Ok, Err, IfOk, IsErrAnd, slice_get, if◌then◌else◌}
+use Rattle.std.specs.List.{flat_map}
+use Rattle.chip_arguments.specs.declared.command_line.ProveArguments.{ProveArguments}
+use Rattle.chip_explore.specs.declared.question.Explored.{Explored}
+use Rattle.chip_explore.specs.declared.question.Outcome.{Outcome}
+use Rattle.chip_explore.specs.declared.question.Outcome.TheVariants.{Found, Later, Within, Never}
+use Rattle.chip_explore.specs.declared.target.Met.{Met}
+use Rattle.chip_explore.specs.declared.target.Met.TheVariants as met
+use Rattle.chip_machine.specs.State.{State}
+use Rattle.chip_properties.specs.declared.stated.Kind.{Kind}
+use Rattle.chip_properties.specs.declared.stated.Kind.TheVariants as kind
+use Rattle.chip_properties.specs.declared.stated.Stated.{Stated}
+use Rattle.chip_session.specs.Tally.{Tally}
+use Rattle.chip_session.specs.Writing.{Breaks, Writes}
+use Rattle.chip_analysis.specs.Commands.{IsScriptUnwritten}
+use Rattle.chip_host.specs.Printing.{WritesFront}
+use Rattle.chip_analysis.specs.Proving.{Answered, AreAnswered, IsRight, has_bad, has_short, printed_answer, text_at}
+use Rattle.chip_check.specs.Answer.{answer_text, is_bad}
+use Rattle.chip_host.specs.declared.ending.Failure.{Failure}
+use Rattle.chip_host.specs.declared.ending.Failure.TheVariants as failure
+use Rattle.chip_analysis.specs.declared.proving.Head.{Head}
+use Rattle.chip_analysis.specs.declared.proving.Left.{Left}
+use Rattle.chip_analysis.specs.declared.proving.Next.{Next}
+use Rattle.chip_analysis.specs.declared.proving.Told.{Told}
+
+abbrev pub head_of : Stated → Head
+head_of one = record { line = one.line; kind = one.kind }
+
+pub record IsLeft (asked : List Stated) (left : Left) : Type 0 where
+  pub heads : left.heads.items ≡ map head_of asked
+  pub properties : left.properties.items ≡ map (λ one. one.property) asked
+
+abbrev pub is_can : Kind → Bool
+is_can kind.Can = true
+is_can kind = false
+
+abbrev pub property_met : Met → (count : ℕ) → Option ℕ
+property_met (met.Property place) count = if nat_lt place count then Some place else None
+property_met other count = None
+
+abbrev pub met_property : Outcome → (count : ℕ) → Option ℕ
+met_property (Found events step met) count = property_met met count
+met_property (Later events step met covered) count = property_met met count
+met_property (Within n) count = None
+met_property Never count = None
+
+-- the line that the arguments name, where no property is asked for
+abbrev pub missing_line : (only : Option ℕ) → (is_empty is_faulty : Bool) → Option ℕ
+missing_line only true false = only
+missing_line only is_empty is_faulty = None
+
+abbrev pub IsUnmet : Outcome → Type 0
+IsUnmet (Within n) = Unit {0}
+IsUnmet Never = Unit {0}
+IsUnmet outcome = ⊥
+
+-- what is printed of the property of a head
+abbrev pub printed_head : ProveArguments → (lines : List (List ℕ)) → Explored → Head → List ℕ
+printed_head arguments lines explored head =
+    answer_text arguments.is_json arguments.search.source.now head.line (text_at lines head.line)
+    head.kind (arguments.search.is_any_speed && explored.is_at_any_speed) explored.outcome
+
+-- the same is printed of two outcomes, of a property of any kind
+pub record IsSameAnswer (a b : Outcome) : Type 0 where
+  pub text : (is_json : Bool) (name : List ℕ) (line : ℕ) (text : List ℕ) (kind : Kind) (is_any : Bool)
+      → answer_text is_json name line text kind is_any a
+      ≡ answer_text is_json name line text kind is_any b
+  pub bad : (kind : Kind) → is_bad kind a ≡ is_bad kind b
+
+-- a property with an outcome of a search
+abbrev pub answered : ProveArguments → Explored → Stated → Outcome → Answered
+answered arguments explored one outcome = record {
+  stated = one;
+  outcome = outcome;
+  is_at_any_speed = arguments.search.is_any_speed && explored.is_at_any_speed;
+  is_short = explored.is_short;
+}
+
+-- what a search for several properties answers of one
+pub record IsAnswered (arguments : ProveArguments) (rate keys : ℕ) (start : State)
+    (explored : Explored) (one : Stated) : Type 0 where
+  pub outcome : Outcome
+  pub right : IsRight rate keys start (answered arguments explored one outcome)
+  pub same : IsSameAnswer outcome explored.outcome
+
+abbrev pub IsNext : ProveArguments → (rate keys : ℕ) → State → (asked : List Stated) → Next → Type 0
+IsNext arguments rate keys start asked next =
+    MatchOption next.place
+    ((k : ℕ) (one : Stated) → slice_get asked k ≡ Some one →
+    IsRight rate keys start (answered arguments next.explored one next.explored.outcome))
+    (λ place. (one : Stated) → slice_get asked place ≡ Some one →
+    IsAnswered arguments rate keys start next.explored one)
+
+module _ {W : Type 0} (contents : W → Option (List ℕ)) (old new : Tally W) where
+  abbrev pub WritesAll : {T : Type 0} → (text : List ℕ) → Result T Failure → Type 0
+  WritesAll text (Ok value) = Writes contents old new text
+  WritesAll text (Err failure.Output) = Breaks contents old new text
+  WritesAll text (Err failure.OutOfMemory) = WritesFront contents old new text
+  WritesAll text (Err _) = ⊥
+
+  abbrev pub WritesUpTo : {T : Type 0} → (Why : Failure → Type 0) → (text : List ℕ)
+      → Result T Failure → Type 0
+  WritesUpTo Why text result =
+      WritesAll text result ⊎ (IsErrAnd result Why × WritesFront contents old new text)
+
+  pub record IsAnswering (arguments : ProveArguments) (lines : List (List ℕ)) (rate keys : ℕ)
+      (start : State) (asked : List Stated) (was_bad was_short : Bool) (result : Result Told Failure)
+      : Type 0 where
+    pub given : List Answered
+    pub left : List Stated
+    pub answered : AreAnswered rate keys start asked given left
+    pub written : WritesUpTo (IsScriptUnwritten arguments.search.keys_to)
+        (flat_map (printed_answer arguments lines) given) result
+    pub whole : IfOk result (λ told. left ≡ [])
+    pub bad : IfOk result (λ told. told.is_bad ≡ (was_bad || has_bad given))
+    pub short : IfOk result (λ told. told.is_short ≡ (was_short || has_short given))

@@ -1,0 +1,212 @@
+//! `check`: the faults of sources with their places, and their warnings.
+ghost use Rattle.std.specs.Prelude.{◌≡◌, IfOk, IsErr, false, true};
+ghost use Rattle.chip_asm.specs.Lines.{lines_of, open_fault};
+ghost use Rattle.chip_asm.specs.Program.{image_of};
+ghost use Rattle.chip_analysis.specs.Commands.{Checks, ChecksEach};
+ghost use Rattle.chip_analysis.specs.Checking.{paints, worse, IsCheckText, IsPrintedCheckOf, unopened_check};
+ghost use Rattle.chip_analysis.specs.inner.Covering.{IsCovered};
+ghost use Rattle.chip_host.specs.Printing.{printed_by, printed};
+
+use crate::covering::Covered;
+use crate::progress::Progress;
+use crate::sets::warnings_of;
+use chip_arguments::{CheckArguments, ColorChoice, SettingArguments};
+use chip_asm::{OpenError, Source};
+use chip_check::{check_json, check_text, unopened_json};
+use chip_explore::Watcher;
+use chip_host::{Answer, Ending, Failure, FileAccess, System, deliver, read_source, unopened_text};
+use chip_machine::Quirks;
+use chip_session::Counted;
+use chip_warnings::{Warning, warnings};
+use std::alloc::{AllocError, Global};
+use std::io::{Read, Write};
+use std::time::Clock;
+
+/// How sources are checked, and how what is found in them is printed.
+#[derive(Clone, Copy)]
+pub(crate) struct Checker {
+    /// The warnings that are not printed, Wk at bit k.
+    allowed: u16,
+    quirks: Quirks,
+    /// Whether JSON objects are printed, and not text.
+    is_json: bool,
+    /// Whether the text has colours.
+    is_painted: bool,
+    /// Whether there is no other source.
+    is_alone: bool,
+    /// Whether each source is searched for instructions that no key script executes.
+    is_covering: bool,
+}
+
+/// `check`: what is found in each of the sources, one after another. The warnings that are allowed
+/// are judged before the first is read, and a source that can't be read ends the check.
+pub fn check<'a, F: FileAccess + Clock, I: Read, O: Write, E: Write>(
+    system: &System<'_, F>,
+    arguments: &CheckArguments<'a>,
+    input: &mut Counted<I>,
+    output: &mut Counted<O>,
+    errors: &mut E,
+) -> Result<Ending, Failure<'a>>
+    ensures { Checks I.remaining O.contents input.old input.new output.old output.new
+        system.now.host.takes_color arguments.now result }
+{
+    let allowed = warnings_of(arguments.allowed)?;
+    let names: &[&'a str] = &arguments.sources;
+    let checker = Checker {
+        allowed,
+        quirks: arguments.quirks,
+        is_json: arguments.is_json,
+        is_painted: paints(arguments.color, system.host.takes_color),
+        is_alone: names.len() == 1,
+        is_covering: arguments.is_covering,
+    };
+    let mut progress = Progress::new(errors, system.host.has_reader, system.files, None);
+    checker.check_each(system, names, input, output, &mut progress)
+}
+
+// Whether what is printed has colours.
+fn paints(choice: ColorChoice, takes_color: bool) -> bool
+    ensures { result ≡ paints choice takes_color }
+{
+    match choice {
+        ColorChoice::Auto => takes_color,
+        ColorChoice::Always => true,
+        ColorChoice::Never => false,
+    }
+}
+
+// The worse of two endings.
+fn worse(ending: Ending, later: Ending) -> Ending
+    ensures { result ≡ worse ending later }
+{
+    match ending {
+        Ending::Done => later,
+        Ending::Faulty | Ending::Short => ending,
+    }
+}
+
+impl Checker {
+    /// A checker of one source that prints faults alone.
+    pub(crate) fn for_faults(is_json: bool) -> Checker
+        ensures json { result.is_json ≡ is_json }
+        ensures painted { result.is_painted ≡ false }
+        ensures alone { result.is_alone ≡ true }
+    {
+        Checker {
+            allowed: 0,
+            quirks: SettingArguments::DEFAULT.quirks,
+            is_json,
+            is_painted: false,
+            is_alone: true,
+            is_covering: false,
+        }
+    }
+
+    fn check_each<'a, F: FileAccess, I: Read, O: Write, W: Watcher>(
+        self,
+        system: &System<'_, F>,
+        names: &[&'a str],
+        input: &mut Counted<I>,
+        output: &mut Counted<O>,
+        watcher: &mut W,
+    ) -> Result<Ending, Failure<'a>>
+        ensures { ChecksEach I.remaining O.contents self.is_json self.is_painted self.is_alone
+            names.now input.old input.new output.old output.new result }
+    {
+        let mut ending = Ending::Done;
+        for name in names {
+            let bytes = read_source(system, name, input)?;
+            let answer = self.answer_on(system.alloc, name.as_bytes(), &bytes, watcher);
+            let one = deliver(answer, output)?;
+            ending = worse(ending, one);
+        }
+        Ok(ending)
+    }
+
+    // What is found in a source, or why it doesn't open.
+    fn answer_on<W: Watcher>(
+        self,
+        alloc: Global,
+        name: &[u8],
+        bytes: &[u8],
+        watcher: &mut W,
+    ) -> Result<Answer, AllocError>
+        ensures { IfOk result (λ answer. IsPrintedCheckOf self.is_json self.is_painted self.is_alone
+            name.now (open_fault bytes.now) (lines_of bytes.now) (printed_by answer)) }
+    {
+        let source = match Source::open(alloc, bytes) {
+            Ok(source) => source,
+            Err(error) => return self.unopened(alloc, name, error),
+        };
+        let covered = self.covered(alloc, &source, watcher)?;
+        let coverage = covered.as_ref().map(|covered| covered.coverage());
+        let warnings = warnings(alloc, &source, self.quirks, self.allowed, coverage)?;
+        let text = self.text_of(alloc, name, &source, &warnings)?;
+        Ok(Answer::on(&source, text))
+    }
+
+    // What key scripts execute of a source's image, where that is asked for.
+    fn covered<W: Watcher>(
+        self,
+        alloc: Global,
+        source: &Source,
+        watcher: &mut W,
+    ) -> Result<Option<Covered>, AllocError>
+        ensures { IfOk result (IsCovered self.is_covering self.quirks
+            (image_of source.now.lines)) }
+    {
+        if !self.is_covering {
+            return Ok(None);
+        }
+        let Some(image) = source.image() else {
+            return Ok(None);
+        };
+        Ok(Some(Covered::of(alloc, image, self.quirks, watcher)?))
+    }
+
+    // What is printed of a source and its warnings.
+    pub(crate) fn text_of(
+        self,
+        alloc: Global,
+        name: &[u8],
+        source: &Source,
+        warnings: &[Warning],
+    ) -> Result<Vec<u8>, AllocError>
+        ensures { IfOk result (λ text. IsCheckText self.is_json self.is_painted name.now
+            source.now.lines text.items) }
+    {
+        if self.is_json {
+            check_json(alloc, name, source, warnings)
+        } else {
+            check_text(alloc, self.is_painted, name, source, warnings)
+        }
+    }
+
+    // Why a source doesn't open: an object, or its code, after its name where there are others.
+    pub(crate) fn unopened(
+        self,
+        alloc: Global,
+        name: &[u8],
+        error: OpenError,
+    ) -> Result<Answer, AllocError>
+        ensures answer { IfOk result (λ answer. printed_by answer ≡ printed
+            (unopened_check self.is_json self.is_alone name.now error) Ending.Faulty) }
+        ensures memory { error ≡ OpenError.OutOfMemory → IsErr result }
+    {
+        if error == OpenError::OutOfMemory {
+            return Err(AllocError);
+        }
+        let ending = Ending::Faulty;
+        if self.is_json {
+            let text = unopened_json(alloc, name, error)?;
+            return Ok(Answer { text, ending });
+        }
+        let mut text = Vec::new(alloc);
+        if !self.is_alone {
+            text.extend_from_slice(name)?;
+            text.extend_from_slice(b": ")?;
+        }
+        text.extend_from_slice(unopened_text(error))?;
+        Ok(Answer { text, ending })
+    }
+}

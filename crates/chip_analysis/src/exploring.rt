@@ -1,0 +1,432 @@
+//! `explore`: what a search over all key scripts answers of a source's image.
+ghost use Rattle.std.specs.Prelude.{◌≡◌, ◌<◌, ◌∷◌, [], ◌++◌, ℕ, List, Ok, IfOk, IfErr, OnOk, option_copied};
+ghost use Rattle.chip_asm.specs.Program.{symbols_of};
+ghost use Rattle.chip_machine.specs.Start.{start_of};
+ghost use Rattle.chip_analysis.specs.Commands.{Explores, IsBadProperty, IsScriptUnwritten, Searches, SearchesFrom};
+ghost use Rattle.chip_analysis.specs.inner.Written.{IsNamedWritten, IsScriptWritten};
+ghost use Rattle.chip_analysis.specs.Exploring.{AsksProperty, StatesOne, address_of, answer_lines, cause_word, covering_text, in_memory, met_line, met_word, number_line, search_ending, target_asked};
+
+use crate::progress::{News, Progress, Teller};
+use crate::sets::{Sets, sets_of};
+use crate::stop_place::place_text;
+use chip_arguments::{ExploreArguments, SearchArguments};
+use chip_asm::Source;
+use chip_check::push_property_fault;
+use chip_cover::marked_listing;
+use chip_explore::{
+    Bounds, Causes, END, Explored, KeyEvent, Met, Outcome, Property, Question, STOPS, Target, Ticks,
+};
+use chip_host::{
+    Ending, Failure, FileAccess, Report, System, deliver, faults, file_name, print, read_given,
+    refuse_source, settings_of,
+};
+use chip_machine::limits::MEMORY_BYTES;
+use chip_machine::{Machine, Quirks, Stop};
+use chip_properties::{Kind, property_of_text};
+use chip_session::{Counted, Settings, number_of};
+use chip_trace::push_decimal;
+use std::alloc::{AllocError, Global};
+use std::io::{Read, Write};
+use std::mem;
+use std::time::Clock;
+
+/// `explore`: what a search over all key scripts answers of a source's image, or the faults where
+/// there is no image. Settings and sets are judged before the source is read.
+pub fn explore<'a, F: FileAccess + Clock, I: Read, O: Write, E: Write>(
+    system: &System<'_, F>,
+    arguments: &ExploreArguments<'a>,
+    input: &mut Counted<I>,
+    output: &mut Counted<O>,
+    errors: &mut E,
+) -> Result<Ending, Failure<'a>>
+    ensures { Explores I.remaining O.contents input.old input.new output.old output.new
+        arguments.entry.now result }
+{
+    let settings = settings_of(system.alloc, &arguments.search.settings)?;
+    let sets = sets_of(arguments)?;
+    let name = arguments.search.source;
+    let source = read_given(system, name, arguments.is_image, input, errors)?;
+    let is_shown = system.host.has_reader || arguments.search.is_progress_shown;
+    let mut progress = Progress::new(errors, is_shown, system.files, None);
+    let wanted = AskedSearch {
+        arguments,
+        settings: &settings,
+        sets,
+    };
+    match Source::open_bytes(system.alloc, source) {
+        Ok(opened) => {
+            let ended = search_opened(system, &wanted, &opened, output, &mut progress);
+            // The program ends here, and its memory goes back at once.
+            mem::forget(opened);
+            ended
+        }
+        Err(error) => refuse_source(error, output),
+    }
+}
+
+/// What is asked of a source.
+#[derive(Clone, Copy)]
+struct AskedSearch<'p, 'a> {
+    arguments: &'p ExploreArguments<'a>,
+    settings: &'p Settings,
+    sets: Sets,
+}
+
+fn search_opened<'a, F: FileAccess, O: Write, T: Teller>(
+    system: &System<'_, F>,
+    wanted: &AskedSearch<'_, 'a>,
+    source: &Source,
+    output: &mut Counted<O>,
+    teller: &mut T,
+) -> Result<Ending, Failure<'a>>
+    ensures { Searches O.contents output.old output.new wanted.now.arguments.now
+        wanted.now.settings.now wanted.now.sets.causes wanted.now.sets.keys source.now.lines result }
+{
+    let AskedSearch {
+        arguments,
+        settings,
+        sets,
+    } = *wanted;
+    let Some(image) = source.image() else {
+        return deliver(faults(system.alloc, source), output);
+    };
+    let properties = properties_asked(system.alloc, arguments, source)?;
+    let Some(target) = target_of(arguments, sets.causes, source, &properties) else {
+        return Err(Failure::BadPlace(arguments.place.unwrap_or("")));
+    };
+    let start = machine_of(system.alloc, image, settings.tape(), settings.quirks())?;
+    let question = Question {
+        rate: settings.rate(),
+        allowed: sets.keys,
+        target,
+    };
+    let search = Search {
+        arguments,
+        source,
+        start: &start,
+        question: &question,
+    };
+    search.carry_out(system, output, teller)
+}
+
+/// A search, and the source whose image is searched.
+#[derive(Clone, Copy)]
+struct Search<'p, 'a> {
+    arguments: &'p ExploreArguments<'a>,
+    source: &'p Source,
+    start: &'p Machine,
+    question: &'p Question<'p>,
+}
+
+// The machine of a source's image before its first step. The image is within its bounds, and the
+// tape is to be, so memory alone can be missing.
+pub(crate) fn machine_of(
+    alloc: Global,
+    image: &[u8],
+    tape: &[u8],
+    quirks: Quirks,
+) -> Result<Machine, AllocError>
+    ensures { IfOk result (λ start. start ≡ start_of image.now tape.now quirks) }
+{
+    match Machine::start(alloc, image, tape, quirks) {
+        Ok(start) => Ok(start),
+        Err(_) => Err(AllocError),
+    }
+}
+
+// The property that a search looks for, if there is one.
+fn properties_asked<'a>(
+    alloc: Global,
+    arguments: &ExploreArguments<'a>,
+    source: &Source,
+) -> Result<Vec<Property>, Failure<'a>>
+    ensures ok { IfOk result (λ properties. AsksProperty arguments.entry.now source.now.lines
+        properties.items) }
+    ensures err { IfErr result IsBadProperty }
+{
+    match (arguments.never, arguments.always) {
+        (Some(text), _) => one_property(alloc, b"--never", text, Kind::Never, source),
+        (None, Some(text)) => one_property(alloc, b"--always", text, Kind::Always, source),
+        (None, None) => Ok(Vec::new(alloc)),
+    }
+}
+
+// The property of a kind that the text of an option states.
+fn one_property<'a>(
+    alloc: Global,
+    option: &[u8],
+    text: &str,
+    kind: Kind,
+    source: &Source,
+) -> Result<Vec<Property>, Failure<'a>>
+    ensures ok { IfOk result (λ properties. StatesOne kind text.now source.now.lines
+        properties.items) }
+    ensures err { IfErr result IsBadProperty }
+{
+    match property_of_text(alloc, text.as_bytes(), kind, source)? {
+        Ok(stated) => Ok(alone(alloc, stated.property)?),
+        Err(fault) => {
+            let mut report = Vec::new(alloc);
+            push_property_fault(alloc, &mut report, false, option, text.as_bytes(), &fault)?;
+            Err(Failure::BadProperty(Report(report)))
+        }
+    }
+}
+
+fn alone(alloc: Global, property: Property) -> Result<Vec<Property>, AllocError>
+    ensures { IfOk result (λ properties. properties.items ≡ property ∷ []) }
+{
+    let mut properties = Vec::new(alloc);
+    properties.push(property)?;
+    Ok(properties)
+}
+
+// What a search looks for, if the source has the place.
+fn target_of<'p>(
+    arguments: &ExploreArguments<'_>,
+    causes: Causes,
+    source: &Source,
+    properties: &'p [Property],
+) -> Option<Target<'p>>
+    ensures { result ≡ target_asked causes (option_copied arguments.now.place) properties.entry
+        (symbols_of source.now.lines) }
+{
+    let address = match arguments.place {
+        Some(place) => Some(address_of(place.as_bytes(), source)?),
+        None => None,
+    };
+    Some(Target {
+        causes,
+        address,
+        properties,
+    })
+}
+
+// The address of a place: the number that it spells, or else the value of the name.
+fn address_of(place: &[u8], source: &Source) -> Option<u16>
+    ensures { result ≡ address_of (symbols_of source.now.lines) place.now }
+{
+    match number_of(place) {
+        Some(number) => in_memory(i64::from(number)),
+        None => in_memory(i64::from(source.symbol(place)?.value)),
+    }
+}
+
+// A number that is an address, if it is below 4096.
+fn in_memory(number: i64) -> Option<u16>
+    ensures { result ≡ in_memory number }
+{
+    if 0 <= number && number < MEMORY_BYTES as i64 {
+        Some(number as u16)
+    } else {
+        None
+    }
+}
+
+impl<'p, 'a> Search<'p, 'a> {
+    // Prints what the search finds, and writes the key events of a script where a file is named.
+    fn carry_out<F: FileAccess, O: Write, T: Teller>(
+        &self,
+        system: &System<'_, F>,
+        output: &mut Counted<O>,
+        teller: &mut T,
+    ) -> Result<Ending, Failure<'a>>
+        requires rate { 0 < self.now.question.now.rate }
+        requires fresh { self.now.start.now.core.draws ≡ 0 }
+        ensures searched { SearchesFrom O.contents output.old output.new self.now.arguments.now
+            self.now.source.now.lines self.now.question.now.rate self.now.question.now.allowed
+            self.now.question.now.target self.now.start.now result }
+        // Where a script was found, the program ends so.
+        ensures written { result ≡ Ok Ending.Faulty
+            → IsNamedWritten (F.wrote system.now.files.now) self.now.arguments.now.search.keys_to }
+    {
+        let Search {
+            arguments,
+            source,
+            start,
+            question,
+        } = *self;
+        let ticks = if arguments.is_covering {
+            // What is marked in the listing is executed at the rate.
+            Ticks::AtRate
+        } else if arguments.search.is_any_speed {
+            Ticks::FreeWithAll
+        } else {
+            Ticks::Free
+        };
+        let bounds = bounds_of(&arguments.search, ticks);
+        let explored = chip_explore::explore(system.alloc, start, question, &bounds, teller);
+        let place = if arguments.is_image {
+            Vec::new(system.alloc)
+        } else {
+            place_text(
+                system.alloc,
+                source,
+                start,
+                question.rate,
+                &explored.outcome,
+            )?
+        };
+        let text = search_text(system.alloc, arguments, source, &explored, &place)?;
+        write_script(system, arguments, &explored.outcome, teller)?;
+        print(&text, search_ending(&explored), output)
+    }
+}
+
+/// How far a search goes.
+pub(crate) fn bounds_of(arguments: &SearchArguments<'_>, ticks: Ticks) -> Bounds {
+    Bounds {
+        steps: match arguments.steps {
+            Some(steps) => u64::from(steps) + 1,
+            None => END,
+        },
+        states: arguments.states as usize,
+        is_deep: arguments.is_deep,
+        ticks,
+    }
+}
+
+// Writes the key events of the script that was found, where there is a file for them.
+fn write_script<'a, F: FileAccess, T: Teller>(
+    system: &System<'_, F>,
+    arguments: &ExploreArguments<'a>,
+    outcome: &Outcome,
+    teller: &mut T,
+) -> Result<Ending, Failure<'a>>
+    ensures ok { OnOk result (IsScriptWritten (F.wrote system.now.files.now) outcome.now
+        arguments.entry.now.search.keys_to) }
+    ensures err { IfErr result (IsScriptUnwritten arguments.entry.now.search.keys_to) }
+{
+    let (Outcome::Found { events, .. } | Outcome::Later { events, .. }) = outcome else {
+        return Ok(Ending::Done);
+    };
+    let Some(name) = arguments.search.keys_to else {
+        return Ok(Ending::Done);
+    };
+    let text = script_text(system.alloc, events)?;
+    let taken = [file_name(arguments.search.source)];
+    let ending = system.write(&taken, name, &text)?;
+    teller.tell(News::Written(name));
+    Ok(ending)
+}
+
+/// Key events as lines of a key file.
+pub(crate) fn script_text(alloc: Global, events: &[KeyEvent]) -> Result<Vec<u8>, AllocError> {
+    let mut text = Vec::new(alloc);
+    for event in events {
+        push_decimal(&mut text, u64::from(event.step))?;
+        text.push(b' ')?;
+        push_decimal(&mut text, u64::from(event.key))?;
+        text.extend_from_slice(if event.down { b" down\n" } else { b" up\n" })?;
+    }
+    Ok(text)
+}
+
+// What is printed of what a search found.
+fn search_text(
+    alloc: Global,
+    arguments: &ExploreArguments<'_>,
+    source: &Source,
+    explored: &Explored,
+    place: &[u8],
+) -> Result<Vec<u8>, AllocError>
+    ensures { IfOk result (λ text. (others : List ℕ) × (text.items
+        ≡ answer_lines arguments.now.search.is_any_speed place.now explored.now ++ others
+        ++ covering_text arguments.now.is_covering explored.now.executed source.now.lines)) }
+{
+    let mut text = Vec::new(alloc);
+    push_first_lines(&mut text, arguments.search.is_any_speed, explored, place)?;
+    text.extend_from_slice(&lines_below(alloc, explored)?)?;
+    if arguments.is_covering {
+        text.extend_from_slice(&marked_listing(alloc, source, &explored.executed)?)?;
+    }
+    Ok(text)
+}
+
+// How the program ends after a search.
+fn search_ending(explored: &Explored) -> Ending
+    ensures { result ≡ search_ending explored.now.outcome explored.now.is_short }
+{
+    match explored.outcome {
+        Outcome::Found { .. } | Outcome::Later { .. } => Ending::Faulty,
+        Outcome::Within(_) | Outcome::Never if explored.is_short => Ending::Short,
+        Outcome::Within(_) | Outcome::Never => Ending::Done,
+    }
+}
+
+// What is printed first of what a search found, where an answer at any speed may be asked for.
+fn push_first_lines(
+    text: &mut Vec<u8>,
+    is_any_speed: bool,
+    explored: &Explored,
+    place: &[u8],
+) -> Result<(), AllocError>
+    ensures { OnOk result (text.new.items
+        ≡ text.old.items ++ answer_lines is_any_speed place.now explored.now) }
+{
+    if is_any_speed && explored.is_at_any_speed {
+        return text.extend_from_slice(b"never at any speed\n");
+    }
+    match &explored.outcome {
+        Outcome::Found { events, step, met } => {
+            push_met(text, *met, *step, place)?;
+            push_line(text, b"keys ", events.len() as u64)
+        }
+        Outcome::Later {
+            events,
+            step,
+            met,
+            covered,
+        } => {
+            push_met(text, *met, *step, place)?;
+            push_line(text, b"keys ", events.len() as u64)?;
+            push_line(text, b"within ", *covered)
+        }
+        Outcome::Within(step) => push_line(text, b"within ", *step),
+        Outcome::Never => text.extend_from_slice(b"never\n"),
+    }
+}
+
+// What was met, the step, and the place of the source.
+fn push_met(text: &mut Vec<u8>, met: Met, step: u32, place: &[u8]) -> Result<(), AllocError>
+    ensures { OnOk result (text.new.items
+        ≡ text.old.items ++ met_line (met_word met) step place.now) }
+{
+    match met {
+        Met::Cause(cause) => text.extend_from_slice(&cause_word(cause))?,
+        Met::Address => text.extend_from_slice(b"reached ")?,
+        Met::Property(_) => text.extend_from_slice(b"broken ")?,
+    }
+    push_decimal(text, u64::from(step))?;
+    text.extend_from_slice(place)?;
+    text.extend_from_slice(b"\n")
+}
+
+// The other causes that a search met, and how many states it kept.
+fn lines_below(alloc: Global, explored: &Explored) -> Result<Vec<u8>, AllocError> {
+    let mut text = Vec::new(alloc);
+    for cause in STOPS {
+        if let Some(step) = explored.seen.first_step(*cause) {
+            push_line(&mut text, &cause_word(*cause), step)?;
+        }
+    }
+    push_line(&mut text, b"states ", explored.states as u64)?;
+    Ok(text)
+}
+
+// A stop cause before a number.
+fn cause_word(cause: Stop) -> [u8; 3]
+    ensures { result ≡ cause_word cause }
+{
+    [b'S', b'0' + cause.number() as u8, b' ']
+}
+
+// Adds a word, a number and the end of the line.
+fn push_line(text: &mut Vec<u8>, word: &[u8], number: u64) -> Result<(), AllocError>
+    ensures { OnOk result (text.new.items ≡ text.old.items ++ number_line word.now number) }
+{
+    text.extend_from_slice(word)?;
+    push_decimal(text, number)?;
+    text.push(b'\n')?;
+    Ok(())
+}

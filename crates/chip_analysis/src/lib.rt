@@ -1,0 +1,14 @@
+//! The commands that tell of a source what holds of all its runs: `check`, `explore` and `prove`.
+#![tactic(auto)]
+
+mod checking;
+mod covering;
+mod exploring;
+mod progress;
+mod proving;
+mod sets;
+mod stop_place;
+
+pub use checking::check;
+pub use exploring::explore;
+pub use proving::prove;

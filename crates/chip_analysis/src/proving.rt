@@ -1,0 +1,631 @@
+//! `prove`: what searches over all key scripts answer of the properties that a source states.
+ghost use Rattle.std.specs.Prelude.{◌≡◌, ◌⊎◌, ◌<◌, ◌||◌, [], ℕ, List, Ok, Some, None, true, IfOk, IfErr, IfSome, filter, length, slice_get, false, position, ◌==◌, ◌+◌};
+ghost use Rattle.std.specs.List.{flat_map, list_any, remove};
+ghost use Rattle.chip_explore.specs.Answers.{Answers};
+ghost use Rattle.chip_explore.specs.OneOf.{told_of};
+ghost use Rattle.chip_explore.specs.Speeds.{NeverAtAnySpeed};
+ghost use Rattle.chip_explore.specs.declared.property.Property.{Property};
+ghost use Rattle.chip_properties.specs.Properties.{AreProperties};
+ghost use Rattle.chip_properties.specs.declared.properties.Properties.{Properties};
+ghost use Rattle.chip_properties.specs.declared.stated.Stated.{Stated};
+ghost use Rattle.chip_host.specs.Printing.{Fails};
+ghost use Rattle.chip_analysis.specs.Commands.{IsScriptUnwritten, Proves, ProvesBy, ProvesFrom, ProvesWith};
+ghost use Rattle.chip_host.specs.Endings.{IsShort, IsUnwritten};
+ghost use Rattle.chip_host.specs.Reading.{image_in};
+ghost use Rattle.chip_analysis.specs.Proving.{IsForeseen, has_faults, is_asked, looks_for, proof_ending, text_at};
+ghost use Rattle.chip_check.specs.Answer.{is_bad};
+ghost use Rattle.chip_analysis.specs.inner.Proofs.{IsAnswering, IsLeft, IsNext, IsUnmet, is_can, WritesAll, met_property, missing_line, printed_head};
+
+use crate::checking::Checker;
+use crate::exploring::{bounds_of, machine_of, script_text};
+use crate::progress::{News, Progress, Teller};
+use crate::sets::keys_of;
+use chip_arguments::ProveArguments;
+use chip_asm::Source;
+use chip_check::{PropertyAnswer, PropertyPlace, is_bad, push_property_fault, push_quoted};
+use chip_explore::laws::one_of_several;
+use chip_explore::{
+    Causes, Explored, Met, Outcome, Property, Pursuit, Question, Target, Ticks, explore, foresee,
+};
+use chip_host::{
+    Ending, Failure, FileAccess, System, deliver, file_name, print, read_source, settings_of,
+};
+use chip_machine::Machine;
+use chip_properties::{Kind, Properties, PropertyFault, Stated, properties_of, property_text};
+use chip_session::{Counted, Settings};
+use chip_trace::push_decimal;
+use std::alloc::{AllocError, Global};
+use std::io::{Read, Write};
+use std::time::Clock;
+use std::{io, slice};
+
+/// `prove`: what a search answers of each property that a source states, or the faults where there is
+/// no image. Settings and keys are judged before the source is read.
+pub fn prove<'a, F: FileAccess + Clock, I: Read, O: Write, E: Write>(
+    system: &System<'_, F>,
+    arguments: &ProveArguments<'a>,
+    input: &mut Counted<I>,
+    output: &mut Counted<O>,
+    errors: &mut E,
+) -> Result<Ending, Failure<'a>>
+    ensures { Proves I.remaining O.contents input.old input.new output.old output.new
+        arguments.entry.now result }
+{
+    let is_shown = system.host.has_reader || arguments.search.is_progress_shown;
+    let mut progress = Progress::new(errors, is_shown, system.files, arguments.seconds);
+    let settings = settings_of(system.alloc, &arguments.search.settings)?;
+    let keys = keys_of(arguments.search.allowed_keys)?;
+    let bytes = read_source(system, arguments.search.source, input)?;
+    let asked = AskedProof {
+        arguments,
+        settings: &settings,
+        keys,
+    };
+    prove_source(system, &asked, &bytes, output, &mut progress)
+}
+
+/// What is asked of a source.
+#[derive(Clone, Copy)]
+struct AskedProof<'p, 'a> {
+    arguments: &'p ProveArguments<'a>,
+    settings: &'p Settings,
+    /// The keys that a player has, key k at bit k.
+    keys: u16,
+}
+
+fn prove_source<'a, F: FileAccess, O: Write, T: Teller>(
+    system: &System<'_, F>,
+    asked: &AskedProof<'_, 'a>,
+    bytes: &[u8],
+    output: &mut Counted<O>,
+    teller: &mut T,
+) -> Result<Ending, Failure<'a>>
+    ensures { ProvesBy O.contents output.old output.new asked.now.arguments.now
+        asked.now.settings.now asked.now.keys (image_in bytes.now) bytes.now result }
+{
+    let arguments = asked.arguments;
+    let name = arguments.search.source.as_bytes();
+    let checker = Checker::for_faults(arguments.is_json);
+    match Source::open(system.alloc, bytes) {
+        Ok(source) => {
+            let Some(image) = source.image() else {
+                let text = checker.text_of(system.alloc, name, &source, &[])?;
+                return print(&text, Ending::Faulty, output);
+            };
+            let settings = asked.settings;
+            let start = machine_of(system.alloc, image, settings.tape(), settings.quirks())?;
+            let prover = Prover {
+                system,
+                arguments,
+                source: &source,
+                start: &start,
+                rate: settings.rate(),
+                keys: asked.keys,
+            };
+            prover.prove(output, teller)
+        }
+        Err(error) => deliver(checker.unopened(system.alloc, name, error), output),
+    }
+}
+
+/// What properties are answered by, and how the answers are told.
+#[derive(Drop)]
+struct Prover<'p, 'a, F> {
+    system: &'p System<'p, F>,
+    arguments: &'p ProveArguments<'a>,
+    source: &'p Source,
+    start: &'p Machine,
+    rate: u32,
+    keys: u16,
+}
+
+/// A property that isn't answered yet, without what is looked for.
+#[derive(Clone, Copy)]
+pub(crate) struct Head {
+    line: usize,
+    kind: Kind,
+}
+
+/// The properties that aren't answered yet: what each looks for stands at the place of its head.
+#[derive(Drop)]
+pub(crate) struct Left {
+    heads: Vec<Head>,
+    properties: Vec<Property>,
+}
+
+/// What one search answers: the property at the place, or, with no place, all that are left.
+#[derive(Drop)]
+pub(crate) struct Next {
+    place: Option<usize>,
+    explored: Explored,
+}
+
+/// What the searches came to.
+#[derive(Clone, Copy)]
+pub(crate) struct Told {
+    /// How many states the search with the most kept.
+    states: usize,
+    /// A property is broken, an `ever` isn't reached, or a `can` has a dead end.
+    is_bad: bool,
+    /// Memory ran out in a search.
+    is_short: bool,
+    /// A search ended since its time was over.
+    is_late: bool,
+    /// Which script was written.
+    written: Written,
+}
+
+/// Which script a file has.
+#[derive(Clone, Copy)]
+pub(crate) enum Written {
+    Nothing,
+    /// That of an `ever`.
+    Reached,
+    /// That of a property that is broken.
+    Broken,
+}
+
+impl Left {
+    /// Those of some properties that are asked for.
+    fn of(alloc: Global, only: Option<u32>, stated: Vec<Stated>) -> Result<Left, AllocError>
+        ensures { IfOk result (λ left. IsLeft (filter (λ one. is_asked only one.line) stated.items)
+            left) }
+    {
+        let mut heads = Vec::new(alloc);
+        let mut properties = Vec::new(alloc);
+        for one in stated {
+            if is_asked(only, one.line) {
+                heads.push(Head {
+                    line: one.line,
+                    kind: one.kind,
+                })?;
+                properties.push(one.property)?;
+            }
+        }
+        Ok(Left { heads, properties })
+    }
+
+    /// The place of the first one that asks whether it can be met from everywhere, if there is one.
+    fn first_can(&self) -> Option<usize>
+        ensures { result ≡ position (λ head. is_can head.kind) self.now.heads.items }
+    {
+        self.heads.iter().position(|head| is_can(head.kind))
+    }
+
+    /// Removes one, and gives its head.
+    fn take(&mut self, place: usize) -> Head
+        requires in_heads { place < length self.old.heads.items }
+        requires in_properties { place < length self.old.properties.items }
+        ensures head { slice_get self.old.heads.items place ≡ Some result }
+        ensures heads { self.new.heads.items ≡ remove self.old.heads.items place }
+        ensures properties { self.new.properties.items ≡ remove self.old.properties.items place }
+    {
+        let _ = self.properties.remove(place);
+        self.heads.remove(place)
+    }
+}
+
+/// Whether a property asks whether it can be met from everywhere.
+fn is_can(kind: Kind) -> bool
+    ensures { result ≡ is_can kind }
+{
+    match kind {
+        Kind::Can => true,
+        Kind::Always | Kind::Never | Kind::Ever => false,
+    }
+}
+
+/// Whether the property of a line is asked for.
+fn is_asked(only: Option<u32>, line: usize) -> bool
+    ensures { result ≡ is_asked only line }
+{
+    match only {
+        Some(only) => only as usize == line,
+        None => true,
+    }
+}
+
+/// Whether one of some properties that can't be read is asked for.
+fn has_faults(only: Option<u32>, faults: &[PropertyFault]) -> bool
+    ensures { result ≡ has_faults only faults.now }
+{
+    faults.iter().any(|fault| is_asked(only, fault.line))
+}
+
+/// The line that the arguments name, where no property is asked for.
+fn missing_line(only: Option<u32>, is_empty: bool, is_faulty: bool) -> Option<u32>
+    ensures { result ≡ missing_line only is_empty is_faulty }
+{
+    if is_empty && !is_faulty { only } else { None }
+}
+
+/// Which of so many properties a search met, if one.
+fn met_property(outcome: &Outcome, count: usize) -> Option<usize>
+    ensures { result ≡ met_property outcome.now count }
+{
+    match outcome {
+        Outcome::Found {
+            met: Met::Property(place),
+            ..
+        }
+        | Outcome::Later {
+            met: Met::Property(place),
+            ..
+        } if *place < count => Some(*place),
+        _ => None,
+    }
+}
+
+impl<'p, 'a, F: FileAccess> Prover<'p, 'a, F> {
+    /// Answers the properties of the source that are asked for, unless the arguments name a line without
+    /// one.
+    fn prove<O: Write, T: Teller>(
+        &self,
+        output: &mut Counted<O>,
+        teller: &mut T,
+    ) -> Result<Ending, Failure<'a>>
+        requires rate { 0 < self.now.rate }
+        requires fresh { self.now.start.now.core.draws ≡ 0 }
+        ensures { ((properties : Properties) × AreProperties self.now.source.now.lines properties
+            × ProvesWith O.contents output.old output.new self.now.arguments.now
+            self.now.source.now.lines self.now.rate self.now.keys self.now.start.now properties result)
+            ⊎ Fails O.contents output.old output.new IsShort result }
+    {
+        let Properties { stated, faults } = properties_of(self.system.alloc, self.source)?;
+        let arguments = self.arguments;
+        let only = arguments.only;
+        let left = Left::of(self.system.alloc, only, stated)?;
+        let is_faulty = has_faults(only, &faults);
+        let is_empty = left.heads.is_empty();
+        if let Some(line) = missing_line(only, is_empty, is_faulty) {
+            return Err(Failure::NoProperty(line));
+        }
+        if is_empty && !is_faulty {
+            teller.tell(News::NothingStated(arguments.search.source));
+        }
+        let reports = self.reports(&faults)?;
+        self.prove_left(left, &reports, is_faulty, output, teller)
+    }
+
+    /// Prints these reports, answers the properties that are left, and tells how many states that took.
+    fn prove_left<O: Write, T: Teller>(
+        &self,
+        left: Left,
+        reports: &[u8],
+        is_faulty: bool,
+        output: &mut Counted<O>,
+        teller: &mut T,
+    ) -> Result<Ending, Failure<'a>>
+        requires rate { 0 < self.now.rate }
+        requires fresh { self.now.start.now.core.draws ≡ 0 }
+        requires even { length left.heads.items ≡ length left.properties.items }
+        ensures { (asked : List Stated) → IsLeft asked left → ProvesFrom O.contents output.old
+            output.new self.now.arguments.now self.now.source.now.lines self.now.rate self.now.keys
+            self.now.start.now asked is_faulty result }
+    {
+        print(reports, Ending::Done, output)?;
+        let told = self.answer(left, Told::NOTHING, output, teller)?;
+        if told.is_late {
+            teller.tell(News::OutOfTime);
+        }
+        let text = self.end_text(&told)?;
+        print(&text, told.ending(is_faulty), output)
+    }
+
+    /// What is printed of the properties that can't be read.
+    fn reports(&self, faults: &[PropertyFault]) -> Result<Vec<u8>, AllocError> {
+        let arguments = self.arguments;
+        let mut text = Vec::new(self.system.alloc);
+        for fault in faults {
+            if is_asked(arguments.only, fault.line)
+                && let Some(line) = self.source.line(fault.line)
+            {
+                let name = arguments.search.source.as_bytes();
+                let is_json = arguments.is_json;
+                push_property_fault(
+                    self.system.alloc,
+                    &mut text,
+                    is_json,
+                    name,
+                    line.text(),
+                    fault,
+                )?;
+            }
+        }
+        Ok(text)
+    }
+
+    /// Answers properties, search by search: one that is met is told at once, and left out of the next
+    /// search. What the last search says it says of all that are left.
+    fn answer<O: Write, T: Teller>(
+        &self,
+        mut left: Left,
+        told: Told,
+        output: &mut Counted<O>,
+        teller: &mut T,
+    ) -> Result<Told, Failure<'a>>
+        requires rate { 0 < self.now.rate }
+        requires fresh { self.now.start.now.core.draws ≡ 0 }
+        requires even { length left.heads.items ≡ length left.properties.items }
+        ensures { (asked : List Stated) → IsLeft asked left → IsAnswering O.contents output.old
+            output.new self.now.arguments.now self.now.source.now.lines self.now.rate self.now.keys
+            self.now.start.now asked told.is_bad told.is_short result }
+    {
+        if left.heads.is_empty() {
+            return Ok(told);
+        }
+        let next = self.next(&left, teller);
+        let told = Told {
+            states: told.states.max(next.explored.states),
+            is_short: told.is_short || next.explored.is_short,
+            is_late: told.is_late || next.explored.is_stopped,
+            ..told
+        };
+        match next.place {
+            Some(place) => {
+                let head = left.take(place);
+                let is_bad = self.tell(&[head], &next.explored, output)?;
+                let outcome = &next.explored.outcome;
+                let written = self.write_keys(head, outcome, told.written, teller)?;
+                let told = Told {
+                    is_bad: told.is_bad || is_bad,
+                    written,
+                    ..told
+                };
+                self.answer(left, told, output, teller)
+            }
+            None => {
+                let is_bad = self.tell(&left.heads, &next.explored, output)?;
+                Ok(Told {
+                    is_bad: told.is_bad || is_bad,
+                    ..told
+                })
+            }
+        }
+    }
+
+    /// What the next search answers: first each property alone that asks whether it can be met from everywhere,
+    /// then all others at once.
+    fn next<T: Teller>(&self, left: &Left, teller: &mut T) -> Next
+        requires rate { 0 < self.now.rate }
+        requires fresh { self.now.start.now.core.draws ≡ 0 }
+        requires even { length left.now.heads.items ≡ length left.now.properties.items }
+        ensures within { IfSome result.place (λ place. place < length left.now.heads.items) }
+        ensures right { (asked : List Stated) → IsLeft asked left.now → IsNext
+            self.now.arguments.now self.now.rate self.now.keys self.now.start.now asked result }
+    {
+        if let Some(place) = left.first_can() {
+            let explored = self.foresee(&left.properties[place], teller);
+            return Next {
+                place: Some(place),
+                explored,
+            };
+        }
+        let explored = self.search(&left.properties, teller);
+        let place = met_property(&explored.outcome, left.heads.len());
+        Next { place, explored }
+    }
+
+    /// Whether a property can be met from everywhere.
+    fn foresee<T: Teller>(&self, property: &Property, teller: &mut T) -> Explored
+        requires rate { 0 < self.now.rate }
+        requires fresh { self.now.start.now.core.draws ≡ 0 }
+        ensures foreseen { IsForeseen self.now.rate self.now.keys property.now self.now.start.now
+            result.outcome }
+        ensures speed { result.is_at_any_speed ≡ false }
+    {
+        let pursuit = Pursuit {
+            rate: self.rate,
+            allowed: self.keys,
+            goals: slice::from_ref(property),
+        };
+        let bounds = bounds_of(&self.arguments.search, Ticks::Free);
+        foresee(self.system.alloc, self.start, &pursuit, &bounds, teller).explored()
+    }
+
+    /// What a search for these properties finds.
+    fn search<T: Teller>(&self, properties: &[Property], teller: &mut T) -> Explored
+        requires rate { 0 < self.now.rate }
+        requires fresh { self.now.start.now.core.draws ≡ 0 }
+        ensures answers { (k : ℕ) (property : Property) → slice_get properties.now k ≡ Some property
+            → IfSome (told_of k result.outcome)
+            (Answers self.now.rate self.now.keys (looks_for property) self.now.start.now) }
+        ensures any_speed { (k : ℕ) (property : Property)
+            → slice_get properties.now k ≡ Some property → result.is_at_any_speed ≡ true
+            → NeverAtAnySpeed self.now.keys (looks_for property) self.now.start.now }
+        ensures met { met_property result.outcome (length properties.now) ≡ None
+            → IsUnmet result.outcome }
+    {
+        let arguments = self.arguments;
+        let search = &arguments.search;
+        let question = Question {
+            rate: self.rate,
+            allowed: self.keys,
+            target: Target {
+                causes: Causes::none(),
+                address: None,
+                properties,
+            },
+        };
+        let ticks = if search.is_any_speed {
+            Ticks::FreeWithAll
+        } else {
+            Ticks::Free
+        };
+        let bounds = bounds_of(search, ticks);
+        one_of_several();
+        explore(self.system.alloc, self.start, &question, &bounds, teller)
+    }
+
+    /// Tells what a search says of each of these properties, and whether that is bad of one.
+    fn tell<O: Write>(
+        &self,
+        heads: &[Head],
+        explored: &Explored,
+        output: &mut Counted<O>,
+    ) -> Result<bool, Failure<'a>>
+        ensures written { WritesAll O.contents output.old output.new
+            (flat_map (printed_head self.now.arguments.now self.now.source.now.lines explored.now)
+            heads.now) result }
+        ensures bad { IfOk result (λ found.
+            found ≡ list_any (λ head. is_bad head.kind explored.now.outcome) heads.now) }
+    {
+        let text = self.answers_text(heads, explored)?;
+        print(&text, Ending::Done, output)?;
+        Ok(
+            heads
+                .iter()
+                .any(|head| is_bad(head.kind, &explored.outcome)),
+        )
+    }
+
+    /// What is printed of these properties.
+    fn answers_text(&self, heads: &[Head], explored: &Explored) -> Result<Vec<u8>, AllocError>
+        ensures { IfOk result (λ text. text.items ≡ flat_map
+            (printed_head self.now.arguments.now self.now.source.now.lines explored.now) heads.now) }
+    {
+        let arguments = self.arguments;
+        let is_at_any_speed = arguments.search.is_any_speed && explored.is_at_any_speed;
+        let mut text = Vec::new(self.system.alloc);
+        for head in heads {
+            let answer = PropertyAnswer {
+                kind: head.kind,
+                outcome: &explored.outcome,
+                is_at_any_speed,
+            };
+            let place = PropertyPlace {
+                name: arguments.search.source.as_bytes(),
+                line: head.line,
+                text: self.text_at(head.line),
+            };
+            answer.push(self.system.alloc, &mut text, arguments.is_json, &place)?;
+        }
+        Ok(text)
+    }
+
+    /// The text of the property of a line.
+    fn text_at(&self, line: usize) -> &'p [u8]
+        ensures { result.now ≡ text_at self.now.source.now.lines line }
+    {
+        match self.source.line(line) {
+            Some(line) => property_text(line.text()).unwrap_or(b""),
+            None => b"",
+        }
+    }
+
+    /// Writes the key events of a script that was found, where they are asked for: to a file of the line
+    /// where a folder is named, and else of the first property that is broken, or the first that is
+    /// reached where none is. Which script the file then has.
+    fn write_keys<T: Teller>(
+        &self,
+        head: Head,
+        outcome: &Outcome,
+        written: Written,
+        teller: &mut T,
+    ) -> Result<Written, Failure<'a>>
+        ensures { IfErr result (IsScriptUnwritten self.now.arguments.now.search.keys_to) }
+    {
+        let (Outcome::Found { events, .. } | Outcome::Later { events, .. }) = outcome else {
+            return Ok(written);
+        };
+        let arguments = self.arguments;
+        let Some(path) = arguments.search.keys_to else {
+            return Ok(written);
+        };
+        let text = script_text(self.system.alloc, events)?;
+        if path.as_bytes().ends_with(b"/") {
+            let line = head.line;
+            let name = format!(in self.system.alloc; "{path}{line}.keys")?;
+            self.write(path, name.as_str(), &text, teller)?;
+            return Ok(written);
+        }
+        let written = match (head.kind, written) {
+            (Kind::Ever, Written::Nothing) => Written::Reached,
+            (Kind::Always | Kind::Never | Kind::Can, Written::Nothing | Written::Reached) => {
+                Written::Broken
+            }
+            _ => return Ok(written),
+        };
+        self.write(path, path, &text, teller)?;
+        Ok(written)
+    }
+
+    /// Writes a file atomically, whose name or folder the arguments give.
+    fn write<T: Teller>(
+        &self,
+        path: &'a str,
+        name: &str,
+        bytes: &[u8],
+        teller: &mut T,
+    ) -> Result<(), Failure<'a>>
+        ensures { IfErr result (IsUnwritten path.entry) }
+    {
+        let arguments = self.arguments;
+        let taken = [file_name(arguments.search.source)];
+        match self
+            .system
+            .files
+            .write(self.system.alloc, &taken, name, bytes)
+        {
+            Ok(()) => {
+                teller.tell(News::Written(name));
+                Ok(())
+            }
+            Err(error) if error.kind() == io::ErrorKind::OutOfMemory => Err(Failure::OutOfMemory),
+            Err(error) => Err(Failure::CannotWrite(path, error)),
+        }
+    }
+
+    /// What is printed last: how many states the searches kept.
+    fn end_text(&self, told: &Told) -> Result<Vec<u8>, AllocError> {
+        let mut text = Vec::new(self.system.alloc);
+        let arguments = self.arguments;
+        let states = told.states as u64;
+        if !arguments.is_json {
+            text.extend_from_slice(b"states ")?;
+            push_decimal(&mut text, states)?;
+            text.extend_from_slice(b"\n")?;
+            return Ok(text);
+        }
+        text.extend_from_slice(b"{\"states\":")?;
+        push_decimal(&mut text, states)?;
+        if told.is_short {
+            text.extend_from_slice(b",\"out_of_memory\":true")?;
+        }
+        if told.is_late {
+            text.extend_from_slice(b",\"out_of_time\":true")?;
+        }
+        text.extend_from_slice(b",\"file\":")?;
+        push_quoted(
+            self.system.alloc,
+            &mut text,
+            arguments.search.source.as_bytes(),
+        )?;
+        text.extend_from_slice(b"}\n")?;
+        Ok(text)
+    }
+}
+
+impl Told {
+    /// Before the first search.
+    const NOTHING: Told = Told {
+        states: 0,
+        is_bad: false,
+        is_short: false,
+        is_late: false,
+        written: Written::Nothing,
+    };
+
+    /// How the program ends after the answers.
+    fn ending(&self, is_faulty: bool) -> Ending
+        ensures { result ≡ proof_ending self.now.is_short (is_faulty || self.now.is_bad) }
+    {
+        if self.is_short {
+            Ending::Short
+        } else if is_faulty || self.is_bad {
+            Ending::Faulty
+        } else {
+            Ending::Done
+        }
+    }
+}

@@ -1,5 +1,0 @@
-use Rattle.std.proofs.Common.{length}
-use Rattle.chip_bench.proofs.proving.Prover.+answer.Given as goal
-
-abbrev pub decreases-answer : goal.decreases-answer
-decreases-answer g l = length l.left.heads.items

@@ -1,0 +1,98 @@
+-- What a command prints on standard output, and how it ends then (own).
+--     Printed, printed, printed_by   a text and an ending; that of an answer
+--     unopened_text, IsUnopened, printed_faults, ending_with    a source that doesn't open, its faults, how
+--                                    a command on it ends
+--     Prints, Streams, PrintsSuch, IfOpens, Refuses    what was printed of that
+--     Fails                          nothing was
+use Rattle.std.specs.Prelude.{◌≡◌, ◌⊎◌, ℕ, List, [], codes, Option, Some, None, Result, Ok, Err, IsErrAnd}
+use Rattle.std.specs.Io.KnownBytes.{Appends}
+use Rattle.chip_asm.specs.Lines.{open_fault}
+use Rattle.chip_asm.specs.Program.{faults_of}
+use Rattle.chip_asm.specs.declared.refusal.OpenError.{OpenError}
+use Rattle.chip_asm.specs.declared.refusal.OpenError.TheVariants as unopened
+use Rattle.chip_session.specs.Answers.{faults_text}
+use Rattle.chip_session.specs.Serving.{BeginsWith}
+use Rattle.chip_session.specs.Tally.{Tally}
+use Rattle.chip_session.specs.Transcript.{refused}
+use Rattle.chip_session.specs.Writing.{Breaks, Writes}
+use Rattle.chip_host.specs.declared.ending.Ending.{Ending}
+use Rattle.chip_host.specs.declared.ending.Ending.TheVariants.{Done, Faulty}
+use Rattle.chip_host.specs.declared.ending.Failure.{Failure}
+use Rattle.chip_host.specs.declared.ending.Failure.TheVariants as failure
+use Rattle.chip_host.specs.Endings.{Outcome}
+use Rattle.chip_host.specs.declared.printing.Answer.{Answer}
+
+-- what a command prints on standard output, and how it ends then
+pub record Printed : Type 0 where
+  pub text : List ℕ
+  pub ending : Ending
+
+abbrev pub printed : List ℕ → Ending → Printed
+printed text ending = record { text = text; ending = ending }
+
+-- what an answer has printed
+abbrev pub printed_by : Answer → Printed
+printed_by answer = printed answer.text.items answer.ending
+
+-- why a source doesn't open, as the program prints it; nothing where memory ran out
+abbrev pub unopened_text : OpenError → List ℕ
+unopened_text (unopened.LineTooLong number) = codes "no O1\n"
+unopened_text unopened.TooManyLines = codes "no O2\n"
+unopened_text unopened.OutOfMemory = []
+
+-- why a source doesn't open, or that memory ran out as it was opened
+abbrev pub IsUnopened : (source : List ℕ) → OpenError → Type 0
+IsUnopened source fault = (fault ≡ unopened.OutOfMemory) ⊎ (open_fault source ≡ Some fault)
+
+abbrev pub printed_faults : List (List ℕ) → Printed
+printed_faults lines = printed (faults_text (faults_of lines)) Faulty
+
+-- a source without an image is faulty
+abbrev pub ending_with : Option (List ℕ) → Ending
+ending_with (Some image) = Done
+ending_with None = Faulty
+
+module _ {W : Type 0} (contents : W → Option (List ℕ)) (old new : Tally W) where
+  -- What a command that prints this did: all of it, or a front where a write failed, or nothing for
+  -- that memory ran out.
+  abbrev pub Prints : Printed → Result Ending Failure → Type 0
+  Prints wanted (Ok ending) = (ending ≡ wanted.ending) × Writes contents old new wanted.text
+  Prints wanted (Err failure.Output) = Breaks contents old new wanted.text
+  Prints wanted (Err failure.OutOfMemory) = new ≡ old
+  Prints wanted (Err _) = ⊥
+
+  -- some front of this text was printed, and nothing else, and no write failed
+  pub record WritesFront (text : List ℕ) : Type 0 where
+    pub front : List ℕ
+    pub begins : BeginsWith text front
+    pub appended : Appends (contents old.inner) (contents new.inner) front
+    pub no_failure : new.failures ≡ old.failures
+
+  -- What a command that prints this part by part did: all of it, or a front where a write failed or
+  -- memory ran out.
+  abbrev pub Streams : Printed → Result Ending Failure → Type 0
+  Streams wanted (Ok ending) = (ending ≡ wanted.ending) × Writes contents old new wanted.text
+  Streams wanted (Err failure.Output) = Breaks contents old new wanted.text
+  Streams wanted (Err failure.OutOfMemory) = WritesFront wanted.text
+  Streams wanted (Err _) = ⊥
+
+  -- What was printed passes a test, or memory ran out before.
+  abbrev pub PrintsSuch : (Printed → Type 0) → Result Ending Failure → Type 0
+  PrintsSuch P result =
+      ((wanted : Printed) × P wanted × Prints wanted result)
+      ⊎ ((result ≡ Err failure.OutOfMemory) × (new ≡ old))
+
+  -- a source that opens, or why it doesn't
+  abbrev pub IfOpens : Option OpenError → (Did : Result Ending Failure → Type 0)
+      → Result Ending Failure → Type 0
+  IfOpens None Did result = Did result
+  IfOpens (Some fault) Did result = Prints (printed (unopened_text fault) Faulty) result
+
+  -- a source that doesn't open is refused
+  abbrev pub Refuses : OpenError → Result Ending Failure → Type 0
+  Refuses unopened.OutOfMemory result = (result ≡ Err failure.OutOfMemory) × (new ≡ old)
+  Refuses fault result = Prints (printed (unopened_text fault) Faulty) result
+
+  -- it ended on such a failure, and nothing was written
+  abbrev pub Fails : (Failure → Type 0) → Outcome → Type 0
+  Fails Why ended = IsErrAnd ended Why × (new ≡ old)

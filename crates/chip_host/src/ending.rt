@@ -1,0 +1,192 @@
+//! How the program ends.
+ghost use Rattle.std.specs.Prelude.{◌≡◌};
+ghost use Rattle.clap.specs.Words.{kind_of};
+ghost use Rattle.chip_host.specs.Endings.{ending_status, failure_status, settings_failure, arguments_failure};
+
+use chip_cases::CaseFault;
+use chip_session::SetError;
+use chip_trace::HeaderError;
+use clap::error::ErrorKind;
+use std::alloc::AllocError;
+use std::{fmt, io, str};
+use thiserror::Error;
+
+/// How the program ends where nothing hinders it.
+#[derive(Clone, Copy)]
+pub enum Ending {
+    Done,
+    /// The source's faults, or why it doesn't open, are printed.
+    Faulty,
+    /// Memory ran out, and what was found until then is printed.
+    Short,
+}
+
+/// The code of a refusal.
+#[derive(Clone, Copy, Debug)]
+pub struct Code(pub &'static [u8]);
+
+impl fmt::Display for Code {
+    fn fmt<W: fmt::Write>(&self, f: &mut fmt::Formatter<W>) -> fmt::Result {
+        f.write_str(str::from_utf8(self.0).unwrap_or("?"))
+    }
+}
+
+/// Why a text states no property.
+#[derive(Debug, Drop)]
+pub struct Report(pub Vec<u8>);
+
+impl fmt::Display for Report {
+    fn fmt<W: fmt::Write>(&self, f: &mut fmt::Formatter<W>) -> fmt::Result {
+        f.write_str(str::from_utf8(&self.0).unwrap_or("?"))
+    }
+}
+
+/// Why a line of a file of cases can't be taken.
+#[derive(Clone, Copy, Debug, Error)]
+pub enum TestFault {
+    #[error("{0}")]
+    Line(CaseFault),
+    #[error("this is not text in UTF-8")]
+    NotText,
+    #[error("this setting does not take such a number")]
+    Number,
+    #[error("there is no such profile")]
+    Profile,
+    #[error("these are no quirks with commas between them, each once")]
+    Quirks,
+    #[error("a tape has 1 to 4096 bytes in hexadecimal, and goes without a seed")]
+    Tape,
+}
+
+/// What hinders the program. The text is for the standard error.
+#[derive(Debug, Drop, Error)]
+pub enum Failure<'a> {
+    #[error("{0}")]
+    Usage(clap::Error),
+    #[error("chipbench: bad tape\n")]
+    BadTape,
+    /// These are no stop causes.
+    #[error("chipbench: --want takes S1 to S7 with commas between them, not {0}\n")]
+    BadCauses(&'a str),
+    /// These are no keys.
+    #[error("chipbench: --keys-allowed takes 0 to 15 with commas between them, not {0}\n")]
+    BadPlayerKeys(&'a str),
+    /// These are no warnings.
+    #[error("chipbench: --allow takes W1 to W8 and P1 to P6 with commas between them, not {0}\n")]
+    BadWarnings(&'a str),
+    /// The source has no such place.
+    #[error("chipbench: --reach takes a label of the source or an address such as #2A0, not {0}\n")]
+    BadPlace(&'a str),
+    /// The text states no property.
+    #[error("{0}")]
+    BadProperty(Report),
+    /// The line of that number states no property.
+    #[error("chipbench: no property in line {0}\n")]
+    NoProperty(u32),
+    /// The line of that number of a key file is refused.
+    #[error("chipbench: keys {0} line {1}: {2}\n")]
+    BadKeys(&'a str, usize, Code),
+    /// The first line of a trace doesn't name columns.
+    #[error("chipbench: {0} is not a trace: {1}\n")]
+    BadTrace(&'a str, HeaderError),
+    /// The line of that number of a file of cases can't be taken.
+    #[error("chipbench: {0}:{1}: {2}\n")]
+    BadTest(&'a str, usize, TestFault),
+    /// The file that the line of that number names can't be read.
+    #[error("chipbench: {0}:{1}: cannot read the file\nreason: {2}\n")]
+    UnreadInTest(&'a str, usize, io::Error),
+    #[error("chipbench: no page on {0}; `chipbench explain` lists the codes\n")]
+    NoPage(&'a str),
+    #[error("chipbench: cannot read {0}\nreason: {1}\n")]
+    CannotRead(&'a str, io::Error),
+    /// The file has over so many bytes.
+    #[error("chipbench: cannot read {0}\nreason: it has over {1} bytes\n")]
+    TooLong(&'a str, u32),
+    #[error("chipbench: cannot write {0}\nreason: {1}\n")]
+    CannotWrite(&'a str, io::Error),
+    #[error("chipbench: input fault\n")]
+    Input,
+    #[error("chipbench: output fault\n")]
+    Output,
+    #[error("chipbench: too much input\n")]
+    TooMuchInput,
+    #[error("chipbench: out of memory\n")]
+    OutOfMemory,
+}
+
+impl Ending {
+    pub fn status(self) -> u8
+        ensures { result ≡ ending_status self }
+    {
+        match self {
+            Ending::Done => 0,
+            Ending::Faulty => 1,
+            Ending::Short => 4,
+        }
+    }
+}
+
+impl<'a> Failure<'a> {
+    pub fn status(&self) -> u8
+        ensures { result ≡ failure_status self.now }
+    {
+        match self {
+            Failure::Usage(_)
+            | Failure::BadTape
+            | Failure::BadCauses(_)
+            | Failure::BadPlayerKeys(_)
+            | Failure::BadWarnings(_)
+            | Failure::BadPlace(_)
+            | Failure::BadProperty(_)
+            | Failure::NoProperty(_)
+            | Failure::BadKeys(_, _, _)
+            | Failure::BadTrace(_, _)
+            | Failure::NoPage(_) => 2,
+            Failure::CannotRead(_, _)
+            | Failure::TooLong(_, _)
+            | Failure::CannotWrite(_, _)
+            | Failure::BadTest(_, _, _)
+            | Failure::UnreadInTest(_, _, _)
+            | Failure::Input
+            | Failure::Output
+            | Failure::TooMuchInput => 3,
+            Failure::OutOfMemory => 4,
+        }
+    }
+}
+
+impl<'a> From<AllocError> for Failure<'a> {
+    ghost use Rattle.chip_host.specs.declared.ending.Failure.TheVariants.{OutOfMemory};
+
+    ghost from_gives = { λ _ failure. failure ≡ OutOfMemory };
+
+    fn from(_error: AllocError) -> Failure<'a> {
+        Failure::OutOfMemory
+    }
+}
+
+// The command line has numbers in their ranges alone, so the tape is all that settings can find
+// bad.
+impl<'a> From<SetError> for Failure<'a> {
+    ghost from_gives = { λ error failure. failure ≡ settings_failure error };
+
+    fn from(error: SetError) -> Failure<'a> {
+        match error {
+            SetError::OutOfMemory => Failure::OutOfMemory,
+            SetError::RateOutOfRange | SetError::TapeLength | SetError::SpacingOutOfRange => {
+                Failure::BadTape
+            }
+        }
+    }
+}
+
+impl<'a> From<clap::Error> for Failure<'a> {
+    ghost from_gives = { λ error failure. failure ≡ arguments_failure (kind_of error) error };
+
+    fn from(error: clap::Error) -> Failure<'a> {
+        match error.kind() {
+            ErrorKind::OutOfMemory => Failure::OutOfMemory,
+            _ => Failure::Usage(error),
+        }
+    }
+}

@@ -1,0 +1,194 @@
+//! What the commands read: settings, sources, images and files of key events.
+ghost use Rattle.std.specs.Prelude.{◌≡◌, ◌<◌, ◌≤◌, ◌⊎◌, [], Ok, None, Some, length, take, IfOk, IfErr};
+ghost use Rattle.chip_lang.specs.declared.limits.TheConstants.{IMAGE_BYTES};
+ghost use Rattle.chip_views.specs.Dis.{source_of_image};
+ghost use Rattle.chip_host.specs.SettingArguments.{settings_asked, tape_asked};
+ghost use Rattle.chip_host.specs.Reading.{IsAsked, IsGiven, IsKeysUnread, IsNotGiven, IsNotTaken, IsTaken, IsUnasked, GivesSource, IsSourceUnread};
+
+use crate::ending::Failure;
+use crate::file_access::FileAccess;
+use crate::limits::KEY_FILE_BYTES;
+use crate::system::System;
+use chip_arguments::{RunArguments, SettingArguments};
+use chip_asm::limits::SOURCE_BYTES;
+use chip_files::read_most;
+use chip_machine::limits::IMAGE_BYTES;
+use chip_session::{Counted, Settings, tape_of};
+use chip_views::source_of_image;
+use hex::FromHexError;
+use std::alloc::Global;
+use std::io::{Read, Write};
+
+// The name of a source that is read from the standard input.
+const INPUT: &str = "-";
+
+// How many bytes of a source are looked at to see that it is an image.
+const FIRST_BYTES: usize = 64;
+
+/// A source of this length or more doesn't open.
+pub const MOST_SOURCE: u32 = SOURCE_BYTES as u32 + 1;
+
+/// The name of a source that is a file.
+pub fn file_name(source: &str) -> Option<&str> {
+    (source != INPUT).then_some(source)
+}
+
+/// The settings that the arguments ask for.
+pub fn settings_of<'a>(
+    alloc: Global,
+    arguments: &SettingArguments<'_>,
+) -> Result<Settings, Failure<'a>>
+    ensures ok { IfOk result (λ settings. settings_asked arguments.now ≡ Some settings) }
+    ensures err { IfErr result (λ failure. (failure ≡ Failure.OutOfMemory)
+        ⊎ ((failure ≡ Failure.BadTape) × (settings_asked arguments.now ≡ None))) }
+{
+    let tape = tape_bytes(alloc, arguments)?;
+    let settings = Settings::new(alloc, arguments.rate, &tape)?.with_quirks(arguments.quirks);
+    Ok(settings.with_spacing(arguments.spacing)?)
+}
+
+// The tape that the arguments ask for. A tape and a seed don't go together.
+fn tape_bytes<'a>(alloc: Global, arguments: &SettingArguments<'_>) -> Result<Vec<u8>, Failure<'a>>
+    ensures ok { IfOk result (λ tape. tape_asked arguments.now ≡ Some tape.items) }
+    ensures err { IfErr result (λ failure. (failure ≡ Failure.OutOfMemory)
+        ⊎ ((failure ≡ Failure.BadTape) × (tape_asked arguments.now ≡ None))) }
+{
+    match (arguments.tape, arguments.seed) {
+        (Some(_), Some(_)) => Err(Failure::BadTape),
+        (Some(digits), None) => match hex::decode(alloc, digits) {
+            Ok(tape) => Ok(tape),
+            Err(FromHexError::OutOfMemory) => Err(Failure::OutOfMemory),
+            Err(_) => Err(Failure::BadTape),
+        },
+        (None, Some(seed)) => Ok(tape_of(alloc, seed)?),
+        (None, None) => Ok(Vec::from_slice(alloc, &[0])?),
+    }
+}
+
+/// A file of key events: its name, and its bytes. Without one there are no bytes.
+#[derive(Drop)]
+pub struct KeyFile<'a> {
+    pub name: &'a str,
+    pub bytes: Vec<u8>,
+}
+
+/// What a run is asked on: a source, a file of key events and settings.
+#[derive(Drop)]
+pub struct AskedRun<'a> {
+    pub source: Vec<u8>,
+    pub keys: KeyFile<'a>,
+    pub settings: Settings,
+}
+
+/// The settings are judged before a file is read, and the key events are read before the source.
+pub fn read_asked<'a, F: FileAccess, I: Read, E: Write>(
+    system: &System<'_, F>,
+    arguments: &RunArguments<'a>,
+    input: &mut Counted<I>,
+    errors: &mut E,
+) -> Result<AskedRun<'a>, Failure<'a>>
+    ensures ok { IfOk result (λ asked. IsAsked I.remaining input.old input.new arguments.entry.now
+        asked) }
+    ensures err { IfErr result (λ why. IsUnasked I.remaining input.old input.new arguments.entry.now
+        why) }
+{
+    let settings = settings_of(system.alloc, &arguments.settings)?;
+    let keys = read_keys(system, arguments.keys)?;
+    let source = read_given(system, arguments.source, arguments.is_image, input, errors)?;
+    Ok(AskedRun {
+        source,
+        keys,
+        settings,
+    })
+}
+
+// The file of key events of that name, or no events without one.
+fn read_keys<'a, F: FileAccess>(
+    system: &System<'_, F>,
+    name: Option<&'a str>,
+) -> Result<KeyFile<'a>, Failure<'a>>
+    ensures ok { IfOk result (λ keys. name.entry ≡ None → keys.bytes.items ≡ []) }
+    ensures bound { IfOk result (λ keys. length keys.bytes.items ≤ KEY_FILE_BYTES) }
+    ensures err { IfErr result (IsKeysUnread name.entry) }
+{
+    match name {
+        Some(name) => Ok(KeyFile {
+            name,
+            bytes: system.read_within(name, KEY_FILE_BYTES)?,
+        }),
+        None => Ok(KeyFile {
+            name: "",
+            bytes: Vec::new(system.alloc),
+        }),
+    }
+}
+
+/// The source of that name, or where an image has the name, what `dis` prints of it.
+pub fn read_given<'a, F: FileAccess, I: Read, E: Write>(
+    system: &System<'_, F>,
+    name: &'a str,
+    is_image: bool,
+    input: &mut Counted<I>,
+    errors: &mut E,
+) -> Result<Vec<u8>, Failure<'a>>
+    ensures ok { IfOk result (λ source. IsGiven I.remaining input.old input.new is_image name.entry
+        source.items) }
+    ensures err { IfErr result (IsNotGiven I.remaining input.old input.new is_image name.entry) }
+{
+    let bytes = read_source(system, name, input)?;
+    as_source(system.alloc, name, is_image, bytes, errors)
+}
+
+/// The bytes themselves, or the source that `dis` prints of them. Where an image was given as a
+/// source, a hint says so on the standard error.
+pub fn as_source<'a, E: Write>(
+    alloc: Global,
+    name: &'a str,
+    is_image: bool,
+    bytes: Vec<u8>,
+    errors: &mut E,
+) -> Result<Vec<u8>, Failure<'a>>
+    ensures ok { IfOk result (λ source. IsTaken is_image name.entry bytes.items source.items) }
+    ensures err { IfErr result (IsNotTaken is_image name.entry bytes.items) }
+{
+    if is_image {
+        if bytes.len() > IMAGE_BYTES {
+            return Err(Failure::TooLong(name, IMAGE_BYTES as u32));
+        }
+        return Ok(source_of_image(alloc, &bytes)?);
+    }
+    // A control byte among the first ones that neither a text has nor the language takes for a blank, as it
+    // does 26, is one of an image.
+    if bytes.iter().take(FIRST_BYTES).any(|byte| *byte < b' '
+        && !matches!(*byte, b'\t' | b'\n' | b'\r' | 0x0c | 0x1a | 0x1b))
+    {
+        let _ = write!(
+            errors,
+            "chipbench: {name} looks like an image; --image runs it as it is\n"
+        );
+    }
+    Ok(bytes)
+}
+
+/// The bytes of a file, or of the standard input where the name is `-`.
+pub fn read_source<'a, F: FileAccess, I: Read>(
+    system: &System<'_, F>,
+    name: &'a str,
+    input: &mut Counted<I>,
+) -> Result<Vec<u8>, Failure<'a>>
+    ensures ok { IfOk result (λ bytes. GivesSource I.remaining input.old input.new
+        name.entry.now bytes.items) }
+    ensures err { IfErr result (IsSourceUnread input.old input.new name.entry) }
+{
+    if name != INPUT {
+        return system.read(name, MOST_SOURCE);
+    }
+    let failures = input.failures();
+    let mut bytes = Vec::new(system.alloc);
+    match read_most(&mut *input, &mut bytes, MOST_SOURCE) {
+        Ok(()) => Ok(bytes),
+        // Where no read failed memory ran out for the bytes.
+        Err(_) if input.failures() == failures => Err(Failure::OutOfMemory),
+        Err(_) => Err(Failure::Input),
+    }
+}
