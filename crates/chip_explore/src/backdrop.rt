@@ -4,6 +4,7 @@ ghost use Rattle.std.specs.Prelude.{◌≡◌, ◌+◌, ◌*◌, ◌^◌, fold, 
 ghost use Rattle.chip_explore.specs.inner.Kept.{state_with, with_byte, with_row};
 
 use crate::kept::{Base, ROWS};
+use crate::sum::word_at;
 use chip_machine::limits::{FLAGS, FRAMES, MEMORY_BYTES};
 use chip_machine::{Machine, Parts};
 use std::alloc::{AllocError, Global};
@@ -60,17 +61,23 @@ impl RowPatch {
     }
 }
 
-/// The bytes of the memory that are not as in the base.
+/// The bytes of the memory that are not as in the base. Whole words that are alike are passed over.
 fn bytes_of(alloc: Global, base: &Base, machine: &Machine) -> Result<Vec<BytePatch>, AllocError> {
     let old = base.machine.memory();
     let new = machine.memory();
     let mut bytes = Vec::new(alloc);
-    for at in 0..MEMORY_BYTES {
-        if old[at] != new[at] {
-            bytes.push(BytePatch {
-                at: at as u16,
-                byte: new[at],
-            })?;
+    for word in 0..MEMORY_BYTES / 8 {
+        let start = 8 * word;
+        if word_at(old, start) == word_at(new, start) {
+            continue;
+        }
+        for at in start..start + 8 {
+            if old[at] != new[at] {
+                bytes.push(BytePatch {
+                    at: at as u16,
+                    byte: new[at],
+                })?;
+            }
         }
     }
     bytes.shrink_to_fit();

@@ -3,8 +3,10 @@
 
 ghost use Rattle.std.specs.Prelude.{◌≡◌, ◌<◌, length};
 
+use crate::executed::Executed;
 use crate::finder::Origin;
-use crate::limits::MOST_QUIET_STEPS;
+use crate::leg::End;
+use crate::limits::{MOST_QUIET_STEPS, STATES_FOR_A_SEARCH};
 use crate::search::Search;
 use crate::setting::Setting;
 use chip_machine::Forgotten;
@@ -19,6 +21,14 @@ pub(crate) struct Trail {
     pub(crate) origin: Origin,
     /// The number of the step after the last.
     pub(crate) to: u64,
+}
+
+/// What a step needs of what is forgotten.
+#[derive(Clone, Copy)]
+struct Need {
+    /// The number of the step.
+    step: u64,
+    needed: Forgotten,
 }
 
 impl Search {
@@ -46,7 +56,11 @@ impl Search {
                 Ok(sources) => sources,
                 Err(_) => needed,
             };
-            if self.knows_more(place, needed, is_first) || !is_first {
+            let is_less = self.knows_more(place, needed, is_first);
+            if is_less && states > STATES_FOR_A_SEARCH {
+                self.refute_next(setting, place, trail, needed);
+            }
+            if is_less || !is_first {
                 return;
             }
             if place >= self.members.steps.len() || place >= self.finder.origins.len() {
@@ -58,6 +72,69 @@ impl Search {
             };
         }
         self.finder.guesses.give_up();
+    }
+
+    /// Notes what the steps of a trail from the state at a place, and those after it, need next, where some
+    /// parts are known of that. The next search would need it only once it has kept as many states.
+    fn refute_next(&mut self, setting: &Setting<'_>, place: usize, trail: Trail, known: Forgotten)
+        requires { 0 < setting.now.rate }
+        ensures { self.new.members ≡ self.old.members }
+    {
+        let mut known = known;
+        for _part in 0..PARTS {
+            let Ok(Some(next)) = self.next_need(setting, place, trail, known) else {
+                return;
+            };
+            let trail = Trail {
+                to: next.step,
+                ..trail
+            };
+            let Ok(sources) = self.sources(setting, place, trail, next.needed) else {
+                return;
+            };
+            if !self.knows_more(place, sources, false) {
+                return;
+            }
+            known = known.with(sources);
+        }
+    }
+
+    /// What they need next of what is forgotten then, if that is found.
+    fn next_need(
+        &mut self,
+        setting: &Setting<'_>,
+        place: usize,
+        trail: Trail,
+        known: Forgotten,
+    ) -> Result<Option<Need>, AllocError>
+        requires { 0 < setting.now.rate }
+        ensures { self.new.members ≡ self.old.members }
+    {
+        if place >= self.members.forgotten.len() {
+            return Ok(None);
+        }
+        let forgotten = self.members.forgotten[place].without(known);
+        let Some(after) = self.first_by(setting, place, trail, forgotten)? else {
+            return Ok(None);
+        };
+        let runner = &mut self.runner;
+        runner.forgotten = after;
+        let from = u64::from(trail.origin.step) + 1;
+        let leg = runner.run(setting, self.end, from, &mut Executed::none());
+        let needed = match leg.end {
+            End::Read => runner.read,
+            End::Joined if !runner.is_quiet => {
+                let parts = self.finder.guesses.at(runner.machine.pc());
+                runner.forgotten.without(parts)
+            }
+            _ => Forgotten::nothing(),
+        };
+        Ok(
+            (!needed.is_nothing()).then_some(Need {
+                step: leg.step,
+                needed,
+            }),
+        )
     }
 
     /// Forgets less of the states at the address of one, and of the bytes less of all states: the answer

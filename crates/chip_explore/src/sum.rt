@@ -24,7 +24,7 @@ fn add_bytes(sum: u64, bytes: &[u8]) -> u64 {
 }
 
 /// Eight bytes as one number.
-fn word_at(bytes: &[u8], at: usize) -> u64
+pub(crate) fn word_at(bytes: &[u8], at: usize) -> u64
     requires { at + 8 ≤ length bytes.now }
 {
     u64::from_le_bytes([
