@@ -11,7 +11,7 @@ use Rattle.chip_asm.specs.declared.block.Block.{Block}
 use Rattle.chip_asm.specs.Layout.{Placed, has_ended, is_side_or_end}
 use Rattle.chip_asm.specs.computed.Walk.{is_active, enclosing}
 use Rattle.chip_asm.specs.declared.pass.Pass.{Pass}
-use Rattle.chip_asm.specs.inner.Follows.{Follows, block_of}
+use Rattle.chip_asm.specs.inner.Placements.{Follows, block_of}
 use Rattle.chip_asm.specs.inner.Blocks.{turned, turn_first}
 
 pub reverse-cons : {X : Type 0} (x : X) (xs : List X) → reverse (x ∷ xs) ≡ reverse xs ++ x ∷ []

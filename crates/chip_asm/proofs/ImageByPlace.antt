@@ -14,13 +14,12 @@ use Rattle.chip_asm.specs.Layout.{Placed}
 use Rattle.chip_asm.specs.Places.{ArePlaced, IsFaultOf, IsImage, IsUnclosed, bytes_in_code, code_among, fault_in_code, names_given}
 use Rattle.chip_asm.specs.Program.{byte_at, bytes_of_lines, code_under, fault_of, fault_of_line, faults_of_lines, image_of_lines, is_unclosed, names_of_lines, unless_faulty}
 use Rattle.chip_asm.specs.computed.Walk.{address, placed, symbols}
-use Rattle.chip_asm.specs.inner.Layouts.{final_placement}
-use Rattle.chip_asm.proofs.Bounds.{end-low}
+use Rattle.chip_asm.specs.inner.Placements.{final_placement}
+use Rattle.chip_asm.proofs.Resumed.{end-low}
 use Rattle.chip_asm.proofs.PassSteps.{covering}
 use Rattle.chip_asm.proofs.LinesApart.{ends-by}
 use Rattle.chip_asm.proofs.LinesByPlace.{at-line, byte-line, byte-outside, low}
-use Rattle.chip_asm.proofs.PlacesAgree.{address-of, only}
-use Rattle.chip_asm.proofs.UnclosedByPlace.{unclosed}
+use Rattle.chip_asm.proofs.PlacesAgree.{address-of, only, unclosed}
 
 pub names-given : (lines : List Reading) (all : List Placed) → ArePlaced lines all → names_of_lines lines ≡ names_given all
 unfolding symbols

@@ -17,7 +17,7 @@ use Rattle.chip_asm.specs.inner.Infos.{AreInfos, AreInfosOf, IsInfo, IsNumberOf,
 use Rattle.chip_asm.specs.inner.KeptLine.{KeptLine}
 use Rattle.chip_asm.specs.inner.Records.{reading_in, readings_in, texts_in}
 use Rattle.chip_asm.specs.inner.Tables.{AreNumbers, Extends, IsNumber, key_at, names_at}
-use Rattle.chip_asm.proofs.LastLine.{one-side}
+use Rattle.chip_asm.proofs.PlacesAgree.{one-side}
 
 pub number-extends : (old new : List Name) (id : NameId) (name : Name) → Extends old new → IsNumber old id name → IsNumber new id name
 number-extends old new id name e n = record {
@@ -61,7 +61,7 @@ no-numbers keys = record { within = All-nil (λ (i : NameId). i.number < length 
 
 pub info-extends : (old new : List Name) (info : LineInfo) (several : List NameId) (line : Reading) → Extends old new → IsInfo old info several line → IsInfo new info several line
 info-extends old new info several line e i = record {
-  bare = i.bare;
+  space = i.space;
   coded = i.coded;
   steady = i.steady;
   defines = number-of-extends old new info.defines _ e i.defines;

@@ -15,12 +15,9 @@ use Rattle.chip_asm.specs.Names.{Name, lookup_name, values_of}
 use Rattle.chip_asm.specs.Layout.{Placed, body_of, is_redefinition, value_at, value_or_zero}
 use Rattle.chip_asm.specs.Program.{is_unclosed, names_of_lines}
 use Rattle.chip_asm.specs.computed.Walk.{address, first_fault, fault_of_value, is_aligning, is_active, is_misplaced, place, placed, symbols}
-use Rattle.chip_asm.specs.inner.Layouts.{final_placement, placements_of}
-use Rattle.chip_asm.specs.inner.Placements.{Found, is_accepted_found}
-use Rattle.chip_asm.proofs.Bounds.{no_fault}
+use Rattle.chip_asm.specs.inner.Placements.{final_placement, placements_of, Found, is_accepted_found}
+use Rattle.chip_asm.proofs.Resumed.{no_fault, NamesSplit, names-split, next-placed, none_from}
 use Rattle.chip_asm.proofs.NameValues.{value-of-name}
-use Rattle.chip_asm.proofs.NextLine.{none_from}
-use Rattle.chip_asm.proofs.Resumed.{NamesSplit, names-split, next-placed}
 use Rattle.chip_asm.proofs.Placing.{length-numbered}
 
 -- laws of the language

@@ -1,20 +1,31 @@
--- A line that opens, turns and ends nothing can be put in the place of another such line.
-use Rattle.std.proofs.Common.{◌≡◌, ℕ, suc, ◌+◌, ℤ, pos, Bool, true, false, cond, ◌&&◌, ◌||◌, nat_lt, is_none, List, [], ◌∷◌, ◌++◌, length, refl, ap, sym, ◌∙◌, Option, Some, None, option_map, option_to_list, Ok, if◌then◌else◌, unsigned_abs}
+-- Lines of which the first pass asks only the size and the name.
+use Rattle.std.proofs.Common.{◌≡◌, ℕ, suc, ◌+◌, ℤ, pos, Bool, true, false, cond, ◌&&◌, ◌||◌, nat_lt, is_none, List, [], ◌∷◌, ◌++◌, length, refl, ap, sym, ◌∙◌, Option, Some, None, option_map, option_to_list, Ok, if◌then◌else◌, unsigned_abs, ◌<◌, ◌≤◌, get_or, subst, reverse, IfSome}
 use Rattle.std.specs.List.{list_all}
 use Rattle.std.specs.Option.{option_map_or}
-use Rattle.std.proofs.lemmas.Bool.{false≢true}
+use Rattle.std.proofs.lemmas.Bool.{false≢true, le-ltb}
 use Rattle.chip_lang.specs.declared.limits.TheConstants.{MEMORY_BYTES}
 use Rattle.chip_lang.specs.declared.fault.Fault.{Fault}
 use Rattle.chip_lang.specs.declared.fault.Fault.TheVariants.{DefinedTwice, PastMemory}
 use Rattle.chip_lang.specs.Line.{Body, empty, db, dw, da, code, else_line, endif, options, used, xref, Reading, bad, read}
 use Rattle.chip_asm.specs.Names.{Name}
 use Rattle.chip_asm.specs.declared.table.Symbol.{Symbol}
-use Rattle.chip_asm.specs.inner.Effect.{is_plain, is_plain_line, AreAlike}
-use Rattle.chip_asm.specs.inner.Follows.{next_aligning}
-use Rattle.chip_asm.specs.Layout.{Placed, body_of, is_if_body, is_else_body, is_endif_body, is_end_body, is_org_body, is_if, is_else, is_endif, takes_effect, is_origin, symbol_of, value_given, condition_of, value_at, value_or_zero, full_size, is_redefinition, has_ended, has_else, holds, first_of}
-use Rattle.chip_asm.specs.computed.Walk.{place, first_fault, fault_of_value, is_misplaced, is_active, enclosing, symbols, address, is_aligning}
+use Rattle.chip_asm.specs.declared.block.Block.{Block}
+use Rattle.chip_asm.specs.inner.Blocks.{moved}
+use Rattle.chip_asm.specs.inner.Infos.{is_plain, is_plain_line, AreAlike, AreInfos, IsInfo, IsNumberOf, IsPlain}
+use Rattle.chip_asm.specs.inner.Placements.{next_aligning, Follows, placement_of, Found}
+use Rattle.chip_asm.specs.Layout.{Placed, body_of, is_if_body, is_else_body, is_endif_body, is_end_body, is_org_body, is_if, is_else, is_endif, takes_effect, is_origin, symbol_of, value_given, condition_of, value_at, value_or_zero, full_size, is_redefinition, has_ended, has_else, holds, first_of, symbol_given}
+use Rattle.chip_asm.specs.computed.Walk.{place, first_fault, fault_of_value, is_misplaced, is_active, enclosing, symbols, address, is_aligning, placed}
 use Rattle.chip_asm.proofs.OpenBlocks.{open_blocks, enclosing-open}
-use Rattle.chip_asm.proofs.PlaceSteps.{address-cons, aligning-cons, has_ended-cons, symbols-cons}
+use Rattle.chip_asm.proofs.Placing.{address-cons, aligning-cons, has_ended-cons, symbols-cons, parts}
+use Rattle.chip_asm.specs.declared.pass.Pass.{Pass}
+use Rattle.chip_asm.specs.declared.table.NameId.{NameId}
+use Rattle.chip_asm.specs.inner.KeptLine.{KeptLine}
+use Rattle.chip_asm.specs.inner.Records.{reading_in}
+use Rattle.chip_asm.specs.inner.Tables.{Tables, name_of, symbols_of}
+use Rattle.chip_asm.proofs.BlockSteps.{active_here}
+use Rattle.chip_asm.proofs.Resumed.{placement-at, follows-push}
+
+-- A line that opens, turns and ends nothing can be put in the place of another such line.
 
 -- statements
 
@@ -32,17 +43,18 @@ pub record Plain (b : Body) : Type 0 where
   pub given : (here : ℕ) (value : ℤ) → value_given here value b ≡ pos here
   pub first : (before : List Placed) (label : Option Name) → first_fault before (read label b)
       ≡ cond (is_redefinition (symbols before) label) (Some DefinedTwice) (cond (nat_lt MEMORY_BYTES (address before + full_size (is_aligning before) (address before) b (pos 0))) (Some PastMemory) None)
+  pub stays : (opened : Block) (nearest : List Block) → nearest ≡ moved b opened nearest
 
 pub plain : (b : Body) → is_plain b ≡ true → Plain b
 unfolding first_fault fault_of_value value_at
-plain empty h = record { no_if = refl; no_else = refl; no_endif = refl; condition = λ names. refl; value = λ names. refl; no_org = refl; no_end = refl; no_align = λ a g. refl; given = λ n v. refl; first = λ before label. refl }
-plain options h = record { no_if = refl; no_else = refl; no_endif = refl; condition = λ names. refl; value = λ names. refl; no_org = refl; no_end = refl; no_align = λ a g. refl; given = λ n v. refl; first = λ before label. refl }
-plain used h = record { no_if = refl; no_else = refl; no_endif = refl; condition = λ names. refl; value = λ names. refl; no_org = refl; no_end = refl; no_align = λ a g. refl; given = λ n v. refl; first = λ before label. refl }
-plain xref h = record { no_if = refl; no_else = refl; no_endif = refl; condition = λ names. refl; value = λ names. refl; no_org = refl; no_end = refl; no_align = λ a g. refl; given = λ n v. refl; first = λ before label. refl }
-plain (db es) h = record { no_if = refl; no_else = refl; no_endif = refl; condition = λ names. refl; value = λ names. refl; no_org = refl; no_end = refl; no_align = λ a g. refl; given = λ n v. refl; first = λ before label. refl }
-plain (dw es) h = record { no_if = refl; no_else = refl; no_endif = refl; condition = λ names. refl; value = λ names. refl; no_org = refl; no_end = refl; no_align = λ a g. refl; given = λ n v. refl; first = λ before label. refl }
-plain (da bytes) h = record { no_if = refl; no_else = refl; no_endif = refl; condition = λ names. refl; value = λ names. refl; no_org = refl; no_end = refl; no_align = λ a g. refl; given = λ n v. refl; first = λ before label. refl }
-plain (code f os) h = record { no_if = refl; no_else = refl; no_endif = refl; condition = λ names. refl; value = λ names. refl; no_org = refl; no_end = refl; no_align = λ a g. refl; given = λ n v. refl; first = λ before label. refl }
+plain empty h = record { no_if = refl; no_else = refl; no_endif = refl; condition = λ names. refl; value = λ names. refl; no_org = refl; no_end = refl; no_align = λ a g. refl; given = λ n v. refl; first = λ before label. refl; stays = λ opened nearest. refl }
+plain options h = record { no_if = refl; no_else = refl; no_endif = refl; condition = λ names. refl; value = λ names. refl; no_org = refl; no_end = refl; no_align = λ a g. refl; given = λ n v. refl; first = λ before label. refl; stays = λ opened nearest. refl }
+plain used h = record { no_if = refl; no_else = refl; no_endif = refl; condition = λ names. refl; value = λ names. refl; no_org = refl; no_end = refl; no_align = λ a g. refl; given = λ n v. refl; first = λ before label. refl; stays = λ opened nearest. refl }
+plain xref h = record { no_if = refl; no_else = refl; no_endif = refl; condition = λ names. refl; value = λ names. refl; no_org = refl; no_end = refl; no_align = λ a g. refl; given = λ n v. refl; first = λ before label. refl; stays = λ opened nearest. refl }
+plain (db es) h = record { no_if = refl; no_else = refl; no_endif = refl; condition = λ names. refl; value = λ names. refl; no_org = refl; no_end = refl; no_align = λ a g. refl; given = λ n v. refl; first = λ before label. refl; stays = λ opened nearest. refl }
+plain (dw es) h = record { no_if = refl; no_else = refl; no_endif = refl; condition = λ names. refl; value = λ names. refl; no_org = refl; no_end = refl; no_align = λ a g. refl; given = λ n v. refl; first = λ before label. refl; stays = λ opened nearest. refl }
+plain (da bytes) h = record { no_if = refl; no_else = refl; no_endif = refl; condition = λ names. refl; value = λ names. refl; no_org = refl; no_end = refl; no_align = λ a g. refl; given = λ n v. refl; first = λ before label. refl; stays = λ opened nearest. refl }
+plain (code f os) h = record { no_if = refl; no_else = refl; no_endif = refl; condition = λ names. refl; value = λ names. refl; no_org = refl; no_end = refl; no_align = λ a g. refl; given = λ n v. refl; first = λ before label. refl; stays = λ opened nearest. refl }
 plain _ h = absurd (false≢true h)
 
 -- lines
@@ -57,22 +69,6 @@ pub place-at : (before : List Placed) (line : Reading) (number : ℕ) (block : O
 unfolding place
 place-at before line number block condition active here value fault size n b c l h v f s = rw (s, f, v, h, l, c, b, n) refl
 
--- a line's parts, of the line itself
-pub record Parts (before : List Placed) (line : Reading) : Type 0 where
-  pub number : (place before line).number ≡ length before + 1
-  pub block : (place before line).block ≡ option_map (λ o. o.number) (first_of (enclosing before))
-  pub condition : (place before line).condition ≡ condition_of (symbols before) (body_of line)
-  pub active : (place before line).active ≡ is_active before (body_of line)
-  pub here : (place before line).here ≡ address before
-  pub value : (place before line).value ≡ value_or_zero (value_at (symbols before) (body_of line))
-  pub fault : (place before line).fault ≡ (if (place before line).active then first_fault before line else None)
-  pub size : (place before line).size ≡ (if takes_effect (place before line) then full_size (is_aligning before) (place before line).here (body_of line) (place before line).value else 0)
-  pub line_is : (place before line).line ≡ line
-
-pub parts : (before : List Placed) (line : Reading) → Parts before line
-unfolding place
-parts before line = record { number = refl; block = refl; condition = refl; active = refl; here = refl; value = refl; fault = refl; size = refl; line_is = refl }
-
 -- the same line with another text
 abbrev pub with_line : Placed → Reading → Placed
 with_line p line = record p { line = line }
@@ -84,7 +80,7 @@ active-plain before a b x y = rw (x.no_else, x.no_endif, y.no_else, y.no_endif) 
 full-same : (a : Bool) (here : ℕ) (old new : Reading) → AreAlike old new → full_size a here (body_of old) (pos 0) ≡ full_size a here (body_of new) (pos 0)
 full-same a here old new s = rw (s.size, s.padded) refl
 
-plain-line : (line : Reading) → is_plain_line line ≡ true → Plain (body_of line)
+pub plain-line : (line : Reading) → is_plain_line line ≡ true → Plain (body_of line)
 plain-line (bad f) h = absurd (false≢true h)
 plain-line (read label b) h = plain b h
 
@@ -233,3 +229,85 @@ quiet-same p q before a b names size = record {
 pub same-swapped : (p : Placed) (new : Reading) (before : List Placed) → AreAlike p.line new → Same (p ∷ before) (with_line p new ∷ before)
 same-swapped p new before e =
     quiet-same p (with_line p new) before (quiet-old p new e) (quiet-new p new e) (symbol-same p new e) refl
+
+-- What the first pass finds of a line of which it asks only the size and the name.
+
+-- the number of a name, if there is one, tells whether there is one
+named-so : (keys : List Name) (defines : Option NameId) (name : Option Name) → IsNumberOf keys defines name → name_of keys defines ≡ name
+named-so keys None name n = sym n
+named-so keys (Some id) None n = absurd n
+named-so keys (Some id) (Some name) n = ap Some n.named
+
+given : (number here : ℕ) (value : ℤ) (body : Body) (name : Option Name) → Plain body → option_map (λ n. (n, record { value = pos here; line = number })) name ≡ symbol_given number here value (read name body)
+given number here value body None p = refl
+given number here value body (Some name) p = ap (λ v. Some (name, record { value = v; line = number })) (sym (p.given here value))
+
+-- where it has no fault it is passed, active or not
+abbrev pub found-plain : ℕ → ℕ → Bool → Found
+found-plain here size active = record { value = pos 0; here = here; size = size; fault = None; active = active }
+
+pub passed-plain : (pass : Pass) (names : Tables) (lines : List Reading) (line : Reading) (at size : ℕ) (defines : Option NameId) (active : Bool) → pass.active ≡ active → Follows pass (placed lines) → at ≡ length lines
+    → IsPlain pass.names.keys active pass.aligning pass.here line size defines → (fits : pass.here + size ≤ MEMORY_BYTES) → is_redefinition pass.names.symbols (name_of pass.names.keys defines) ≡ false
+    → names.symbols ≡ pass.names.symbols ++ symbols_of pass.names.keys defines (record { value = pos pass.here; line = at + 1 })
+    → (found-plain pass.here size active ≡ placement_of (place (placed lines) line)) × Follows (record pass { here = pass.here + size; within = fits; names = names }) (placed (lines ++ line ∷ []))
+passed-plain pass names lines (bad fault) at size defines active same f is b fits new given_now = absurd (let never : false ≡ true = b.plain in cc)
+passed-plain pass names lines (read name body) at size defines active same f is b fits new given_now = (
+  found_now,
+  follows-push pass (record pass { here = pass.here + size; within = fits; names = names }) lines line (at + 1) q (ap (λ n. n + 1) is) f found_now (record {
+    at_address = rw e.no_org (no-jump (q.active && true));
+    aligning = sym (e.no_align (q.active && true) pass.aligning);
+    ended = rw e.no_end (no-end q.active);
+    names = given_now ∙ ap (λ s. pass.names.symbols ++ option_to_list s) (adds active b.named);
+    open_blocks = λ nearest opened. opened ∙ ap reverse (e.stays _ nearest);
+    active = λ nearest opened nested. f.active;
+  }),
+)
+  where
+    line : Reading
+    line = read name body
+
+    e : Plain body
+    e = plain body b.plain
+
+    before : List Placed
+    before = placed lines
+
+    q : Found
+    q = found-plain pass.here size active
+
+    no-jump : (a : Bool) → pass.here + size ≡ cond (a && false) (unsigned_abs (pos 0)) (pass.here + size)
+    no-jump true = refl
+    no-jump false = refl
+
+    no-end : (l : Bool) → pass.ended ≡ ((l && false) || pass.ended)
+    no-end true = refl
+    no-end false = refl
+
+    adds : (active : Bool) → IsNumberOf pass.names.keys defines (if active then name else None)
+        → option_map (λ n. (n, record { value = pos pass.here; line = at + 1 })) (name_of pass.names.keys defines) ≡ (if active && true then symbol_given (at + 1) pass.here (pos 0) line else None)
+    adds true n = rw (named-so pass.names.keys defines name n) (given (at + 1) pass.here (pos 0) body name e)
+    adds false n = rw (named-so pass.names.keys defines None n) refl
+
+    faultless : (active : Bool) → IsNumberOf pass.names.keys defines (if active then name else None) → size ≡ (if active then full_size pass.aligning pass.here body (pos 0) else 0) → None ≡ (if active then first_fault before line else None)
+    faultless false n s = refl
+    faultless true n s =
+        let once : is_redefinition (symbols before) name ≡ false = rw (← f.names, ← named-so pass.names.keys defines name n) new in
+        let room : nat_lt MEMORY_BYTES (address before + full_size (is_aligning before) (address before) body (pos 0)) ≡ false = rw (← f.aligning, ← f.at_address, ← s) (le-ltb MEMORY_BYTES (pass.here + size) fits) in
+        sym (e.first before name ∙ (rw (once, room) refl))
+
+    sizes : (active : Bool) → size ≡ (if active then full_size pass.aligning pass.here body (pos 0) else 0) → size ≡ (if active && true then full_size (is_aligning before) pass.here body (pos 0) else 0)
+    sizes true s = s ∙ ap (λ a. full_size a pass.here body (pos 0)) f.aligning
+    sizes false s = s
+
+    found_now : q ≡ placement_of (place before line)
+    found_now =
+        placement-at before line active pass.here None (pos 0) size (sym same ∙ active_here pass before body (rw (e.no_else, e.no_endif) refl) f) f.at_address (rw e.value refl) (faultless active b.named b.sized) (sizes active b.sized)
+
+-- what is kept beside the line at a place
+pub info-here : (keys : List Name) (lines : List KeptLine) (place : ℕ) (kept : KeptLine) → AreInfos keys lines → place < length lines → kept ≡ get_or lines place kept → IsInfo keys kept.info kept.several (reading_in kept)
+info-here keys lines place kept infos inside is = subst (λ (k : KeptLine). IsInfo keys k.info k.several (reading_in k)) (sym is) (infos place kept inside)
+
+pub number-within : (keys : List Name) (defines : Option NameId) (name : Option Name) → IsNumberOf keys defines name → IfSome defines (λ id. id.number < length keys)
+number-within keys None name n = tt
+number-within keys (Some id) None n = absurd n
+number-within keys (Some id) (Some name) n = n.within

@@ -1,27 +1,201 @@
--- What is placed of the first lines of a source is the first part of what is placed of all.
-use Rattle.std.proofs.Common.{◌≡◌, ℕ, ◌+◌, ◌<◌, ◌≤◌, Bool, true, false, cond, not, ◌&&◌, ◌||◌, List, [], ◌∷◌, ◌++◌, map, reverse, length, take, drop, fold, get_or, filter_map, refl, ap, sym, subst, ◌∙◌, arith, Option, Some, None, option_map, option_to_list, append_assoc, All}
-use Rattle.std.specs.List.{cons_option}
+-- The first lines of a source, the next one, and where each of all lines stands.
+use Rattle.std.proofs.Common.{◌≡◌, ◌-◌, Bool, true, false, ◌&&◌, ◌||◌, List, [], ◌∷◌, ◌++◌, map, reverse, fold, length, length-append, refl, ap, sym, subst, ◌∙◌, Some, None, slice_get, arith, ℕ, ◌+◌, ℤ, not, is_none, if◌then◌else◌, Option, Ok, Err, option_to_list, Result, ◌<◌, ◌≤◌, cond, take, drop, get_or, filter_map, option_map, append_assoc, All, suc, zero, pos, negsuc, unsigned_abs}
+use Rattle.std.specs.List.{list_all, cons_option}
+use Rattle.std.proofs.lemmas.List.Folds.{list_all-append, list_all-map}
+use Rattle.chip_lang.specs.Line.{Body, Reading, ifdef, ifund, else_line, endif, align, org, bad, read}
+use Rattle.chip_asm.specs.declared.block.Block.{Block}
+use Rattle.chip_asm.specs.Layout.{Placed, body_of, has_ended, is_if_body, is_side_or_end, full_size, value_at, value_or_zero, is_end_body, condition_of, symbol_given, is_if, is_align_body, is_endif, takes_effect, symbol_of, value_given, is_org_body, is_backwards, is_past_end, is_negative_space, is_redefinition}
+use Rattle.chip_asm.specs.computed.Walk.{place, placed, is_active, enclosing, first_fault, symbols, is_aligning, address, fault_of_value, is_misplaced}
+use Rattle.chip_asm.specs.inner.Placements.{block_of, Follows, placement_of, next_address, next_aligning, Found, is_accepted_found, found, IsLayoutOf, first_placements, final_placement, placements_of}
+use Rattle.chip_asm.specs.inner.Blocks.{AreNested, moved, turn_first, close_first}
+use Rattle.chip_asm.proofs.BlockSteps.{reverse-cons, list_all-reverse}
+use Rattle.chip_asm.proofs.PlacesAgree.{at-end}
+use Rattle.chip_asm.proofs.OpenBlocks.{IsNumbered, blocks-cons, open_blocks, rest_of, enclosing-open}
+use Rattle.chip_asm.proofs.Placing.{has_ended-cons, address-cons, aligning-cons, symbols-cons, onto, line-at, numbered-place, placed-push, numbered-next, length-placed, fold-append, numbered, length-numbered, parts}
+use Rattle.chip_lang.specs.declared.fault.Fault.{Fault}
+use Rattle.chip_asm.specs.declared.pass.Pass.{Pass}
 use Rattle.std.proofs.Math.Seq.{take-append_seam, get_or-append_seam}
-use Rattle.std.proofs.lemmas.List.{append-nil, map-append, length-map, take-append-drop, length-take-le, take_at, take_more}
-use Rattle.std.proofs.lemmas.List.Elements.{filter_map-append, All-nil, All-cons, All-head, All-tail, All-append, All-weaker}
-use Rattle.chip_lang.specs.Line.{Body, align, Reading}
+use Rattle.std.proofs.lemmas.List.{append-nil, map-append, length-map, take-append-drop, length-take-le, take_at, take_more, length-take, take-map, get_or-take}
+use Rattle.std.proofs.lemmas.List.Elements.{filter_map-append, All-nil, All-cons, All-head, All-tail, All-append, All-weaker, All-map}
 use Rattle.chip_lang.specs.Uses.{name_defined}
-use Rattle.chip_asm.specs.inner.Placements.{Found, found}
 use Rattle.chip_asm.specs.Names.{Name}
 use Rattle.chip_asm.specs.declared.layout.Layout.{Layout}
 use Rattle.chip_asm.specs.declared.table.Symbol.{Symbol}
-use Rattle.chip_asm.specs.Layout.{Placed, body_of, is_if, is_if_body, is_end_body, is_align_body, is_endif, takes_effect, has_ended, symbol_of, value_given}
-use Rattle.chip_asm.specs.computed.Walk.{place, placed, is_aligning, enclosing, symbols}
 use Rattle.chip_asm.specs.Program.{names_of_lines}
-use Rattle.chip_asm.specs.inner.Follows.{placement_of, next_aligning}
-use Rattle.chip_asm.specs.inner.Layouts.{IsLayoutOf, first_placements, final_placement, placements_of}
-use Rattle.chip_asm.specs.inner.Infos.{is_steady}
+use Rattle.chip_asm.specs.inner.Infos.{is_steady, AreInfos, AreSteady}
 use Rattle.chip_asm.specs.inner.Tables.{AreOver, AreUpTo}
-use Rattle.chip_asm.proofs.BlockSteps.{reverse-cons}
-use Rattle.chip_asm.proofs.Numbers.{IsNumbered}
-use Rattle.chip_asm.proofs.OpenBlocks.{open_blocks, rest_of, enclosing-open}
-use Rattle.chip_asm.proofs.PlaceSteps.{aligning-cons, has_ended-cons, symbols-cons}
-use Rattle.chip_asm.proofs.Placing.{onto, fold-append, placed-push, numbered, length-placed, length-numbered}
+use Rattle.std.specs.Prelude.{int_lt}
+use Rattle.std.proofs.lemmas.Bool.{ltb-false}
+use Rattle.chip_lang.specs.declared.limits.TheConstants.{IMAGE_START, MEMORY_BYTES}
+use Rattle.std.proofs.lemmas.Option.{get_or_from_slice_get, slice_get_within}
+use Rattle.chip_asm.specs.declared.edit.Edit.{Edit}
+use Rattle.chip_asm.specs.inner.KeptLine.{KeptLine}
+use Rattle.chip_asm.specs.inner.Records.{IsPlaceWithin, lines_after, reading_in, readings_in, first_changed}
+use Rattle.chip_asm.proofs.LinesAfter.{Edited, edited-lines, first-within, same-front, shorter}
+
+-- The state of the pass after one line more.
+
+-- An IF line is active just where the blocks around it hold, unless an END came.
+
+-- what holds of the open blocks where no END came
+abbrev pub Nests : List Placed → Type 0
+Nests before = has_ended before ≡ false → AreNested (map (block_of before) (enclosing before))
+
+nested-turned : (bs : List Block) → AreNested bs → AreNested (turn_first bs)
+nested-turned [] n = tt
+nested-turned (b ∷ bs) n = by b.has_else refl
+  where
+    by : (e : Bool) → b.has_else ≡ e → AreNested (turn_first (b ∷ bs))
+    by true e = rw e n
+    by false e = rw e n
+
+nested-closed : (bs : List Block) → AreNested bs → AreNested (close_first bs)
+nested-closed [] n = tt
+nested-closed (b ∷ bs) n = n.1
+
+nested-moved : (body : Body) (opened : Block) (bs : List Block) → (is_if_body body ≡ true → opened.active ≡ list_all (λ (o : Block). o.holds) bs) → AreNested bs → AreNested (moved body opened bs)
+nested-moved (ifdef name) opened bs o n = (o refl, n)
+nested-moved (ifund name) opened bs o n = (o refl, n)
+nested-moved else_line opened bs o n = nested-turned bs n
+nested-moved endif opened bs o n = nested-closed bs n
+nested-moved _ opened bs o n = n
+
+if_not_side : (body : Body) → is_if_body body ≡ true → is_side_or_end body ≡ false
+if_not_side (ifdef name) e = refl
+if_not_side (ifund name) e = refl
+if_not_side _ e = cc
+
+active-if : (before : List Placed) (body : Body) → is_if_body body ≡ true → has_ended before ≡ false
+    → is_active before body ≡ list_all (λ (o : Block). o.holds) (map (block_of before) (enclosing before))
+unfolding is_active
+active-if before body e yet = rw (if_not_side body e, yet) (sym (list_all-map (λ (o : Block). o.holds) (block_of before) (enclosing before)))
+
+or_false : (a b : Bool) → (a || b) ≡ false → b ≡ false
+or_false true b e = cc
+or_false false b e = e
+
+nests-place : (before : List Placed) (line : Reading) → IsNumbered before → Nests before → Nests (place before line ∷ before)
+nests-place before line numbered n yet =
+    let p = place before line in
+    let bs = map (block_of before) (enclosing before) in
+    let no_end : has_ended before ≡ false = or_false _ (has_ended before) (sym (has_ended-cons p before) ∙ yet) in
+    let opened : Block = record { number = p.number; active = p.active; holds = p.condition; has_else = false } in
+    let active : is_if_body (body_of p.line) ≡ true → opened.active ≡ list_all (λ (o : Block). o.holds) bs =
+    λ e. (parts before line).active ∙ active-if before (body_of line) (ap (λ l. is_if_body (body_of l)) (sym (line-at before line)) ∙ e) no_end in
+    subst AreNested (sym (blocks-cons p before (numbered-place before line numbered))) (nested-moved (body_of p.line) opened bs active (n no_end))
+
+nests-fold : (before : List Placed) (lines : List Reading) → IsNumbered before → Nests before → Nests (fold onto before lines)
+nests-fold before [] numbered n = n
+nests-fold before (line ∷ lines) numbered n = nests-fold (onto before line) lines (numbered-place before line numbered) (nests-place before line numbered n)
+
+nests-none : Nests []
+unfolding enclosing
+nests-none yet = tt
+
+-- so it is after any lines
+pub nested-placed : (lines : List Reading) → Nests (placed lines)
+unfolding placed
+nested-placed lines = nests-fold [] lines tt nests-none
+
+and_true : (a b : Bool) → (a && (b && true)) ≡ (a && b)
+and_true true true = refl
+and_true true false = refl
+and_true false b = refl
+
+-- whether all hold, as the last one says
+all-by-last : (items nearest : List Block) (b : Block) → items ≡ reverse nearest → AreNested nearest → slice_get items (length items - 1) ≡ Some b
+    → (b.active && b.holds) ≡ list_all (λ (o : Block). o.holds) items
+all-by-last items [] b e n at = let none : Some b ≡ None = sym at ∙ ap (λ (l : List Block). slice_get l (length items - 1)) e in cc
+all-by-last items (x ∷ outer) b e n at =
+    let split : items ≡ reverse outer ++ x ∷ [] = e ∙ reverse-cons x outer in
+    let place_of : length items - 1 ≡ length (reverse outer) = omega (arith, ap length split, length-append (reverse outer) (x ∷ [])) in
+    let there : slice_get (reverse outer ++ x ∷ []) (length (reverse outer)) ≡ Some b = rw (sym split, sym place_of) at in
+    let same : x ≡ b = (let here = at-end (reverse outer) [] x in cc) in
+    let whole : list_all (λ (o : Block). o.holds) items ≡ (list_all (λ (o : Block). o.holds) (reverse outer) && (x.holds && true))
+    = ap (list_all (λ (o : Block). o.holds)) split ∙ list_all-append (λ (o : Block). o.holds) (reverse outer) (x ∷ []) in
+    ap (λ (o : Block). o.active && o.holds) (sym same) ∙ ap (λ l. l && x.holds) (n.0 ∙ sym (list_all-reverse (λ (o : Block). o.holds) outer)) ∙ sym (and_true _ x.holds) ∙ sym whole
+
+pub holds-by-last : (items nearest : List Block) (b : Block) → items ≡ reverse nearest → AreNested nearest → slice_get items (length items - 1) ≡ Some b
+    → b.active ≡ true → b.holds ≡ list_all (λ (o : Block). o.holds) items
+holds-by-last items nearest b e n at active = ap (λ l. l && b.holds) (sym active) ∙ all-by-last items nearest b e n at
+
+pub fails-by-last : (items nearest : List Block) (b : Block) → items ≡ reverse nearest → AreNested nearest → slice_get items (length items - 1) ≡ Some b
+    → b.active ≡ false → b.active ≡ list_all (λ (o : Block). o.holds) items
+fails-by-last items nearest b e n at dead = dead ∙ ap (λ l. l && b.holds) (sym dead) ∙ all-by-last items nearest b e n at
+
+-- the parts of a placement, one by one
+pub placement-at : (before : List Placed) (line : Reading) (active : Bool) (here : ℕ) (fault : Option Fault) (value : ℤ) (size : ℕ)
+    → active ≡ is_active before (body_of line) → here ≡ address before
+    → value ≡ value_or_zero (value_at (symbols before) (body_of line))
+    → fault ≡ (if active then first_fault before line else None)
+    → size ≡ (if active && is_none fault then full_size (is_aligning before) here (body_of line) value else 0)
+    → (let made : Found = record { active = active; here = here; fault = fault; value = value; size = size } in made ≡ placement_of (place before line))
+unfolding place
+placement-at before line active here fault value size l h v f s = rw (s, f, v, h, l) refl
+
+-- what the state is after a line of which this holds
+pub record Advances (pass next : Pass) (line : Reading) (q : Found) (number : ℕ) : Type 0 where
+  pub at_address : next.here ≡ next_address (is_accepted_found q) pass.here (body_of line) q.value q.size
+  pub aligning : next.aligning ≡ next_aligning (is_accepted_found q) pass.aligning (body_of line)
+  pub ended : next.ended ≡ ((q.active && is_end_body (body_of line)) || pass.ended)
+  pub names : next.names.symbols ≡ pass.names.symbols ++ option_to_list (if is_accepted_found q then symbol_given number pass.here q.value line else None)
+  pub open_blocks : (nearest : List Block) → pass.blocks.items ≡ reverse nearest
+      → next.blocks.items ≡ reverse (moved (body_of line) (record { number = number; active = q.active; holds = condition_of pass.names.symbols (body_of line); has_else = false }) nearest)
+  pub active : (nearest : List Block) → next.blocks.items ≡ reverse nearest → (next.ended ≡ false → AreNested nearest)
+      → next.active ≡ (not next.ended && list_all (λ b. b.holds) next.blocks.items)
+
+condition-at : (before : List Placed) (line : Reading) → (place before line).condition ≡ condition_of (symbols before) (body_of (place before line).line)
+unfolding place
+condition-at before line = refl
+
+blocks-next : (pass next : Pass) (before : List Placed) (p : Placed) (number : ℕ) → IsNumbered (p ∷ before) → number ≡ p.number
+    → p.condition ≡ condition_of (symbols before) (body_of p.line) → Follows pass before → Advances pass next p.line (placement_of p) number
+    → next.blocks.items ≡ reverse (map (block_of (p ∷ before)) (enclosing (p ∷ before)))
+blocks-next pass next before p number numbered is_number at_condition f a =
+    let turned_to = λ (holding : Bool). reverse (moved (body_of p.line) (record { number = number; active = p.active; holds = holding; has_else = false }) (map (block_of before) (enclosing before))) in
+    let e : next.blocks.items ≡ turned_to (condition_of pass.names.symbols (body_of p.line)) = a.open_blocks (map (block_of before) (enclosing before)) f.open_blocks in
+    let k : condition_of pass.names.symbols (body_of p.line) ≡ p.condition = ap (λ names. condition_of names (body_of p.line)) f.names ∙ sym at_condition in
+    e ∙ ap turned_to k ∙ (rw is_number (ap reverse (sym (blocks-cons p before numbered))))
+
+follows-next : (pass next : Pass) (before : List Placed) (p : Placed) (number : ℕ) → IsNumbered (p ∷ before) → Nests (p ∷ before) → p.here ≡ address before
+    → p.condition ≡ condition_of (symbols before) (body_of p.line) → number ≡ p.number
+    → Follows pass before → Advances pass next p.line (placement_of p) number → Follows next (p ∷ before)
+follows-next pass next before p number numbered nests at_here at_condition is_number f a =
+    let ended : next.ended ≡ has_ended (p ∷ before) = a.ended ∙ (rw f.ended (sym (has_ended-cons p before))) in
+    let open_blocks = blocks-next pass next before p number numbered is_number at_condition f a in
+    record {
+      at_address = a.at_address ∙ (rw f.at_address (sym (address-cons p before)));
+      aligning = a.aligning ∙ (rw f.aligning (sym (aligning-cons p before)));
+      ended = ended;
+      open_blocks = open_blocks;
+      names = a.names ∙ (rw (f.names, f.at_address, ← at_here, is_number) (sym (symbols-cons p before)));
+      active = a.active (map (block_of (p ∷ before)) (enclosing (p ∷ before))) open_blocks (λ yet. nests (sym ended ∙ yet));
+    }
+
+-- a whole list of lines, and one line more
+pub follows-push : (pass next : Pass) (lines : List Reading) (line : Reading) (number : ℕ) (q : Found) → number ≡ length lines + 1
+    → Follows pass (placed lines) → q ≡ placement_of (place (placed lines) line) → Advances pass next line q number → Follows next (placed (lines ++ line ∷ []))
+follows-push pass next lines line number q n f e a =
+    let found : Advances pass next line (placement_of (place (placed lines) line)) number = subst (λ (r : Found). Advances pass next line r number) e a in
+    let here : Advances pass next (place (placed lines) line).line (placement_of (place (placed lines) line)) number
+    = subst (λ (l : Reading). Advances pass next l (placement_of (place (placed lines) line)) number) (sym (line-at (placed lines) line)) found in
+    rw placed-push
+    (follows-next pass next (placed lines) (place (placed lines) line) number (numbered-next lines line) (subst Nests (placed-push lines line) (nested-placed (lines ++ line ∷ []))) (parts (placed lines) line).here (condition-at (placed lines) line)
+    (n ∙ ap (λ k. k + 1) (sym (length-placed lines)) ∙ sym (parts (placed lines) line).number) f here)
+
+pub none_from : (o : Option Fault) → is_none o ≡ true → o ≡ None
+none_from None h = refl
+none_from (Some x) h = cc
+
+-- where the value has no fault, the line's own faults are those at the value
+pub fits_at : (a : Bool) (here : ℕ) (body : Body) (read : Result ℤ Fault) (v : ℤ) → v ≡ value_or_zero read → fault_of_value a here body read ≡ None → fault_of_value a here body (Ok v) ≡ None
+unfolding fault_of_value
+fits_at a here body (Ok w) v e h = rw e h
+fits_at a here body (Err f) v e h = cc
+
+-- The first lines of a source, and where each of all lines stands.
+
+-- What is placed of the first lines of a source is the first part of what is placed of all.
 
 -- the first part
 
@@ -33,14 +207,6 @@ record Begins (before all : List Placed) : Type 0 where
   is : reverse all ≡ reverse before ++ rest
   later : Above (length before) rest
 
-number-next : (before : List Placed) (line : Reading) → (place before line).number ≡ length before + 1
-unfolding place
-number-next before line = refl
-
-line-next : (before : List Placed) (line : Reading) → (place before line).line ≡ line
-unfolding place
-line-next before line = refl
-
 begins-fold : (before : List Placed) (lines : List Reading) → Begins before (fold onto before lines)
 begins-fold before [] = record { rest = []; is = sym (append-nil (reverse before)); later = All-nil (λ p. length before < p.number) }
 begins-fold before (line ∷ lines) =
@@ -50,7 +216,7 @@ begins-fold before (line ∷ lines) =
     record {
       rest = place before line ∷ b.rest;
       is = b.is ∙ ap (λ xs. xs ++ b.rest) (reverse-cons (place before line) before) ∙ append_assoc (reverse before) (place before line ∷ []) b.rest;
-      later = All-cons (P (length before)) (place before line) b.rest (omega (arith, number-next before line)) (All-weaker (P (length (onto before line))) (P (length before)) weaker b.rest b.later);
+      later = All-cons (P (length before)) (place before line) b.rest (omega (arith, (parts before line).number)) (All-weaker (P (length (onto before line))) (P (length before)) weaker b.rest b.later);
     }
 
 begins-append : (xs ys : List Reading) → Begins (placed xs) (placed (xs ++ ys))
@@ -82,24 +248,24 @@ steady-body body s = by (is_if_body body) (is_end_body body) (is_align_body body
     by false true a i e al h = cc
     by true e a i en al h = cc
 
-abbrev AreSteady : List Placed → Type 0
-AreSteady [] = Unit {0}
-AreSteady (p ∷ before) = IsSteady (body_of p.line) × AreSteady before
+abbrev AreSteadyLines : List Placed → Type 0
+AreSteadyLines [] = Unit {0}
+AreSteadyLines (p ∷ before) = IsSteady (body_of p.line) × AreSteadyLines before
 
 abbrev pub AllSteady : List Reading → Type 0
 AllSteady lines = All (λ line. is_steady (body_of line) ≡ true) lines
 
-steady-fold : (before : List Placed) (lines : List Reading) → AreSteady before → AllSteady lines → AreSteady (fold onto before lines)
+steady-fold : (before : List Placed) (lines : List Reading) → AreSteadyLines before → AllSteady lines → AreSteadyLines (fold onto before lines)
 steady-fold before [] s h = s
 steady-fold before (line ∷ lines) s h =
-    steady-fold (onto before line) lines (rw line-next (steady-body (body_of line) (All-head (λ (l : Reading). is_steady (body_of l) ≡ true) line lines h)), s)
+    steady-fold (onto before line) lines (rw line-at (steady-body (body_of line) (All-head (λ (l : Reading). is_steady (body_of l) ≡ true) line lines h)), s)
     (All-tail (λ (l : Reading). is_steady (body_of l) ≡ true) line lines h)
 
-steady-placed : (lines : List Reading) → AllSteady lines → AreSteady (placed lines)
+steady-placed : (lines : List Reading) → AllSteady lines → AreSteadyLines (placed lines)
 unfolding placed
 steady-placed lines h = steady-fold [] lines tt h
 
-no-open : (before : List Placed) → AreSteady before → open_blocks before ≡ []
+no-open : (before : List Placed) → AreSteadyLines before → open_blocks before ≡ []
 no-open [] s = refl
 no-open (p ∷ before) s =
     let i : is_if p ≡ false = s.0.no_if in
@@ -109,14 +275,14 @@ no-open (p ∷ before) s =
     none true = refl
     none false = refl
 
-no-blocks : (before : List Placed) → AreSteady before → enclosing before ≡ []
+no-blocks : (before : List Placed) → AreSteadyLines before → enclosing before ≡ []
 no-blocks before s = enclosing-open before ∙ no-open before s
 
 none-ended : has_ended [] ≡ false
 unfolding has_ended
 none-ended = refl
 
-not-ended : (before : List Placed) → AreSteady before → has_ended before ≡ false
+not-ended : (before : List Placed) → AreSteadyLines before → has_ended before ≡ false
 not-ended [] s = none-ended
 not-ended (p ∷ before) s = has_ended-cons p before ∙ (rw (s.0.no_end, not-ended before s.1) (none p.active))
   where
@@ -132,7 +298,7 @@ at-start : is_aligning [] ≡ true
 unfolding is_aligning
 at-start = refl
 
-still-aligning : (before : List Placed) → AreSteady before → is_aligning before ≡ true
+still-aligning : (before : List Placed) → AreSteadyLines before → is_aligning before ≡ true
 still-aligning [] s = at-start
 still-aligning (p ∷ before) s = aligning-cons p before ∙ aligning-kept (takes_effect p) (is_aligning before) (body_of p.line) s.0.no_align ∙ still-aligning before s.1
 
@@ -145,11 +311,11 @@ map-reverse f (x ∷ xs) = ap (map f) (reverse-cons x xs) ∙ map-append f (reve
 final-steady : (all : List Placed) (p : Placed) → is_if p ≡ false → final_placement all p ≡ placement_of p
 final-steady all p e = rw e refl
 
-map-steady : (all before : List Placed) → AreSteady before → map (final_placement all) before ≡ map placement_of before
+map-steady : (all before : List Placed) → AreSteadyLines before → map (final_placement all) before ≡ map placement_of before
 map-steady all [] s = refl
 map-steady all (p ∷ before) s = rw (final-steady all p s.0.no_if, map-steady all before s.1) refl
 
-placements-before : (lines : List Reading) (n : ℕ) → n ≤ length lines → AreSteady (placed (take n lines)) → take n (placements_of lines) ≡ first_placements (take n lines)
+placements-before : (lines : List Reading) (n : ℕ) → n ≤ length lines → AreSteadyLines (placed (take n lines)) → take n (placements_of lines) ≡ first_placements (take n lines)
 unfolding placements_of first_placements
 placements-before lines n h s =
     let b : Begins (placed (take n lines)) (placed lines) = begins lines n in
@@ -247,9 +413,213 @@ pub record Resumes (before : List Placed) : Type 0 where
 
 pub resumes : (lines : List Reading) → AllSteady lines → Resumes (placed lines)
 resumes lines h =
-    let s : AreSteady (placed lines) = steady-placed lines h in
+    let s : AreSteadyLines (placed lines) = steady-placed lines h in
     record { aligning = still-aligning (placed lines) s; ended = not-ended (placed lines) s; open_blocks = no-blocks (placed lines) s }
 
 -- an old layout has the placements of its first lines, where they are steady
 pub first-laid : (layout : Layout) (lines : List Reading) (n : ℕ) → IsLayoutOf layout lines → n ≤ length lines → AllSteady (take n lines) → take n (map found layout.placements.items) ≡ first_placements (take n lines)
 first-laid layout lines n laid h steady = ap (take n) laid.placements ∙ placements-before lines n h (steady-placed (take n lines) steady)
+
+-- Each line stands in memory, from where the image begins on.
+
+-- what an accepted line leaves room for
+record Fits (here : ℕ) (body : Body) (value : ℤ) (size : ℕ) : Type 0 where
+  high : here + size ≤ MEMORY_BYTES
+  next_low : IMAGE_START ≤ cond (is_org_body body) (unsigned_abs value) (here + size)
+  next_high : cond (is_org_body body) (unsigned_abs value) (here + size) ≤ MEMORY_BYTES
+
+org-range : (here : ℕ) (v : ℤ) → int_lt v (pos here) ≡ false → int_lt (pos MEMORY_BYTES) v ≡ false → (here ≤ unsigned_abs v) × (unsigned_abs v ≤ MEMORY_BYTES)
+org-range here (pos n) a b = (ltb-false n here a, ltb-false MEMORY_BYTES n b)
+org-range here (negsuc n) a b = cc
+
+fits-by : (a : Bool) (here : ℕ) (body : Body) (v : ℤ) → IMAGE_START ≤ here → here ≤ MEMORY_BYTES → is_backwards here body v ≡ false → is_past_end a here body v ≡ false → Fits here body v (full_size a here body v)
+fits-by true here (org e) v low top b p = let r = org-range here v b p in record { high = omega arith; next_low = (let k = r.0 in omega arith); next_high = r.1 }
+fits-by false here (org e) v low top b p = let r = org-range here v b p in record { high = omega arith; next_low = (let k = r.0 in omega arith); next_high = r.1 }
+fits-by a here body v low top b p = let k = ltb-false MEMORY_BYTES (here + full_size a here body v) p in record { high = k; next_low = omega arith; next_high = k }
+
+pub no_fault : {A : Type 0} (b : Bool) (f : A) (rest : Option A) → cond b (Some f) rest ≡ None → (b ≡ false) × (rest ≡ None)
+no_fault true f rest e = cc
+no_fault false f rest e = (refl, e)
+
+value-fits : (a : Bool) (here : ℕ) (body : Body) (r : Result ℤ Fault) → fault_of_value a here body r ≡ None
+    → (is_backwards here body (value_or_zero r) ≡ false) × (is_past_end a here body (value_or_zero r) ≡ false)
+unfolding fault_of_value
+value-fits a here body (Err f) e = cc
+value-fits a here body (Ok v) e =
+    let first = no_fault (is_negative_space body v) _ _ e in
+    let second = no_fault (is_backwards here body v) _ _ first.1 in
+    let third = no_fault (is_past_end a here body v) _ _ second.1 in
+    (second.0, third.0)
+
+read-fits : (before : List Placed) (line : Reading) → first_fault before line ≡ None
+    → (is_backwards (address before) (body_of line) (value_or_zero (value_at (symbols before) (body_of line))) ≡ false)
+    × (is_past_end (is_aligning before) (address before) (body_of line) (value_or_zero (value_at (symbols before) (body_of line))) ≡ false)
+unfolding first_fault
+read-fits before (bad f) e = cc
+read-fits before (read label body) e =
+    let first = no_fault (is_misplaced before body) _ _ e in
+    let second = no_fault (is_redefinition (symbols before) label) _ _ first.1 in
+    value-fits (is_aligning before) (address before) body (value_at (symbols before) body) second.1
+
+active-fits : (before : List Placed) (line : Reading) (active : Bool) → (active && is_none (cond active (first_fault before line) None)) ≡ true
+    → (is_backwards (address before) (body_of line) (value_or_zero (value_at (symbols before) (body_of line))) ≡ false)
+    × (is_past_end (is_aligning before) (address before) (body_of line) (value_or_zero (value_at (symbols before) (body_of line))) ≡ false)
+active-fits before line true e = read-fits before line (none_from (first_fault before line) e)
+active-fits before line false e = cc
+
+-- where a line stands after these
+record Stands (before : List Placed) (p : Placed) : Type 0 where
+  here : p.here ≡ address before
+  size : p.size ≡ cond (takes_effect p) (full_size (is_aligning before) (address before) (body_of p.line) p.value) 0
+  fits : takes_effect p ≡ true → (is_backwards (address before) (body_of p.line) p.value ≡ false) × (is_past_end (is_aligning before) (address before) (body_of p.line) p.value ≡ false)
+
+stands : (before : List Placed) (line : Reading) → Stands before (place before line)
+unfolding place
+stands before line = record { here = refl; size = refl; fits = λ e. active-fits before line (is_active before (body_of line)) e }
+
+-- within memory
+abbrev pub IsWithinMemory : Placed → Type 0
+IsWithinMemory p = (IMAGE_START ≤ p.here) × (p.here + p.size ≤ MEMORY_BYTES) × (takes_effect p ≡ false → p.size ≡ 0)
+
+abbrev AreWithin : List Placed → Type 0
+AreWithin [] = Unit {0}
+AreWithin (p ∷ before) = IsWithinMemory p × AreWithin before
+
+record Room (before : List Placed) : Type 0 where
+  low : IMAGE_START ≤ address before
+  high : address before ≤ MEMORY_BYTES
+  lines : AreWithin before
+
+room-by : (before : List Placed) (p : Placed) (b : Bool) → takes_effect p ≡ b → Stands before p → Room before → Room (p ∷ before)
+room-by before p true e s r =
+    let size : p.size ≡ full_size (is_aligning before) (address before) (body_of p.line) p.value = s.size ∙ (rw e refl) in
+    let parts = s.fits e in
+    let f : Fits (address before) (body_of p.line) p.value p.size = rw size (fits-by (is_aligning before) (address before) (body_of p.line) p.value r.low r.high parts.0 parts.1) in
+    record {
+      low = rw (address-cons p before, e) f.next_low;
+      high = rw (address-cons p before, e) f.next_high;
+      lines = ((rw s.here r.low, rw s.here f.high, λ n. absurd (let bad : true ≡ false = sym e ∙ n in cc)), r.lines);
+    }
+room-by before p false e s r =
+    let size : p.size ≡ 0 = s.size ∙ (rw e refl) in
+    let low = r.low in
+    let high = r.high in
+    record {
+      low = rw (address-cons p before, e) (omega arith);
+      high = rw (address-cons p before, e, size) (omega arith);
+      lines = ((rw s.here r.low, rw (s.here, size) (omega arith), λ n. size), r.lines);
+    }
+
+room-fold : (before : List Placed) (lines : List Reading) → Room before → Room (fold onto before lines)
+room-fold before [] r = r
+room-fold before (line ∷ lines) r = room-fold (onto before line) lines (room-by before (place before line) (takes_effect (place before line)) refl (stands before line) r)
+
+after-by : (a : Bool) (here : ℕ) (body : Body) (v : ℤ) → is_backwards here body v ≡ false → is_past_end a here body v ≡ false
+    → here + full_size a here body v ≤ cond (is_org_body body) (unsigned_abs v) (here + full_size a here body v)
+after-by true here (org e) v b p = let r = (org-range here v b p).0 in omega arith
+after-by false here (org e) v b p = let r = (org-range here v b p).0 in omega arith
+after-by a here body v b p = omega arith
+
+after-accepted : (before : List Placed) (p : Placed) (b : Bool) → takes_effect p ≡ b → Stands before p → p.here + p.size ≤ address (p ∷ before)
+after-accepted before p true e s =
+    let size : p.size ≡ full_size (is_aligning before) (address before) (body_of p.line) p.value = s.size ∙ (rw e refl) in
+    let parts = s.fits e in
+    rw (address-cons p before, e, size, s.here) (after-by (is_aligning before) (address before) (body_of p.line) p.value parts.0 parts.1)
+after-accepted before p false e s =
+    let size : p.size ≡ 0 = s.size ∙ (rw e refl) in
+    rw (address-cons p before, e, size, s.here) (omega arith)
+
+-- what follows a line stands past its end
+pub passes : (before : List Placed) (line : Reading) → (place before line).here + (place before line).size ≤ address (place before line ∷ before)
+passes before line = after-accepted before (place before line) (takes_effect (place before line)) refl (stands before line)
+
+no_lines : Room []
+unfolding address
+no_lines = record { low = omega arith; high = omega arith; lines = tt }
+
+room : (lines : List Reading) → Room (placed lines)
+unfolding placed
+room lines = room-fold [] lines no_lines
+
+pub end-low : (lines : List Reading) → IMAGE_START ≤ address (placed lines)
+end-low lines = (room lines).low
+
+pub end-high : (lines : List Reading) → address (placed lines) ≤ MEMORY_BYTES
+end-high lines = (room lines).high
+
+within-push : (xs : List Placed) (p : Placed) → AreWithin xs → IsWithinMemory p → AreWithin (xs ++ p ∷ [])
+within-push [] p h k = (k, tt)
+within-push (x ∷ xs) p h k = (h.0, within-push xs p h.1 k)
+
+within-reverse : (xs : List Placed) → AreWithin xs → AreWithin (reverse xs)
+within-reverse [] h = tt
+within-reverse (x ∷ xs) h = rw (reverse-cons x xs) (within-push (reverse xs) x (within-reverse xs h.1) h.0)
+
+within-get : (xs : List Placed) (i : ℕ) (d : Placed) → AreWithin xs → i < length xs → IsWithinMemory (get_or xs i d)
+within-get [] i d h k = absurd (omega arith)
+within-get (x ∷ xs) zero d h k = h.0
+within-get (x ∷ xs) (suc i) d h k = within-get xs i d h.1 (omega arith)
+
+pub within-memory : (lines : List Reading) (i : ℕ) (d : Placed) → i < length (reverse (placed lines)) → IsWithinMemory (get_or (reverse (placed lines)) i d)
+within-memory lines i d h = within-get (reverse (placed lines)) i d (within-reverse (placed lines) (room lines).lines) h
+
+-- The first lines, which an edit leaves as they are, and what is known of them before and after it.
+
+-- what is kept beside the first lines says that they are steady
+pub steady-readings : (keys : List Name) (lines : List KeptLine) (first : ℕ) → AreInfos keys lines → first ≤ length lines → AreSteady lines first → AllSteady (take first (readings_in lines))
+steady-readings keys lines first infos h steady =
+    subst (All (λ (line : Reading). is_steady (body_of line) ≡ true)) (sym (take-map reading_in first lines))
+    (All-map (λ (line : Reading). is_steady (body_of line) ≡ true) reading_in (take first lines) (λ place other at.
+    (let below : place < first = omega (arith, at, length-take-le first lines h) in
+    ap (λ (x : KeptLine). is_steady (body_of (reading_in x))) (get_or-take first lines place other below)
+    ∙ sym (infos place other (omega (arith, below, h))).steady
+    ∙ steady place other below)))
+
+-- one of them
+pub steady-at : (lines : List Reading) (first n : ℕ) (line : Reading) → AllSteady (take first lines) → n < first → slice_get lines n ≡ Some line → is_steady (body_of line) ≡ true
+steady-at lines first n line steady below there =
+    let inside : n < length lines = slice_get_within lines n line there in
+    ap (λ (l : Reading). is_steady (body_of l)) (sym (get_or_from_slice_get lines n line line there) ∙ sym (get_or-take first lines n line below))
+    ∙ steady n line (omega (arith, length-take first lines))
+
+-- the first lines stay, and are steady
+pub record Begun (lines : List KeptLine) (edit : Edit) (first : ℕ) : Type 0 where
+  pub long : first ≤ length (readings_in lines)
+  pub within : first ≤ length (lines_after lines edit)
+  pub same : take first (readings_in lines) ≡ take first (readings_in (lines_after lines edit))
+  pub stay : AreSteady (lines_after lines edit) first
+  pub steady : AllSteady (take first (readings_in (lines_after lines edit)))
+
+pub begun : (keys : List Name) (lines : List KeptLine) (edit : Edit) (first : ℕ) → IsPlaceWithin (length lines) edit → AreInfos keys (lines_after lines edit) → first ≤ first_changed edit → AreSteady lines first
+    → Begun lines edit first
+begun keys lines edit first where_is infos h steady =
+    let after : List KeptLine = lines_after lines edit in
+    let e : Edited lines after edit (λ y. Unit {0}) = edited-lines lines edit where_is in
+    let fits = first-within (length lines) edit where_is in
+    let inside : first ≤ length after = omega (arith, h, fits.1, e.many) in
+    let front : take first lines ≡ take first after = shorter first (first_changed edit) lines after h e.front in
+    let stays : AreSteady after first = λ place other below. (
+    let s = steady place other below in
+    let a = get_or-take first lines place other below in
+    let b = get_or-take first after place other below in
+    cc) in
+    record {
+      long = omega (arith, h, fits.0, length-map lines reading_in);
+      within = inside;
+      same = take-map reading_in first lines ∙ ap readings_in front ∙ sym (take-map reading_in first after);
+      stay = stays;
+      steady = steady-readings keys after first infos inside stays;
+    }
+
+-- they are placed as before
+pub same-placed : (was now : List Reading) (first n : ℕ) → take first was ≡ take first now → first ≤ length was → first ≤ length now → n < first
+    → slice_get (reverse (placed was)) n ≡ slice_get (reverse (placed now)) n
+same-placed was now first n same was_long now_long below =
+    same-front (reverse (placed was)) (reverse (placed now)) first n (first-placed was first was_long ∙ ap (λ ls. reverse (placed ls)) same ∙ sym (first-placed now first now_long)) below
+
+-- the symbols that are left of those before the edit
+pub begun-symbols : (was now : List Reading) (first : ℕ) → first ≤ length was → take first was ≡ take first now → (old left : List (Name × Symbol)) → old ≡ names_of_lines was
+    → ((early later : List (Name × Symbol)) → old ≡ early ++ later → AreUpTo first early → AreOver first later → left ≡ early) → left ≡ symbols (placed (take first now))
+begun-symbols was now first long same old left names cut =
+    let split : NamesSplit was first = names-split was first long in
+    cut (symbols (placed (take first was))) split.later (names ∙ split.is) split.early split.late ∙ ap (λ ls. symbols (placed ls)) same

@@ -4,7 +4,7 @@ use Rattle.chip_lang.specs.Line.{Reading, reading_of}
 use Rattle.chip_asm.specs.declared.kept.Kept.{Kept}
 use Rattle.chip_asm.specs.inner.Kept.{IsKept}
 use Rattle.chip_asm.specs.inner.KeptLine.{KeptLine}
-use Rattle.chip_asm.specs.inner.Layouts.{IsLayoutOf}
+use Rattle.chip_asm.specs.inner.Placements.{IsLayoutOf}
 use Rattle.chip_asm.specs.Program.{names_of_lines, symbols_of}
 use Rattle.chip_asm.specs.inner.Records.{readings_in, texts_in}
 use Rattle.chip_asm.specs.Work.{needs_count, lines_to_encode, accepted_lines, accepted_of, needs, is_accepted_at}
@@ -14,7 +14,7 @@ use Rattle.std.proofs.lemmas.List.Sums.{sum_by-le-sum_by}
 use Rattle.chip_asm.specs.Layout.{body_of}
 use Rattle.chip_asm.specs.inner.Passes.{count_again, is_encoded_again}
 use Rattle.chip_asm.specs.inner.Infos.{has_code}
-use Rattle.chip_asm.proofs.CodeSteps.{count-numbered, count_by-take}
+use Rattle.chip_asm.proofs.LinesByPlace.{count-numbered, count_by-take}
 
 pub layout-view : (kept : Kept) (texts : List (List ℕ)) → IsKept kept → texts_in kept.lines.items ≡ texts → IsLayoutOf kept.layout (map reading_of texts)
 layout-view kept texts k t = subst (IsLayoutOf kept.layout) (k.are_read ∙ ap (map reading_of) t) k.laid_out

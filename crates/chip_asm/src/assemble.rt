@@ -7,9 +7,8 @@ ghost use Rattle.chip_lang.specs.declared.limits.TheConstants.{IMAGE_BYTES};
 ghost use Rattle.chip_asm.specs.inner.Codes.{is_coded};
 ghost use Rattle.chip_asm.specs.inner.KeptLine.{IsKnownUnder};
 ghost use Rattle.chip_asm.specs.inner.Infos.{AreInfos, IsInfo, AreSteady};
-ghost use Rattle.chip_asm.specs.inner.Layouts.{placements_of};
+ghost use Rattle.chip_asm.specs.inner.Placements.{placements_of, found, is_accepted, is_pending};
 ghost use Rattle.chip_asm.specs.inner.Passes.{AreCoded, AreSettled, Change, IsEncodedUnder, IsTally, IsUnderWay, again_up_to};
-ghost use Rattle.chip_asm.specs.inner.Placements.{found, is_accepted, is_pending};
 ghost use Rattle.chip_asm.specs.inner.Records.{reading_in, readings_in};
 ghost use Rattle.chip_asm.specs.inner.Tables.{AreDifferences, Tables};
 

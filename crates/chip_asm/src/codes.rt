@@ -79,6 +79,7 @@ pub(crate) fn write_line(
 }
 
 /// Puts some items in the stead of those from a place on.
+#[inline(never)]
 pub(crate) fn copy_to<T: Copy>(all: &mut [T], at: usize, items: &[T])
     requires { at + length items.now ≤ length all.old }
     ensures { all.new ≡ take at all.old ++ (items.now ++ drop (at + length items.now) all.old) }
@@ -100,8 +101,8 @@ pub(crate) fn copy_two(image: &mut [u8], to: usize, from: &[u8], at: usize)
 }
 
 /// Copies the code of a line from where it stood in one image to where it stands in another one, as
-/// far as there is room for it in both. Most lines have two bytes or none.
-#[inline(always)]
+/// far as there is room for it in both.
+#[inline(never)]
 pub(crate) fn copy_code(was: &Placement, now: &Placement, from: &[u8], image: &mut [u8])
     requires was_low { IMAGE_START ≤ was.now.here }
     requires was_high { was.now.here + was.now.size ≤ length from.now + IMAGE_START }
@@ -120,6 +121,42 @@ pub(crate) fn copy_code(was: &Placement, now: &Placement, from: &[u8], image: &m
     } else {
         copy_to(image, to, &from[at..at + size]);
     }
+}
+
+/// Moves an accepted line, which takes its code along. Only data may have had another size. The
+/// address behind the line.
+#[inline(always)]
+pub(crate) fn move_line(
+    line: &mut Placement,
+    short: bool,
+    here: usize,
+    size: usize,
+    from: &[u8],
+    image: &mut [u8],
+) -> usize
+    requires was_low { IMAGE_START ≤ line.old.here }
+    requires was_high { line.old.here + line.old.size ≤ length from.now + IMAGE_START }
+    requires low { IMAGE_START ≤ here }
+    requires high { here + size ≤ MEMORY_BYTES }
+    requires whole { length image.old ≡ IMAGE_BYTES }
+    requires short { short ≡ true → (size ≡ 2 → ⊥) → size ≡ 0 }
+    requires same { short ≡ true → line.old.size ≡ size }
+    ensures line { line.new ≡ record line.old { here = here; size = size } }
+    ensures image { IsCopied line.old line.new from.now image.old image.new }
+    ensures behind { result ≡ here + size }
+{
+    let was = *line;
+    line.here = here as u16;
+    if !short {
+        line.size = size as u16;
+        copy_code(&was, line, from, image);
+        return here + size;
+    }
+    if size == 2 {
+        copy_two(image, here - IMAGE_START, from, was.address() - IMAGE_START);
+        return here + 2;
+    }
+    here
 }
 
 /// Copies so many first bytes of an image into another one, of which the others become zeros.

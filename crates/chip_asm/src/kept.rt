@@ -5,20 +5,17 @@ ghost use Rattle.chip_asm.specs.Edits.{before_replace};
 ghost use Rattle.chip_asm.specs.Program.{AgreesOutside, image_of};
 ghost use Rattle.chip_asm.specs.Work.{needs_count};
 ghost use Rattle.chip_lang.specs.declared.limits.TheConstants.{IMAGE_BYTES};
-ghost use Rattle.chip_asm.specs.inner.Effect.{AreAlike};
 ghost use Rattle.chip_asm.specs.Names.{Name};
-ghost use Rattle.chip_asm.specs.inner.Infos.{AreInfos, AreInfosOf, IsInfo};
-ghost use Rattle.chip_asm.specs.inner.Layouts.{IsCounted};
+ghost use Rattle.chip_asm.specs.inner.Infos.{AreAlike, AreInfos, AreInfosOf, IsInfo};
+ghost use Rattle.chip_asm.specs.inner.Placements.{IsCounted, nothing};
 ghost use Rattle.chip_asm.specs.inner.Kept.{HasRoomFor, IsAssembled, IsExchanged, IsKept, MayEdit, lines_kept, needed_by, texts_kept};
 ghost use Rattle.chip_asm.specs.inner.Passes.{Change, IsUnderWay, count_again};
-ghost use Rattle.chip_asm.specs.inner.Placements.{nothing};
 ghost use Rattle.chip_asm.specs.inner.Records.{IsPlaceWithin, count_after, items_after, lines_after, reading_in, readings_in, texts_in};
 
 use crate::assemble::{encode_lines, steady_lines, walk};
 use crate::block::Block;
 use crate::codes::{copy_front, places_of, write_line};
 use crate::edit::{Edit, count_after, edit_items, first_changed, make_edit, replace_line};
-use crate::effect::are_alike;
 use crate::kept_line::BoxedLine;
 use crate::layout::{Layout, Tally, mark_unclosed};
 use crate::line_info::{LineInfo, Numbered};
@@ -107,7 +104,7 @@ impl Kept {
     {
         let written = match edit {
             Edit::Replace(at, added) => {
-                if are_alike(self.lines[at].line(), added.line()) {
+                if self.lines[at].info().is_alike(added.info()) {
                     self.rewrite(meter, at, added)
                 } else {
                     self.remake(alloc, meter, Edit::Replace(at, added))?;

@@ -4,7 +4,7 @@ ghost use Rattle.std.specs.List.{list_all};
 ghost use Rattle.chip_lang.specs.Line.{Reading};
 ghost use Rattle.chip_asm.specs.computed.Walk.{address, placed};
 ghost use Rattle.chip_asm.specs.declared.placement.Status.TheVariants.{Pending};
-ghost use Rattle.chip_asm.specs.inner.Layouts.{IsLayoutOf};
+ghost use Rattle.chip_asm.specs.inner.Placements.{IsLayoutOf};
 ghost use Rattle.chip_asm.specs.inner.Blocks.{AreMarked, is_among};
 ghost use Rattle.chip_asm.specs.inner.Passes.{IsTally};
 
@@ -26,7 +26,7 @@ pub(crate) struct Layout {
 
 impl Layout {
     /// The layout of no lines.
-    #[tactic(auto, unfolding(crate::specs::computed::Walk::placed, crate::specs::computed::Walk::address, crate::specs::inner::Layouts::placements_of))]
+    #[tactic(auto, unfolding(crate::specs::computed::Walk::placed, crate::specs::computed::Walk::address, crate::specs::inner::Placements::placements_of))]
     pub(crate) fn new(alloc: Global) -> Self
         ensures { IsLayoutOf result [] }
     {

@@ -6,7 +6,6 @@ mod block;
 mod codes;
 mod cut;
 mod edit;
-mod effect;
 mod kept;
 mod kept_line;
 pub mod laws;

@@ -1,15 +1,16 @@
 //! What is kept of a line beside its reading, for steps over all lines.
-ghost use Rattle.std.specs.Prelude.{◌≡◌, ◌++◌, ◌≤◌, List, IfOk, IfSome, OnOk};
+ghost use Rattle.std.specs.Prelude.{◌≡◌, ◌+◌, ◌++◌, ◌-◌, ◌<◌, ◌≤◌, ◌^◌, ◌%◌, ◌&&◌, if◌then◌else◌, nat_eq, List, IfOk, IfSome, OnOk, true, false};
 ghost use Rattle.chip_lang.specs.Line.{Reading};
-ghost use Rattle.chip_lang.specs.SeenLine.{seen_line};
+ghost use Rattle.chip_lang.specs.SeenLine.{seen_body, seen_line};
 ghost use Rattle.chip_lang.specs.Uses.{name_defined, names_used};
-ghost use Rattle.chip_asm.specs.Layout.{body_of};
+ghost use Rattle.chip_lang.specs.declared.limits.TheConstants.{MEMORY_BYTES};
+ghost use Rattle.chip_asm.specs.Layout.{body_of, is_padded, own_size};
 ghost use Rattle.chip_asm.specs.Names.{Name};
-ghost use Rattle.chip_asm.specs.inner.HeldText.{SaysNothing};
-ghost use Rattle.chip_asm.specs.inner.Infos.{IsBare, IsInfo, IsNumberOf, is_bare_line, is_steady, numbers_of, has_code};
+ghost use Rattle.chip_asm.specs.inner.Infos.{AreAlike, IsInfo, IsNumberOf, IsPlain, IsSpaceOf, is_steady, numbers_of, has_code};
 ghost use Rattle.chip_asm.specs.inner.Tables.{AreNumbers, Extends};
 
 use crate::table::{NameId, Table};
+use chip_lang::limits::MEMORY_BYTES;
 use chip_lang::{Body, Line, UsedNames, defines, used_names};
 use std::alloc::{AllocError, Global};
 
@@ -24,11 +25,22 @@ pub(crate) enum Uses {
     Several,
 }
 
+/// The space that a line takes.
+#[derive(Clone, Copy)]
+pub(crate) enum Space {
+    /// Two bytes, if it has any of its own.
+    Short,
+    /// So many bytes of data, and whether there is one more where it would end at an odd address.
+    Data(u16, bool),
+    /// The first pass asks more than its size and its name.
+    Asked,
+}
+
 /// What steps over all lines ask of a line.
 #[derive(Clone, Copy)]
 pub(crate) struct LineInfo {
-    /// Whether it is an instruction or has no statement.
-    pub(crate) is_bare: bool,
+    /// The space that it takes.
+    pub(crate) space: Space,
     /// Whether it has bytes of its own.
     pub(crate) is_coded: bool,
     /// Whether it opens no block, ends no source and switches no alignment.
@@ -39,16 +51,43 @@ pub(crate) struct LineInfo {
     pub(crate) uses: Uses,
 }
 
-fn is_bare(line: &Line) -> bool
-    ensures { result ≡ is_bare_line (seen_line line.now) }
+/// The bytes of a statement itself.
+pub(crate) fn size_of_body(body: &Body, value: i32) -> usize
+    ensures size { result ≡ own_size (seen_body body.now) value }
+    ensures bound { result < 2 ^ 64 - 1 }
 {
-    matches!(
-        line,
-        Line::Read {
-            body: Body::Empty | Body::Code(_, _),
-            ..
-        }
-    )
+    match body {
+        Body::Code(_, _) => 2,
+        Body::Db(exprs) => exprs.len(),
+        Body::Dw(exprs) => 2 * exprs.len(),
+        Body::Da(bytes) => bytes.get().len(),
+        Body::Ds(_) => value.unsigned_abs() as usize,
+        _ => 0,
+    }
+}
+
+pub(crate) fn is_data(body: &Body) -> bool
+    ensures { result ≡ is_padded (seen_body body.now) }
+{
+    matches!(body, Body::Db(_) | Body::Da(_) | Body::Ds(_))
+}
+
+/// The space that a line takes.
+fn space_of(line: &Line) -> Space
+    ensures { IsSpaceOf result (seen_line line.now) }
+{
+    let Line::Read { body, .. } = line else {
+        return Space::Asked;
+    };
+    match body {
+        Body::Empty | Body::Options | Body::Used | Body::Xref | Body::Code(_, _) => Space::Short,
+        Body::Dw(exprs) if exprs.len() == 1 => Space::Short,
+        Body::Db(_) | Body::Dw(_) | Body::Da(_) => match u16::try_from(size_of_body(body, 0)) {
+            Ok(size) => Space::Data(size, is_data(body)),
+            Err(_) => Space::Asked,
+        },
+        _ => Space::Asked,
+    }
 }
 
 /// Whether the line has bytes of its own.
@@ -148,6 +187,30 @@ fn uses_of(alloc: Global, table: &mut Table, line: &Line) -> Result<(Uses, Vec<N
     Ok((Uses::Several, numbers))
 }
 
+/// The size at an address of what may be padded.
+pub(crate) fn padded_size(size: usize, is_padded: bool, here: usize) -> usize
+    requires here { here ≤ MEMORY_BYTES }
+    requires size { size < 2 ^ 64 - 1 }
+    ensures { result ≡ size + (if is_padded && nat_eq ((here + size) % 2) 1 then 1 else 0) }
+{
+    if is_padded && (here + size % 2) % 2 == 1 {
+        size + 1
+    } else {
+        size
+    }
+}
+
+/// Whether two names, or none, have the same number.
+fn is_same_name(one: Option<NameId>, other: Option<NameId>) -> bool
+    ensures { result ≡ true → one ≡ other }
+{
+    match (one, other) {
+        (Some(one), Some(other)) => one.number == other.number,
+        (None, None) => true,
+        _ => false,
+    }
+}
+
 /// What is known of a line whose names have numbers.
 #[derive(Drop)]
 pub(crate) struct Numbered {
@@ -160,7 +223,7 @@ pub(crate) struct Numbered {
 impl LineInfo {
     /// What is kept of a line that is blank or only a comment.
     pub(crate) const NOTHING: LineInfo = LineInfo {
-        is_bare: true,
+        space: Space::Short,
         is_coded: false,
         is_steady: true,
         defines: None,
@@ -178,7 +241,7 @@ impl LineInfo {
         let defines = number_defined(alloc, table, line)?;
         let (uses, several) = uses_of(alloc, table, line)?;
         let info = LineInfo {
-            is_bare: is_bare(line),
+            space: space_of(line),
             is_coded: has_code(line),
             is_steady: is_steady(line),
             defines,
@@ -187,22 +250,59 @@ impl LineInfo {
         Ok(Numbered { info, several })
     }
 
-    /// The size that a line takes, active or not, and the name that it gives then, if the first
-    /// pass asks nothing else of it.
+    /// The size that a line takes at an address, active or not, and the name that it gives then, if
+    /// the first pass asks nothing else of it, and there is room for it. Of active lines only short
+    /// ones are asked for, or only data.
     #[inline(always)]
-    pub(crate) fn bare(self, active: bool) -> Option<(usize, Option<NameId>)>
+    pub(crate) fn plain(
+        self,
+        active: bool,
+        short: bool,
+        aligning: bool,
+        here: usize,
+    ) -> Option<(usize, Option<NameId>)>
+        requires { here ≤ MEMORY_BYTES }
         ensures is { (keys : List Name) (several : List NameId) (line : Reading)
             → IsInfo keys self several line
-            → IfSome result (λ made. IsBare keys active line made.0 made.1) }
-        ensures small { IfSome result (λ made. made.0 ≤ 2) }
-        ensures zero { IfSome result (λ made. (made.0 ≡ 2 → ⊥) → made.0 ≡ 0) }
+            → IfSome result (λ made. IsPlain keys active aligning here line made.0 made.1) }
+        ensures fits { IfSome result (λ made. here + made.0 ≤ MEMORY_BYTES) }
+        ensures short { short ≡ true
+            → IfSome result (λ made. (made.0 ≡ 2 → ⊥) → made.0 ≡ 0) }
+        ensures unpadded { (keys : List Name) (several : List NameId) (line : Reading)
+            → IsInfo keys self several line → active ≡ true → short ≡ true
+            → IfSome result (λ made. is_padded (body_of line) ≡ false) }
     {
-        if !self.is_bare {
-            return None;
+        match self.space {
+            Space::Asked => None,
+            _ if !active => Some((0, None)),
+            Space::Short if short && here <= MEMORY_BYTES - 2 => {
+                Some((if self.is_coded { 2 } else { 0 }, self.defines))
+            }
+            Space::Data(size, is_padded) if !short => {
+                let size = padded_size(size as usize, is_padded && aligning, here);
+                if size > MEMORY_BYTES - here {
+                    return None;
+                }
+                Some((size, self.defines))
+            }
+            _ => None,
         }
-        if !active {
-            return Some((0, None));
-        }
-        Some((if self.is_coded { 2 } else { 0 }, self.defines))
+    }
+
+    /// Whether two lines give the same name, take the same space, and the first pass asks nothing
+    /// else of them. Then one in the place of the other changes nothing else.
+    pub(crate) fn is_alike(self, other: LineInfo) -> bool
+        ensures { (keys : List Name) (few several : List NameId) (old new : Reading)
+            → IsInfo keys self few old → IsInfo keys other several new → result ≡ true
+            → AreAlike old new }
+    {
+        let is_same_space = match (self.space, other.space) {
+            (Space::Short, Space::Short) => self.is_coded == other.is_coded,
+            (Space::Data(one, padded), Space::Data(two, other_padded)) => {
+                one == two && padded == other_padded
+            }
+            _ => false,
+        };
+        is_same_space && is_same_name(self.defines, other.defines)
     }
 }

@@ -105,7 +105,11 @@ fn push_field(
         ≡ out.old.items ++ (at_left 12 (field_shown fault (option_copied value.entry) bytes.now)
         ++ more_shown fault (length bytes.now) ∷ 32 ∷ [])) }
 {
-    let more = more_sign(fault, bytes.len());
+    let more = if fault.is_none() && bytes.len() > 6 {
+        b'+'
+    } else {
+        b' '
+    };
     if let Some(fault) = fault {
         let mut digits = Buffer::new();
         return push_left(out, b'F', digits.format(fault.number()).as_bytes(), more);
@@ -113,17 +117,6 @@ fn push_field(
     match value {
         Some(text) => push_left(out, b'=', text, more),
         None => push_bytes(out, bytes.len().min(6), bytes, more),
-    }
-}
-
-/// The sign of a line with more than six bytes.
-fn more_sign(fault: Option<Fault>, size: usize) -> u8
-    ensures { result ≡ more_shown fault size }
-{
-    if fault.is_none() && size > 6 {
-        b'+'
-    } else {
-        b' '
     }
 }
 

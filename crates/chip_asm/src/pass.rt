@@ -15,12 +15,13 @@ ghost use Rattle.chip_asm.specs.declared.limits.TheConstants.{MOST_LINES};
 ghost use Rattle.chip_lang.specs.declared.limits.TheConstants.{MEMORY_BYTES};
 
 use crate::block::{Block, all_hold, move_blocks};
-use crate::codes::copy_two;
+use crate::codes::{copy_code, move_line};
 use crate::kept_line::BoxedLine;
 use crate::layout::Tally;
+use crate::line_info::{is_data, padded_size, size_of_body};
 use crate::placement::{Placement, Status};
 use crate::table::{NameId, Scope, Symbol, Table};
-use chip_lang::limits::{IMAGE_START, MEMORY_BYTES};
+use chip_lang::limits::MEMORY_BYTES;
 use chip_lang::{Body, Fault, Line, Names, eval};
 
 /// The state of the pass between two lines.
@@ -47,34 +48,12 @@ fn body_or<'a>(line: &'a Line, empty: &'a Body) -> &'a Body
     }
 }
 
-/// The bytes of a line itself.
-pub(crate) fn size_of_body(body: &Body, value: i32) -> usize
-    ensures size { result ≡ own_size (seen_body body.now) value }
-    ensures bound { result < 2 ^ 64 - 1 }
-{
-    match body {
-        Body::Code(_, _) => 2,
-        Body::Db(exprs) => exprs.len(),
-        Body::Dw(exprs) => 2 * exprs.len(),
-        Body::Da(bytes) => bytes.get().len(),
-        Body::Ds(_) => value.unsigned_abs() as usize,
-        _ => 0,
-    }
-}
-
-pub(crate) fn is_data(body: &Body) -> bool
-    ensures { result ≡ is_padded (seen_body body.now) }
-{
-    matches!(body, Body::Db(_) | Body::Da(_) | Body::Ds(_))
-}
-
 impl Pass {
     ghost use Rattle.chip_asm.specs.Layout.{Placed, has_ended};
     ghost use Rattle.chip_asm.specs.computed.Walk.{address, is_aligning, enclosing, is_active, is_misplaced, first_fault, symbols, place, placed};
     ghost use Rattle.chip_asm.specs.inner.Infos.{AreInfos, IsNumberOf};
     ghost use Rattle.chip_asm.specs.declared.placement.Status.TheVariants.{Pending};
-    ghost use Rattle.chip_asm.specs.inner.Placements.{found, is_accepted};
-    ghost use Rattle.chip_asm.specs.inner.Follows.{Follows, placement_of, next_address, next_aligning};
+    ghost use Rattle.chip_asm.specs.inner.Placements.{found, is_accepted, Follows, placement_of, next_address, next_aligning};
     ghost use Rattle.chip_asm.specs.inner.Passes.{Change, HasRoom, IsUnderWay};
 
     /// At an address, after lines that give these names, where no block is open, in the room of
@@ -165,12 +144,11 @@ impl Pass {
             ≡ full_size self.now.aligning self.now.here (seen_body body.now) value }
         ensures bound { result < 2 ^ 64 }
     {
-        let size = size_of_body(body, value);
-        if self.aligning && is_data(body) && (self.here + size % 2) % 2 == 1 {
-            size + 1
-        } else {
-            size
-        }
+        padded_size(
+            size_of_body(body, value),
+            self.aligning && is_data(body),
+            self.here,
+        )
     }
 
     #[tactic(auto, unfolding(crate::specs::computed::Walk::fault_of_value))]
@@ -363,18 +341,26 @@ impl Pass {
             → IsUnderWay e lines.now self.old placements.old tally.old from.now image.old first
             → IsUnderWay e lines.now self.new placements.new tally.new from.now image.new result }
     {
-        if self.active {
-            self.run_as(true, lines, placements, tally, from, image, first)
-        } else {
-            self.run_as(false, lines, placements, tally, from, image, first)
+        if !self.active {
+            return self.run_as(false, false, lines, placements, tally, from, image, first);
+        }
+        let mut place = first;
+        loop {
+            let next = self.run_as(true, true, lines, placements, tally, from, image, place);
+            place = self.run_as(true, false, lines, placements, tally, from, image, next);
+            if place == next {
+                return place;
+            }
         }
     }
 
-    /// Goes on as `run` does, where the caller knows whether lines are active: there is a loop for each.
+    /// Goes on as `run` does, over lines that aren't active, over short ones, or over data: there is a
+    /// loop for each.
     #[inline(always)]
     fn run_as(
         &mut self,
         active: bool,
+        short: bool,
         lines: &[BoxedLine],
         placements: &mut [Placement],
         tally: &mut Tally,
@@ -387,6 +373,7 @@ impl Pass {
             from.now image.old first }
         ensures after { first ≤ result }
         ensures within { result ≤ length lines.now }
+        ensures active { self.new.active ≡ active }
         ensures under_way { (e : Change)
             → IsUnderWay e lines.now self.old placements.old tally.old from.now image.old first
             → IsUnderWay e lines.now self.new placements.new tally.new from.now image.new result }
@@ -394,12 +381,10 @@ impl Pass {
         let mut here = self.here;
         let mut place = first;
         while place < lines.len() {
-            let Some((size, defines)) = lines[place].info().bare(active) else {
+            let info = lines[place].info();
+            let Some((size, defines)) = info.plain(active, short, self.aligning, here) else {
                 break;
             };
-            if here > MEMORY_BYTES - 2 {
-                break;
-            }
             let symbol = Symbol {
                 value: here as i32,
                 line: place + 1,
@@ -409,18 +394,14 @@ impl Pass {
             }
             let was = placements[place];
             if active && was.status.is_accepted() {
-                placements[place].here = here as u16;
-                if size == 2 {
-                    let at = was.address() - IMAGE_START;
-                    copy_two(image, here - IMAGE_START, from, at);
-                    here += 2;
-                }
+                let now = &mut placements[place];
+                here = move_line(now, short, here, size, from, image);
             } else {
                 let new = Placement {
                     value: 0,
                     here: here as u16,
                     size: size as u16,
-                    status: Status::bare(active, size == 2),
+                    status: Status::bare(active, info.is_coded),
                 };
                 tally.put(placements, place, new);
                 here += size;

@@ -32,7 +32,7 @@ impl Status {
         }
     }
 
-    /// The status of a new instruction or of a line without a statement, which has no fault.
+    /// The status of a line without a fault that wasn't accepted before, and has code or none.
     pub(crate) fn bare(active: bool, is_coded: bool) -> Status
         ensures { result ≡ bare_status active is_coded }
     {

@@ -1,28 +1,36 @@
 -- What is kept of a line beside its reading, so that steps over all lines needn't look into most of
 -- them (own).
-use Rattle.std.specs.Prelude.{◌≡◌, ℕ, pos, length, slice_get, Bool, true, false, not, if◌then◌else◌, ◌&&◌, List, [], ◌∷◌, All, Option, Some, None, ◌<◌, slice_index_or}
-use Rattle.chip_lang.specs.Line.{Body, empty, code, Reading, bad, read, db, dw, da}
+use Rattle.std.specs.Prelude.{◌≡◌, ℕ, pos, length, slice_get, Bool, true, false, not, if◌then◌else◌, ◌&&◌, List, [], ◌∷◌, All, Option, Some, None, ◌<◌, slice_index_or, ⊤}
+use Rattle.chip_lang.specs.Line.{Body, empty, code, options, used, xref, Reading, bad, read, db, dw, da}
 use Rattle.chip_lang.specs.Uses.{names_used, name_defined}
 use Rattle.chip_asm.specs.Names.{Name}
 use Rattle.chip_asm.specs.inner.KeptLine.{KeptLine}
 use Rattle.chip_asm.specs.declared.line_info.LineInfo.{LineInfo}
 use Rattle.chip_asm.specs.declared.line_info.Numbered.{Numbered}
+use Rattle.chip_asm.specs.declared.line_info.Space.{Space}
+use Rattle.chip_asm.specs.declared.line_info.Space.TheVariants.{Short, Data, Asked}
 use Rattle.chip_asm.specs.declared.line_info.Uses.{Uses}
 use Rattle.chip_asm.specs.declared.line_info.Uses.TheVariants.{Nothing, One, Several}
 use Rattle.chip_asm.specs.declared.table.NameId.{NameId}
 use Rattle.chip_asm.specs.inner.Records.{reading_in}
 use Rattle.chip_asm.specs.inner.Tables.{AreNumbers, IsNumber}
-use Rattle.chip_asm.specs.Layout.{body_of, own_size, is_if_body, is_end_body, is_align_body}
+use Rattle.chip_asm.specs.Layout.{body_of, full_size, is_padded, own_size, is_if_body, is_end_body, is_align_body}
 
--- it is an instruction or has no statement
-abbrev pub is_bare : Body → Bool
-is_bare empty = true
-is_bare (code form operands) = true
-is_bare _ = false
+-- all that the first pass asks of the statement is its size
+abbrev pub is_plain : Body → Bool
+is_plain empty = true
+is_plain options = true
+is_plain used = true
+is_plain xref = true
+is_plain (db es) = true
+is_plain (dw es) = true
+is_plain (da bytes) = true
+is_plain (code form operands) = true
+is_plain _ = false
 
-abbrev pub is_bare_line : Reading → Bool
-is_bare_line (bad fault) = false
-is_bare_line (read name body) = is_bare body
+abbrev pub is_plain_line : Reading → Bool
+is_plain_line (bad fault) = false
+is_plain_line (read label body) = is_plain body
 
 -- the line has bytes of its own
 abbrev pub has_code : Body → Bool
@@ -31,6 +39,26 @@ has_code (dw es) = true
 has_code (da bytes) = true
 has_code (code form operands) = true
 has_code _ = false
+
+-- the line is plain, and takes so many bytes, padded or not
+abbrev pub Takes : ℕ → Bool → Reading → Type 0
+Takes size padded line =
+    (is_plain_line line ≡ true) × (size ≡ own_size (body_of line) (pos 0)) × (padded ≡ is_padded (body_of line))
+
+-- the space that a line takes
+abbrev pub IsSpaceOf : Space → Reading → Type 0
+IsSpaceOf Short line = Takes (if has_code (body_of line) then 2 else 0) false line
+IsSpaceOf (Data size padded) line = Takes size padded line
+IsSpaceOf Asked line = ⊤
+
+-- two plain lines that give the same name and take the same space: one in the place of the other
+-- changes nothing else
+pub record AreAlike (old new : Reading) : Type 0 where
+  pub was_plain : is_plain_line old ≡ true
+  pub now_plain : is_plain_line new ≡ true
+  pub name : name_defined old ≡ name_defined new
+  pub size : own_size (body_of old) (pos 0) ≡ own_size (body_of new) (pos 0)
+  pub padded : is_padded (body_of old) ≡ is_padded (body_of new)
 
 -- it opens no block, ends no source and switches no alignment
 abbrev pub is_steady : Body → Bool
@@ -54,17 +82,17 @@ numbers_in kept = numbers_of kept.info.uses kept.several
 -- what is kept beside a line is right of it
 pub record IsInfo (keys : List Name) (info : LineInfo) (several : List NameId)
     (line : Reading) : Type 0 where
-  pub bare : info.is_bare ≡ is_bare_line line
+  pub space : IsSpaceOf info.space line
   pub coded : info.is_coded ≡ has_code (body_of line)
   pub steady : info.is_steady ≡ is_steady (body_of line)
   pub defines : IsNumberOf keys info.defines (name_defined line)
   pub uses : AreNumbers keys (numbers_of info.uses several) (names_used line)
 
--- an instruction or no statement, which takes this size, active or not, and gives this name then
-pub record IsBare (keys : List Name) (active : Bool) (line : Reading) (size : ℕ)
+-- a plain line, which takes this size at an address, active or not, and gives this name then
+pub record IsPlain (keys : List Name) (active aligning : Bool) (here : ℕ) (line : Reading) (size : ℕ)
     (defines : Option NameId) : Type 0 where
-  pub bare : is_bare_line line ≡ true
-  pub sized : size ≡ (if active then own_size (body_of line) (pos 0) else 0)
+  pub plain : is_plain_line line ≡ true
+  pub sized : size ≡ (if active then full_size aligning here (body_of line) (pos 0) else 0)
   pub named : IsNumberOf keys defines (if active then name_defined line else None)
 
 -- each of these is kept beside the line at its place

@@ -14,8 +14,7 @@ use Rattle.chip_asm.specs.Layout.{Placed}
 use Rattle.chip_asm.specs.computed.Walk.{address, placed, symbols}
 use Rattle.chip_asm.specs.inner.Codes.{IsImageOf}
 use Rattle.chip_asm.specs.inner.Infos.{AreInfos, AreSteady}
-use Rattle.chip_asm.specs.inner.Layouts.{IsCounted, IsLayoutOf, first_placements}
-use Rattle.chip_asm.specs.inner.Placements.{found}
+use Rattle.chip_asm.specs.inner.Placements.{IsCounted, IsLayoutOf, first_placements, found}
 use Rattle.chip_asm.specs.inner.Passes.{Change, IsChange, IsHeld, IsSlot, is_byte_of, placed_at}
 use Rattle.chip_asm.specs.inner.Records.{IsPlaceWithin, lines_after, place_before, readings_in, texts_in}
 

@@ -18,8 +18,7 @@ use Rattle.chip_asm.specs.Work.{is_accepted_at, is_accepted_in, needs}
 use Rattle.chip_asm.specs.computed.Walk.{placed}
 use Rattle.chip_asm.specs.inner.Infos.{AreInfos, has_code}
 use Rattle.chip_asm.specs.inner.KeptLine.{KeptLine}
-use Rattle.chip_asm.specs.inner.Layouts.{placements_of, IsWalked}
-use Rattle.chip_asm.specs.inner.Placements.{count_of, found, is_accepted, is_pending, status_coded}
+use Rattle.chip_asm.specs.inner.Placements.{placements_of, IsWalked, count_of, found, is_accepted, is_pending, status_coded}
 use Rattle.chip_asm.specs.inner.Records.{readings_in}
 use Rattle.chip_asm.specs.inner.Tables.{Tables}
 use Rattle.std.specs.List.{enumerate_from}

@@ -6,10 +6,8 @@ use Rattle.chip_asm.specs.inner.Codes.{kept_fault}
 use Rattle.chip_asm.specs.inner.Passes.{AreCoded}
 use Rattle.chip_asm.specs.inner.Placements.{found, nothing, status_coded}
 use Rattle.chip_asm.specs.inner.Records.{readings_in}
-use Rattle.chip_asm.proofs.CodeSteps.{found-coded}
-use Rattle.chip_asm.proofs.LinesByPlace.{code-fits, high, low}
-use Rattle.chip_asm.proofs.PassSteps.{noted-set}
-use Rattle.chip_asm.proofs.SecondPass.{Reached, again-accepted, again-later, again-more, coded-still, placed-many, reached, settled-coded, written-anew}
+use Rattle.chip_asm.proofs.LinesByPlace.{found-coded, code-fits, high, low}
+use Rattle.chip_asm.proofs.PassSteps.{noted-set, Reached, again-accepted, again-later, again-more, coded-still, placed-many, reached, settled-coded, written-anew}
 use Rattle.chip_asm.proofs.assemble.encode_lines.Goals as goal
 use Rattle.chip_asm.proofs.assemble.encode_lines.Goals.{After-index-lines-place, then-is_again, else-is_again}
 

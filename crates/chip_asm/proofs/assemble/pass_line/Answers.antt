@@ -4,8 +4,7 @@ use Rattle.chip_asm.specs.declared.line_info.LineInfo.{LineInfo}
 use Rattle.chip_asm.specs.declared.placement.Placement.{Placement}
 use Rattle.chip_asm.specs.Layout.{Placed, body_of}
 use Rattle.chip_asm.specs.computed.Walk.{place, placed}
-use Rattle.chip_asm.specs.inner.Follows.{Follows, placement_of}
-use Rattle.chip_asm.specs.inner.Placements.{bare_status, found, is_accepted, is_accepted_found, nothing}
+use Rattle.chip_asm.specs.inner.Placements.{Follows, placement_of, bare_status, found, is_accepted, is_accepted_found, nothing}
 use Rattle.chip_asm.specs.inner.Infos.{has_code}
 use Rattle.chip_asm.specs.inner.Records.{reading_in}
 use Rattle.chip_asm.proofs.PassSteps.{Copied, StepsOn, bare-accepted, copied, copied-held, copy-room, facing, fresh-held, noted-found, passed-on, value-faced, zeros-next}

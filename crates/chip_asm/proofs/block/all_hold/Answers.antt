@@ -1,5 +1,5 @@
 use Rattle.std.proofs.Common.{rules, ◌≡◌, ◌-◌, length, Some, slice_get}
-use Rattle.chip_asm.proofs.NestedBlocks.{holds-by-last, fails-by-last}
+use Rattle.chip_asm.proofs.Resumed.{holds-by-last, fails-by-last}
 use Rattle.chip_asm.proofs.block.all_hold.Goals as goal
 
 pub returns-then-block : goal.returns-then-block

@@ -9,7 +9,7 @@ use Rattle.chip_asm.specs.Program.{bytes_in_code, fault_in_code}
 use Rattle.chip_asm.specs.inner.Codes.{code_kept, kept_bytes}
 use Rattle.chip_asm.specs.inner.Infos.{has_code}
 use Rattle.chip_asm.specs.inner.Records.{reading_in}
-use Rattle.chip_asm.proofs.ImageSteps.{bytes-coded, code-read, no-code, put, zeroed}
+use Rattle.chip_asm.proofs.LinesByPlace.{bytes-coded, code-read, no-code, put, zeroed}
 use Rattle.chip_asm.proofs.codes.write_line.Goals as goal
 use Rattle.chip_asm.proofs.codes.write_line.Goals.{else-is_accepted-via-then-is_accepted+else-info, else-is_accepted-via-else-is_accepted}
 

@@ -1,4 +1,4 @@
-use Rattle.chip_asm.proofs.UnclosedByPlace.{unclosed}
+use Rattle.chip_asm.proofs.PlacesAgree.{unclosed}
 use Rattle.chip_asm.proofs.laws.unclosed_by_place.Goals as goal
 
 pub returns : goal.returns

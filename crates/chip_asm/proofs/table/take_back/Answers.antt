@@ -2,8 +2,7 @@ use Rattle.std.proofs.Common.{◌≡◌, ◌∙◌, ◌-◌, ◌<◌, ◌++◌, 
 use Rattle.std.proofs.lemmas.List.{get_or_append_left}
 use Rattle.chip_asm.specs.declared.table.Entry.{Entry}
 use Rattle.chip_asm.specs.inner.Tables.{AreDefined}
-use Rattle.chip_asm.proofs.SymbolSteps.{defined-less}
-use Rattle.chip_asm.proofs.TakenBack.{front-less, last-of, past-next}
+use Rattle.chip_asm.proofs.SymbolSteps.{defined-less, front-less, last-of, past-next}
 use Rattle.chip_asm.proofs.table.take_back.Goals as goal
 
 pub loop-entry-preserved : goal.loop-entry-preserved

@@ -3,14 +3,12 @@ use Rattle.std.proofs.lemmas.List.{length-map, with_items_is}
 use Rattle.std.specs.List.{enumerate_from}
 use Rattle.std.specs.Vec.{with_items}
 use Rattle.chip_asm.specs.inner.Kept.{IsExchanged}
-use Rattle.chip_asm.specs.inner.Layouts.{AreCodesNoted, placements_of}
+use Rattle.chip_asm.specs.inner.Placements.{AreCodesNoted, placements_of, count_of, found}
 use Rattle.chip_asm.specs.inner.Codes.{IsImageOf}
 use Rattle.chip_asm.specs.inner.Passes.{AreCoded, Change, IsEncodedUnder, is_encoded_again}
-use Rattle.chip_asm.specs.inner.Placements.{count_of, found}
 use Rattle.chip_asm.specs.inner.Records.{reading_in}
-use Rattle.chip_asm.proofs.SecondPass.{ArePlaces, IsHalfWay, all-places, codes-noted, half-done, image-coded, names-kept, tally-places, walked-all}
-use Rattle.chip_asm.proofs.CodeSteps.{count_by-take}
-use Rattle.chip_asm.proofs.MarkSteps.{all-among}
+use Rattle.chip_asm.proofs.PassSteps.{ArePlaces, IsHalfWay, all-places, codes-noted, half-done, image-coded, names-kept, tally-places, walked-all}
+use Rattle.chip_asm.proofs.LinesByPlace.{count_by-take, all-among}
 use Rattle.chip_asm.proofs.kept.Kept.assemble.Goals.{else-has_differences, then-has_differences}
 use Rattle.chip_asm.proofs.kept.Kept.assemble.Goals as goal
 

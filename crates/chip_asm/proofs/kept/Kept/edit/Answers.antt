@@ -4,9 +4,10 @@ use Rattle.chip_asm.specs.inner.Infos.{IsInfo}
 use Rattle.chip_asm.specs.inner.Kept.{IsKept, needed_by, texts_kept}
 use Rattle.chip_asm.specs.inner.KeptLine.{KeptLine}
 use Rattle.chip_asm.specs.inner.Records.{lines_after, reading_in, readings_in, texts_in}
-use Rattle.chip_asm.proofs.EditTexts.{IsRead, added-has, all-read, readings-set, texts-set}
+use Rattle.chip_asm.proofs.QuietLines.{info-here}
+use Rattle.chip_asm.proofs.KeptSteps.{IsRead, added-has, all-read, readings-set, texts-set}
 use Rattle.chip_asm.proofs.kept.Kept.edit.Goals as goal
-use Rattle.chip_asm.proofs.kept.Kept.edit.Goals.{Joined-edit, In-Replace, in-Replace+then-are_alike, in-Replace+else-are_alike+in_ok-remake-in-Replace, in_default+in_ok-remake-in_default}
+use Rattle.chip_asm.proofs.kept.Kept.edit.Goals.{Joined-edit, In-Replace, in-Replace+then-is_alike, in-Replace+else-is_alike+in_ok-remake-in-Replace, in_default+in_ok-remake-in_default}
 
 within : (c : In-Replace) → c.in-Replace.at < length c.args.self.now.lines.items
 within c = let h = rw c.in-Replace.is at c.requires.within in omega (arith, h, c.args.self.now.lines.ok.0)
@@ -23,18 +24,20 @@ rewrite-requires-clause-info c =
 pub rewrite-requires-clause-alike : goal.rewrite-requires-clause-alike
 rewrite-requires-clause-alike c =
     let lines = c.args.self.now.lines.items in
+    let there = within (goal.at.rewrite-requires-clause-alike c).In-Replace in
     let was : get_or (readings_in lines) c.in-Replace.at (reading_in c.in-Replace.added) ≡ reading_in c.index.result.now
-    = get_or-map reading_in lines c.in-Replace.at c.index.result.now (reading_in c.in-Replace.added) (within (goal.at.rewrite-requires-clause-alike c).In-Replace) ∙ ap reading_in (sym c.index.ensures) in
-    rw (was, ← c.line.ensures, ← c.line-in-Replace.ensures) (c.are_alike.ensures c.if-are_alike.true)
+    = get_or-map reading_in lines c.in-Replace.at c.index.result.now (reading_in c.in-Replace.added) there ∙ ap reading_in (sym c.index.ensures) in
+    let info = info-here c.args.self.now.names.keys lines c.in-Replace.at c.index.result.now c.requires.kept.infos there c.index.ensures in
+    rw was (c.is_alike.ensures c.args.self.now.names.keys c.index.result.now.several c.in-Replace.added.several (reading_in c.index.result.now) (reading_in c.in-Replace.added) (rw c.info.ensures info) (rw c.info-in-Replace.ensures (rewrite-requires-clause-info c)) c.if-is_alike.true)
 
 -- what the edit itself leaves
 made : (c : Joined-edit) → IsKept c.match-edit.self × (texts_kept c.match-edit.self ≡ texts_in (lines_after c.args.self.now.lines.items c.args.edit)) × (c.match-edit.meter.encoded ≤ c.args.meter.now.encoded + needed_by c.args.self.now c.args.edit)
 made c =
     elim c.match-edit.branch [
-      | in-Replace+then-are_alike w ↦
+      | in-Replace+then-is_alike w ↦
           rw (w.self-is, w.meter-is, w.in-Replace.is, texts-set c.args.self.now.lines.items w.in-Replace.at w.in-Replace.added, readings-set c.args.self.now.lines.items w.in-Replace.at w.in-Replace.added)
           (w.rewrite.ensures.kept, w.rewrite.ensures.texts, w.rewrite.ensures.encoded)
-      | in-Replace+else-are_alike+in_ok-remake-in-Replace w ↦ rw (w.self-is, w.meter-is, w.in-Replace.is) (w.remake.ensures.kept, w.in_ok-remake-in-Replace.ensures.ok, w.remake.ensures.encoded)
+      | in-Replace+else-is_alike+in_ok-remake-in-Replace w ↦ rw (w.self-is, w.meter-is, w.in-Replace.is) (w.remake.ensures.kept, w.in_ok-remake-in-Replace.ensures.ok, w.remake.ensures.encoded)
       | in_default+in_ok-remake-in_default w ↦ rw (w.self-is, w.meter-is) (w.remake-in_default.ensures.kept, w.in_ok-remake-in_default.ensures.ok, w.remake-in_default.ensures.encoded)
     ]
 

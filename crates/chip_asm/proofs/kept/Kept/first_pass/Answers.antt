@@ -4,9 +4,9 @@ use Rattle.chip_asm.specs.declared.block.Block.{Block}
 use Rattle.chip_asm.specs.inner.Kept.{IsExchanged}
 use Rattle.chip_asm.specs.inner.Passes.{Change, IsUnderWay}
 use Rattle.chip_asm.specs.inner.Tables.{Tables}
-use Rattle.chip_asm.proofs.SecondPass.{begun-way}
-use Rattle.chip_asm.proofs.Bounds.{end-high, end-low}
-use Rattle.chip_asm.proofs.CodeSteps.{refilled}
+use Rattle.chip_asm.proofs.PassSteps.{begun-way}
+use Rattle.chip_asm.proofs.Resumed.{end-high, end-low}
+use Rattle.chip_asm.proofs.LinesByPlace.{refilled}
 use Rattle.chip_asm.proofs.kept.Kept.first_pass.Goals as goal
 use Rattle.chip_asm.proofs.kept.Kept.first_pass.Goals.{After-deref_mut-3}
 

@@ -12,9 +12,8 @@ use Rattle.chip_asm.specs.inner.Placements.{nothing}
 use Rattle.chip_asm.specs.inner.Records.{IsPlaceWithin, count_after, items_after, lines_after, reading_in, readings_in, first_changed}
 use Rattle.chip_asm.specs.inner.Infos.{AreSteady}
 use Rattle.chip_asm.specs.inner.Tables.{Tables}
-use Rattle.chip_asm.proofs.Exchanges.{exchanged, placed-many}
-use Rattle.chip_asm.proofs.FirstLines.{Begun}
-use Rattle.chip_asm.proofs.KeptSteps.{begun-kept, kept-edited, within-lines}
+use Rattle.chip_asm.proofs.KeptSteps.{exchanged, placed-many, begun-kept, kept-edited, within-lines}
+use Rattle.chip_asm.proofs.Resumed.{Begun}
 use Rattle.chip_asm.proofs.LinesAfter.{edited-items}
 use Rattle.chip_asm.proofs.Views.{count-needed}
 use Rattle.chip_asm.proofs.kept.Kept.remake.Goals as goal

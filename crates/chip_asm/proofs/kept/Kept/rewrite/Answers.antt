@@ -10,12 +10,10 @@ use Rattle.chip_asm.specs.inner.Codes.{code_kept, covers_byte, kept_bytes}
 use Rattle.chip_asm.specs.inner.Kept.{IsKept, texts_kept}
 use Rattle.chip_asm.specs.inner.Placements.{count_of, found, is_accepted, status_coded}
 use Rattle.chip_asm.specs.inner.Records.{reading_in, readings_in, texts_in}
-use Rattle.chip_asm.proofs.EditTexts.{texts-set}
-use Rattle.chip_asm.proofs.LinesByPlace.{code-fits, high, low, none-pending}
-use Rattle.chip_asm.proofs.CodeSteps.{found-coded}
-use Rattle.chip_asm.proofs.KeptSwapped.{Exchange, IsNoted, encoded-kept, exchange-kept, kept-swapped, line-new}
+use Rattle.chip_asm.proofs.KeptSteps.{texts-set, Exchange, IsNoted, encoded-kept, exchange-kept, kept-swapped, line-new}
+use Rattle.chip_asm.proofs.LinesByPlace.{code-fits, high, low, none-pending, found-coded}
 use Rattle.chip_asm.proofs.Resumed.{length-laid}
-use Rattle.chip_asm.proofs.WrittenPlaces.{agrees-outside}
+use Rattle.chip_asm.proofs.WholeImage.{agrees-outside}
 use Rattle.chip_asm.proofs.kept.Kept.rewrite.Goals as goal
 use Rattle.chip_asm.proofs.kept.Kept.rewrite.Goals.{After-replace_line, then-is_accepted, else-is_accepted}
 

@@ -2,7 +2,7 @@ use Rattle.std.proofs.Common.{arith, ◌∙◌, ◌≡◌, ◌≤◌, ap, false,
 use Rattle.std.proofs.lemmas.List.Sums.{get_or-le-sum_by}
 use Rattle.chip_asm.specs.declared.layout.Tally.{Tally}
 use Rattle.chip_asm.specs.inner.Placements.{count_of, is_pending, nothing}
-use Rattle.chip_asm.proofs.TallySteps.{count-few, one-fault, tally-set}
+use Rattle.chip_asm.proofs.LinesByPlace.{count-few, one-fault, tally-set}
 use Rattle.chip_asm.proofs.layout.Tally.put.Goals.{then-is_pending, else-is_pending}
 use Rattle.chip_asm.proofs.layout.Tally.put.Goals as goal
 

@@ -7,7 +7,7 @@ use Rattle.chip_asm.specs.declared.placement.Status.TheVariants.{Pending}
 use Rattle.chip_asm.specs.Layout.{value_at, value_or_zero, body_of, full_size}
 use Rattle.chip_asm.specs.computed.Walk.{symbols, is_active, is_aligning}
 use Rattle.chip_asm.specs.inner.Placements.{first_status, is_accepted, is_active_status, refusal}
-use Rattle.chip_asm.proofs.NextLine.{placement-at, fits_at}
+use Rattle.chip_asm.proofs.Resumed.{placement-at, fits_at}
 use Rattle.chip_asm.proofs.pass.Pass.place.Goals as goal
 
 -- a status tells whether the line is active, and its fault then

@@ -1,20 +1,21 @@
-use Rattle.std.proofs.Common.{rules, ◌≡◌, ◌∙◌, not, subst, ◌+◌, ◌-◌, ◌≤◌, ℕ, Bool, List, ap, arith, eqb, false, get_or, length, pos, refl, set, sym, take, to_z, true, w32}
+use Rattle.std.proofs.Common.{rules, ◌≡◌, ◌∙◌, not, subst, ◌+◌, ◌≤◌, Bool, ap, arith, false, get_or, length, pos, refl, sym, take, to_z, true, w32}
+use Rattle.std.proofs.lemmas.Bool.{false≢true}
 use Rattle.std.proofs.lemmas.List.{length-take-le}
-use Rattle.chip_lang.specs.declared.limits.TheConstants.{IMAGE_START, MEMORY_BYTES}
 use Rattle.chip_asm.specs.Layout.{Placed}
 use Rattle.chip_asm.specs.computed.Walk.{place, placed}
 use Rattle.chip_asm.specs.declared.pass.Pass.{Pass}
 use Rattle.chip_asm.specs.declared.placement.Placement.{Placement}
-use Rattle.chip_asm.specs.inner.Follows.{placement_of}
-use Rattle.chip_asm.specs.inner.Infos.{IsBare}
+use Rattle.chip_asm.specs.inner.Codes.{IsCopied}
+use Rattle.chip_asm.specs.inner.Placements.{placement_of, Found, bare_status, found, is_accepted, nothing}
+use Rattle.chip_lang.specs.declared.limits.TheConstants.{MEMORY_BYTES}
+use Rattle.chip_asm.specs.inner.Infos.{IsInfo, IsPlain}
 use Rattle.chip_asm.specs.inner.Passes.{IsUnderWay}
-use Rattle.chip_asm.specs.inner.Placements.{Found, bare_status, found, is_accepted, nothing}
 use Rattle.chip_asm.specs.inner.Records.{reading_in}
-use Rattle.chip_asm.proofs.BareLines.{number-within, passed-bare}
-use Rattle.chip_asm.proofs.Bounds.{end-low}
-use Rattle.chip_asm.proofs.PassSteps.{Copied, StoodBare, bare-held, bare-stood, copied, copied-held, copy-room, facing, none-copied, noted-bare, passed-on, steps-bare, two-copied, zeros-next}
-use Rattle.chip_asm.proofs.TallySteps.{tally-same}
-use Rattle.chip_asm.proofs.pass.Pass.run_as.Goals.{else-active, else-active-via-else-active, else-active-via-then-active+else-is_accepted, else-loop-place-test, then-active+then-is_accepted+else-size-eq2, then-active+then-is_accepted+then-size-eq2, then-loop-place-test+in-Some+else-here+then-not-define_new, then-loop-place-test+in-Some+then-here, then-loop-place-test+in_default}
+use Rattle.chip_asm.proofs.QuietLines.{found-plain, number-within, passed-plain}
+use Rattle.chip_asm.proofs.Resumed.{end-low}
+use Rattle.chip_asm.proofs.LinesByPlace.{high, low, tally-same}
+use Rattle.chip_asm.proofs.PassSteps.{Copied, StepsOn, plain-held, plain-stood, copied, copied-held, copy-room, facing, noted-plain, passed-on, steps-plain, stood-there, unpadded-stood, zeros-next}
+use Rattle.chip_asm.proofs.pass.Pass.run_as.Goals.{else-active, else-active-via-else-active, else-active-via-then-active+else-is_accepted, else-loop-place-test, then-active+then-is_accepted, then-loop-place-test+in-Some+then-not-define_new, then-loop-place-test+in_default}
 use Rattle.chip_asm.proofs.pass.Pass.run_as.Goals as goal
 
 negated : (a b : Bool) → a ≡ not b → a ≡ true → b ≡ false
@@ -30,7 +31,7 @@ define_new-requires-clause-within c =
     let kept = c.index-lines-place.result in
     let u = l.invariant.under_way l.invariant.high c.requires.under_way.0 c.requires.under_way.1 in
     let f = facing c.requires.under_way.0 _ _ _ _ _ _ _ kept u c.loop-place-test.true c.index-lines-place.is in
-    number-within l.self.names.keys c.in-Some.defines _ (c.in-Some.ensures.is l.self.names.keys kept.several (reading_in kept) (rw c.info.ensures f.info)).named
+    number-within l.self.names.keys c.in-Some.defines _ (c.in-Some.ensures.is l.self.names.keys kept.several (reading_in kept) (rw c.info-info.ensures f.info)).named
 
 pub define_new-requires-clause-room : goal.define_new-requires-clause-room
 define_new-requires-clause-room c =
@@ -38,31 +39,43 @@ define_new-requires-clause-room c =
     let u = i.under_way i.high c.requires.under_way.0 c.requires.under_way.1 in
     omega (arith, u.room.names, c.loop-place-test.true)
 
-pub overflow_sub-at : goal.overflow_sub-at
-overflow_sub-at c =
+pub move_line-here-requires-clause-was_low : goal.move_line-here-requires-clause-was_low
+move_line-here-requires-clause-was_low c =
+    let e = c.requires.under_way.0 in
     let l = c.loop-place in
     let kept = c.index-lines-place.result in
-    let u = l.invariant.under_way l.invariant.high c.requires.under_way.0 c.requires.under_way.1 in
-    let f = facing c.requires.under_way.0 _ _ _ _ _ _ _ kept u c.loop-place-test.true c.index-lines-place.is in
-    let bare = c.in-Some.ensures.is l.self.names.keys kept.several (reading_in kept) (rw c.info.ensures f.info) in
-    let st = bare-stood c.requires.under_way.0 _ _ _ _ c.in-Some.size kept _ c.in-Some.defines c.args.active u.change f (sym c.is_accepted.ensures ∙ c.if-is_accepted.true) c.if-active.true bare in
-    omega (arith, c.address-at.ensures, st.low)
+    let u = l.invariant.under_way l.invariant.high e c.requires.under_way.1 in
+    let f = facing e _ _ _ _ _ _ _ kept u c.loop-place-test.true c.index-lines-place.is in
+    let s = stood-there e _ l.place (reading_in kept) _ u.change f.line (f.slot nothing) (sym c.is_accepted.ensures ∙ c.if-is_accepted.true) in
+    low e.was s.before _ s.at
 
-pub overflow_sub-here : goal.overflow_sub-here
-overflow_sub-here c =
+pub move_line-here-requires-clause-was_high : goal.move_line-here-requires-clause-was_high
+move_line-here-requires-clause-was_high c =
+    let e = c.requires.under_way.0 in
+    let l = c.loop-place in
+    let kept = c.index-lines-place.result in
+    let u = l.invariant.under_way l.invariant.high e c.requires.under_way.1 in
+    let f = facing e _ _ _ _ _ _ _ kept u c.loop-place-test.true c.index-lines-place.is in
+    let s = stood-there e _ l.place (reading_in kept) _ u.change f.line (f.slot nothing) (sym c.is_accepted.ensures ∙ c.if-is_accepted.true) in
+    omega (arith, high e.was s.before _ s.at, u.from_long)
+
+pub move_line-here-requires-clause-low : goal.move_line-here-requires-clause-low
+move_line-here-requires-clause-low c =
     let i = c.loop-place.invariant in
     let u = i.under_way i.high c.requires.under_way.0 c.requires.under_way.1 in
     omega (arith, u.walked.follows.at_address, end-low (take c.loop-place.place c.requires.under_way.0.now))
 
-pub copy_two-requires-clause-at : goal.copy_two-requires-clause-at
-copy_two-requires-clause-at c =
+pub move_line-here-requires-clause-same : goal.move_line-here-requires-clause-same
+move_line-here-requires-clause-same c = λ short.
+    (let e = c.requires.under_way.0 in
     let l = c.loop-place in
     let kept = c.index-lines-place.result in
-    let u = l.invariant.under_way l.invariant.high c.requires.under_way.0 c.requires.under_way.1 in
-    let f = facing c.requires.under_way.0 _ _ _ _ _ _ _ kept u c.loop-place-test.true c.index-lines-place.is in
-    let bare = c.in-Some.ensures.is l.self.names.keys kept.several (reading_in kept) (rw c.info.ensures f.info) in
-    let st = bare-stood c.requires.under_way.0 _ _ _ _ c.in-Some.size kept _ c.in-Some.defines c.args.active u.change f (sym c.is_accepted.ensures ∙ c.if-is_accepted.true) c.if-active.true bare in
-    omega (arith, c.address-at.ensures, st.low, st.high, c.if-size-eq2.true, u.from_long)
+    let u = l.invariant.under_way l.invariant.high e c.requires.under_way.1 in
+    let f = facing e _ _ _ _ _ _ _ kept u c.loop-place-test.true c.index-lines-place.is in
+    let keys = l.self.names.keys in
+    let info : IsInfo keys c.info-info.result kept.several (reading_in kept) = rw c.info-info.ensures f.info in
+    let plain : IsPlain keys true l.self.aligning l.here (reading_in kept) c.in-Some.size c.in-Some.defines = rw (← c.if-active.true) (c.in-Some.ensures.is keys kept.several (reading_in kept) info) in
+    unpadded-stood e _ _ _ l.place _ kept _ _ _ _ u.change f (sym c.is_accepted.ensures ∙ c.if-is_accepted.true) (c.in-Some.ensures.unpadded keys kept.several (reading_in kept) info c.if-active.true short) plain)
 
 pub put-requires-clause-tally : goal.put-requires-clause-tally
 put-requires-clause-tally c = (let i = c.loop-place.invariant in (i.under_way i.high c.requires.under_way.0 c.requires.under_way.1).tallied)
@@ -75,13 +88,9 @@ loop-place-preserved c =
     let keys = l.self.names.keys in
     let size = c.in-Some.size in
     let from = c.args.from.now in
-    let moved : c.if-active.here ≡ l.here + size = elim c.if-active.branch [
-      | then-active+then-is_accepted+then-size-eq2 w ↦ w.here-is ∙ ap (λ n. l.here + n) (sym w.if-size-eq2.true)
-      | then-active+then-is_accepted+else-size-eq2 w ↦ w.here-is ∙ omega (arith, c.in-Some.ensures.zero w.if-size-eq2.false)
-      | else-active w ↦ w.here-is
-    ] in
+    let moved : c.if-active.here ≡ l.here + size = elim c.if-active.branch [ then-active+then-is_accepted w ↦ w.here-is ∙ w.move_line-here.ensures.behind | else-active w ↦ w.here-is ] in
     record {
-      high = omega (arith, moved, c.in-Some.ensures.small, c.if-here.false);
+      high = omega (arith, moved, c.in-Some.ensures.fits);
       after = omega (arith, i.after);
       within = omega (arith, c.loop-place-test.true);
       same = i.same;
@@ -92,47 +101,38 @@ loop-place-preserved c =
           let pass : Pass = record l.self { here = l.here; within = i.high } in
           let f = facing e c.args.lines.now pass l.placements l.tally from l.image l.place kept u c.loop-place-test.true c.index-lines-place.is in
           let x : Placed = place (placed (take l.place e.now)) (reading_in kept) in
-          let bare : IsBare keys c.args.active (reading_in kept) size c.in-Some.defines = c.in-Some.ensures.is keys kept.several (reading_in kept) (rw c.info.ensures f.info) in
+          let bare : IsPlain keys c.args.active l.self.aligning l.here (reading_in kept) size c.in-Some.defines = c.in-Some.ensures.is keys kept.several (reading_in kept) (rw c.info-info.ensures f.info) in
           let cast : to_z w32 l.here ≡ pos l.here = (let h = i.high in grind arith) in
           let new = negated c.define_new.result _ c.define_new.ensures.new c.if-not-define_new.false in
           let given = c.define_new.ensures.symbols c.if-not-define_new.false ∙ (rw cast refl) in
           let here : l.place ≡ length (take l.place e.now) = sym (length-take-le l.place e.now (omega (arith, f.inside))) in
-          let s = steps-bare pass c.define_new.new.self l.place size (reading_in kept) c.in-Some.defines c.args.active i.same bare fits new given c.define_new.ensures.keeps in
-          let is = (passed-bare pass c.define_new.new.self (take l.place e.now) (reading_in kept) l.place size c.in-Some.defines c.args.active i.same u.walked.follows here bare fits new given).0 in
+          let next : Pass = record pass { here = l.here + size; within = fits; names = c.define_new.new.self } in
+          let s : StepsOn pass next l.place (reading_in kept) = steps-plain pass c.define_new.new.self l.place size (reading_in kept) c.in-Some.defines c.args.active i.same bare fits new given c.define_new.ensures.keeps in
+          let is : found-plain l.here size c.args.active ≡ placement_of x = (passed-plain pass c.define_new.new.self (take l.place e.now) (reading_in kept) l.place size c.in-Some.defines c.args.active i.same u.walked.follows here bare fits new given).0 in
           let zeros = zeros-next e l.place x l.image u.gaps f.at in
           let q : Placement = get_or l.placements l.place nothing in
-          let next : Pass = record pass { here = l.here + size; within = fits; names = c.define_new.new.self } in
-          let stood : is_accepted q.status ≡ true → c.args.active ≡ true → StoodBare q size = λ taken active. bare-stood e pass l.placements from l.place size kept x c.in-Some.defines c.args.active u.change f taken active bare in
-          let noted : is_accepted q.status ≡ true → c.args.active ≡ true → found (record q { here = l.here }) ≡ placement_of x
-          = λ taken active. ap (λ (r : Found). record r { here = l.here }) (stood taken active).is ∙ (rw (← active) is) in
-          let go : is_accepted q.status ≡ true → c.args.active ≡ true → (new : List ℕ) → length new ≡ length l.image → Copied q (placement_of x) from l.image new → IsUnderWay e c.args.lines.now next (set l.placements l.place (record q { here = l.here })) l.tally from new (l.place + 1)
-          = λ taken active new long image.
-          passed-on e c.args.lines.now pass next l.placements _ l.tally l.tally from l.image new l.place kept (record q { here = l.here }) u c.loop-place-test.true f s refl (noted taken active)
-          (tally-same l.placements l.tally l.place (record q { here = l.here }) nothing u.tallied f.inside_was refl) long image.off (λ effect. copied-held e pass l.placements from l.image new l.place kept x f u.change taken image zeros) in
-          elim c.if-active.branch [
-            | then-active+then-is_accepted+then-size-eq2 w ↦
+          let now : Placement = record q { here = l.here; size = size } in
+          elim c.if-active.branch as (λ branch. IsUnderWay e c.args.lines.now next c.if-active.placements c.if-active.tally from c.if-active.image (l.place + 1)) [
+            | then-active+then-is_accepted w ↦
                 (let taken = sym w.is_accepted.ensures ∙ w.if-is_accepted.true in
-                let st = stood taken w.if-active.true in
-                let now : Placement = record q { here = l.here } in
-                let two : q.size ≡ 2 = ap (λ (r : Found). r.size) st.is ∙ w.if-size-eq2.true in
-                let put = two-copied q now from l.image w.copy_two.new.image (w.address-at.result - IMAGE_START) two two (ap (λ a. a - IMAGE_START) w.address-at.ensures) (omega (arith, w.address-at.ensures, st.high, st.low, two, u.from_long, w.if-size-eq2.true)) w.copy_two.ensures in
-                let is_now = noted taken w.if-active.true in
-                let image = copied q now from l.image w.copy_two.new.image put (copy-room e c.args.lines.now pass l.placements l.tally from l.image l.place kept x now nothing u f taken is_now) in
-                rw (w.placements-is, w.tally-is, w.image-is)
-                (go taken w.if-active.true w.copy_two.new.image w.copy_two.auto.image (subst (λ r. Copied q r from l.image w.copy_two.new.image) is_now image)))
-            | then-active+then-is_accepted+else-size-eq2 w ↦
-                rw (w.placements-is, w.tally-is, w.image-is)
-                (go (sym w.is_accepted.ensures ∙ w.if-is_accepted.true) w.if-active.true l.image refl (none-copied q (placement_of x) from l.image (sym (ap (λ (r : Found). r.size) is) ∙ c.in-Some.ensures.zero w.if-size-eq2.false)))
+                let active : true ≡ c.args.active = sym w.if-active.true in
+                let is_now : found now ≡ placement_of x = ap (λ (r : Found). record r { here = l.here; size = size }) (plain-stood e pass l.placements from l.place kept x u.change f taken bare.plain) ∙ (rw active is) in
+                let put : w.move_line-here.new.line ≡ now = w.move_line-here.ensures.line in
+                let image = copied q now from l.image w.move_line-here.new.image (subst (λ r. IsCopied q r from l.image w.move_line-here.new.image) put w.move_line-here.ensures.image) (copy-room e c.args.lines.now pass l.placements l.tally from l.image l.place kept x now nothing u f taken is_now) in
+                let there : Copied q (placement_of x) from l.image w.move_line-here.new.image = subst (λ r. Copied q r from l.image w.move_line-here.new.image) is_now image in
+                rw (w.placements-is, w.tally-is, w.image-is, put)
+                (passed-on e c.args.lines.now pass next l.placements _ l.tally l.tally from l.image w.move_line-here.new.image l.place kept now u c.loop-place-test.true f s refl is_now
+                (tally-same l.placements l.tally l.place now nothing u.tallied f.inside_was refl) w.move_line-here.auto.image there.off (λ effect. copied-held e pass l.placements from l.image w.move_line-here.new.image l.place kept x f u.change taken there zeros)))
             | else-active w ↦
                 (let refused : c.args.active ≡ true → is_accepted q.status ≡ false
                 = elim w.else-active.branch [
                   | else-active-via-then-active+else-is_accepted v ↦ λ same. sym v.is_accepted.ensures ∙ v.if-is_accepted.false
-                  | else-active-via-else-active v ↦ λ same. absurd (let never : true ≡ false = sym same ∙ v.if-active.false in cc)
+                  | else-active-via-else-active v ↦ λ same. absurd (false≢true (sym v.if-active.false ∙ same))
                 ] in
                 rw (w.placements-is, w.tally-is, w.image-is)
-                (passed-on e c.args.lines.now pass next l.placements w.put.new.placements l.tally w.put.new.self from l.image l.image l.place kept (record { value = pos 0; here = l.here; size = size; status = bare_status c.args.active (eqb size 2) }) u c.loop-place-test.true f s
-                (w.put.ensures.placements ∙ (rw w.bare-else-active.ensures refl)) (noted-bare l.here size c.args.active (eqb size 2) ∙ is) w.put.ensures.tally refl (λ k out. refl)
-                (bare-held e pass l.placements from l.image l.place size kept x c.in-Some.defines c.args.active l.here f is bare refused zeros)))
+                (passed-on e c.args.lines.now pass next l.placements w.put.new.placements l.tally w.put.new.self from l.image l.image l.place kept (record { value = pos 0; here = l.here; size = size; status = bare_status c.args.active kept.info.is_coded }) u c.loop-place-test.true f s
+                (w.put.ensures.placements ∙ (rw (w.bare.ensures, c.info-info.ensures) refl)) (noted-plain l.here size c.args.active kept.info.is_coded ∙ is) w.put.ensures.tally refl (λ k out. refl)
+                (plain-held e pass l.placements from l.image l.place size kept x c.args.active l.here f is refused zeros)))
           ]) fits;
     }
 
@@ -141,6 +141,5 @@ returns-clause-under_way c = λ e u.
     elim c.loop-place-test.branch [
       | else-loop-place-test w ↦ rw w.self-is (c.loop-place.invariant.under_way _ e u)
       | then-loop-place-test+in_default w ↦ rw w.self-is (c.loop-place.invariant.under_way _ e u)
-      | then-loop-place-test+in-Some+then-here w ↦ rw w.self-is (c.loop-place.invariant.under_way _ e u)
-      | then-loop-place-test+in-Some+else-here+then-not-define_new w ↦ rw (w.self-is, w.define_new.ensures.same w.if-not-define_new.true) (c.loop-place.invariant.under_way _ e u)
+      | then-loop-place-test+in-Some+then-not-define_new w ↦ rw (w.self-is, w.define_new.ensures.same w.if-not-define_new.true) (c.loop-place.invariant.under_way _ e u)
     ]

@@ -5,7 +5,7 @@ use Rattle.chip_asm.specs.declared.pass.Pass.{Pass}
 use Rattle.chip_asm.specs.Layout.{condition_of, body_of}
 use Rattle.chip_asm.specs.computed.Walk.{placed}
 use Rattle.chip_asm.specs.inner.Placements.{found}
-use Rattle.chip_asm.proofs.NextLine.{follows-push}
+use Rattle.chip_asm.proofs.Resumed.{follows-push}
 use Rattle.chip_asm.proofs.pass.Pass.step.Goals as goal
 
 pub returns-clause-passed : goal.returns-clause-passed

@@ -5,7 +5,7 @@ use Rattle.chip_asm.specs.declared.edit.Edit.TheVariants.{Delete}
 use Rattle.chip_asm.specs.inner.Kept.{MayEdit}
 use Rattle.chip_asm.specs.inner.KeptLine.{KeptLine}
 use Rattle.chip_asm.specs.inner.Records.{texts_in}
-use Rattle.chip_asm.proofs.EditTexts.{count-texts, may-edit, needs-edit}
+use Rattle.chip_asm.proofs.KeptSteps.{count-texts, may-edit, needs-edit}
 use Rattle.chip_asm.proofs.source.Source.delete.Goals as goal
 use Rattle.chip_asm.proofs.source.Source.delete.Goals.{In_default}
 

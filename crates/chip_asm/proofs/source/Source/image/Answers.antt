@@ -4,10 +4,9 @@ use Rattle.chip_lang.specs.Line.{reading_of}
 use Rattle.chip_lang.specs.declared.limits.TheConstants.{IMAGE_START}
 use Rattle.chip_asm.specs.Program.{faults_of_lines, image_of}
 use Rattle.chip_asm.specs.inner.Records.{readings_in}
-use Rattle.chip_asm.proofs.Bounds.{end-low}
+use Rattle.chip_asm.proofs.Resumed.{end-low}
 use Rattle.chip_asm.proofs.Views.{layout-view}
-use Rattle.chip_asm.proofs.WholeImage.{faults-counted, image-room}
-use Rattle.chip_asm.proofs.WrittenPlaces.{image-kept}
+use Rattle.chip_asm.proofs.WholeImage.{faults-counted, image-room, image-kept}
 use Rattle.chip_asm.proofs.source.Source.image.Goals as goal
 
 pub slice_bounds-result-count : goal.slice_bounds-result-count

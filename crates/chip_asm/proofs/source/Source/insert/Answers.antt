@@ -6,8 +6,7 @@ use Rattle.chip_asm.specs.declared.edit.Edit.TheVariants.{Insert}
 use Rattle.chip_asm.specs.inner.Kept.{MayEdit}
 use Rattle.chip_asm.specs.inner.KeptLine.{KeptLine}
 use Rattle.chip_asm.specs.inner.Records.{texts_in}
-use Rattle.chip_asm.proofs.EditTexts.{count-texts, has-room, may-edit, needs-edit}
-use Rattle.chip_asm.proofs.KeptSteps.{kept-same}
+use Rattle.chip_asm.proofs.KeptSteps.{count-texts, has-room, may-edit, needs-edit, kept-same}
 use Rattle.chip_asm.proofs.source.Source.insert.Goals as goal
 use Rattle.chip_asm.proofs.source.Source.insert.Goals.{In_ok-added}
 

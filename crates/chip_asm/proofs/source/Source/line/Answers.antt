@@ -2,20 +2,15 @@ use Rattle.std.proofs.Common.{◌≡◌, ◌∙◌, ◌+◌, ◌-◌, Some, ap, 
 use Rattle.std.proofs.lemmas.List.{length-map}
 use Rattle.std.proofs.lemmas.Option.{slice_get-get_or, slice_get_within}
 use Rattle.chip_lang.specs.declared.limits.TheConstants.{IMAGE_START}
-use Rattle.chip_asm.specs.declared.kept.Kept.{Kept}
 use Rattle.chip_asm.specs.declared.placement.Placement.{Placement}
-use Rattle.chip_asm.specs.inner.Kept.{IsKept}
 use Rattle.chip_asm.specs.inner.KeptLine.{KeptLine}
 use Rattle.chip_asm.specs.inner.Placements.{found}
-use Rattle.chip_asm.specs.inner.Records.{reading_in, readings_in}
+use Rattle.chip_asm.specs.inner.Records.{readings_in}
 use Rattle.chip_asm.proofs.WholeImage.{facts-at, none-at, read-kept, text-kept}
 use Rattle.chip_asm.proofs.LinesByPlace.{AtPlace, at-place, high, low}
-use Rattle.chip_asm.proofs.Resumed.{length-laid}
 use Rattle.chip_asm.proofs.source.Source.line.Goals as goal
 use Rattle.chip_asm.proofs.source.Source.line.Goals.{After-index-placement}
-
-placed_many : (kept : Kept) → IsKept kept → length kept.layout.placements.items ≡ length kept.lines.items
-placed_many kept k = length-laid kept.layout (readings_in kept.lines.items) k.laid_out ∙ length-map kept.lines.items reading_in
+use Rattle.chip_asm.proofs.KeptSteps.{placed-many}
 
 -- the line at the place, and what is found of it, are there
 
@@ -28,7 +23,7 @@ noted : (c : After-index-placement) → slice_get c.self.inside.kept.layout.plac
 noted c =
     let kept = c.self.inside.kept in
     slice_get-get_or kept.layout.placements.items (c.args.number - 1) c.index-placement.result.now
-    (omega (arith, slice_get_within kept.lines.items (c.args.number - 1) c.in_ok-kept.kept.now (stands c), placed_many kept c.self.invariant)) ∙ ap Some (sym c.index-placement.ensures)
+    (omega (arith, slice_get_within kept.lines.items (c.args.number - 1) c.in_ok-kept.kept.now (stands c), placed-many kept c.self.invariant)) ∙ ap Some (sym c.index-placement.ensures)
 
 at-kept : (c : After-index-placement) → AtPlace (readings_in c.self.inside.kept.lines.items) (c.args.number - 1) (found c.index-placement.result.now)
 at-kept c = let kept = c.self.inside.kept in at-place (readings_in kept.lines.items) kept.layout c.self.invariant.laid_out (c.args.number - 1) c.index-placement.result.now (noted c)
@@ -44,7 +39,7 @@ returns-in_err-kept-clause-value c =
 pub index-placement-requires : goal.index-placement-requires
 index-placement-requires c =
     let kept = c.self.inside.kept in
-    omega (arith, c.in_ok-kept.ensures.lookup.3.0, ap length c.deref.ensures.value, placed_many kept c.self.invariant, kept.layout.placements.ok.0)
+    omega (arith, c.in_ok-kept.ensures.lookup.3.0, ap length c.deref.ensures.value, placed-many kept c.self.invariant, kept.layout.placements.ok.0)
 
 pub bytes_at-bytes-requires-clause-low : goal.bytes_at-bytes-requires-clause-low
 bytes_at-bytes-requires-clause-low c = low _ _ _ (at-kept (goal.at.bytes_at-bytes-requires-clause-low c).After-index-placement)

@@ -3,8 +3,7 @@ use Rattle.std.specs.FinMap as finite
 use Rattle.chip_asm.specs.Names.{values_of}
 use Rattle.chip_asm.specs.inner.Tables.{Tables, valued_in}
 use Rattle.chip_asm.proofs.NameValues.{values-found}
-use Rattle.chip_asm.proofs.SymbolSteps.{names_of}
-use Rattle.chip_asm.proofs.TakenBack.{front-early}
+use Rattle.chip_asm.proofs.SymbolSteps.{names_of, front-early}
 use Rattle.chip_asm.proofs.table.Table.begin.Goals as goal
 
 pub returns-clause-before : goal.returns-clause-before
