@@ -13,9 +13,9 @@ use Rattle.std.specs.Borrow.{Bor}
 use Rattle.std.specs.Fmt.{decimal}
 use Rattle.memchr.specs.Find.{Nowhere, Passes, is_byte}
 use Rattle.chip_arguments.specs.declared.command_line.ExploreArguments.{ExploreArguments}
-use Rattle.chip_asm.specs.Names.{Name, lookup_name, values_of}
+use Rattle.chip_symbols.specs.Names.{Name, lookup_name, values_of}
 use Rattle.chip_asm.specs.Program.{symbols_of}
-use Rattle.chip_asm.specs.declared.table.Symbol.{Symbol}
+use Rattle.chip_symbols.specs.declared.table.Symbol.{Symbol}
 use Rattle.chip_cover.specs.Marks.{marked_listing}
 use Rattle.chip_lang.specs.Line.{lexemes_of, upper}
 use Rattle.chip_machine.specs.Limits.{MEMORY_BYTES}

@@ -14,10 +14,11 @@ use Rattle.std.specs.Io.{StartsWith}
 use Rattle.chip_asm.specs.inner.HeldText.{IsBack, part_from}
 use Rattle.chip_asm.specs.Lines.{lines_of, is_long, fault_of_lines, open_fault, is_newline, first_text}
 
-record Filled (parts : List (List ℕ)) : Type 0 where
-  first : List ℕ
-  others : List (List ℕ)
-  is : parts ≡ first ∷ others
+-- a list with an element
+pub record Filled (parts : List (List ℕ)) : Type 0 where
+  pub first : List ℕ
+  pub others : List (List ℕ)
+  pub is : parts ≡ first ∷ others
 
 filled_first : (c : ℕ) (parts : List (List ℕ)) → Filled (onto_first c parts)
 filled_first c [] = record { first = c ∷ []; others = []; is = refl }
@@ -27,7 +28,7 @@ filled_cond : (b : Bool) (xs ys : List (List ℕ)) → Filled xs → Filled ys �
 filled_cond true xs ys f g = f
 filled_cond false xs ys f g = g
 
-filled : (bytes : List ℕ) → Filled (slice_split is_newline bytes)
+pub filled : (bytes : List ℕ) → Filled (slice_split is_newline bytes)
 filled [] = record { first = []; others = []; is = refl }
 filled (x ∷ xs) = filled_cond (is_newline x) _ _ (record { first = []; others = slice_split is_newline xs; is = refl }) (filled_first x (slice_split is_newline xs))
 

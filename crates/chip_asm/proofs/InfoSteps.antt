@@ -11,12 +11,12 @@ use Rattle.chip_lang.specs.Line.{Reading}
 use Rattle.chip_lang.specs.SeenLine.{seen_line}
 use Rattle.chip_asm.specs.declared.line_info.LineInfo.{LineInfo}
 use Rattle.chip_asm.specs.declared.line_info.Numbered.{Numbered}
-use Rattle.chip_asm.specs.declared.table.NameId.{NameId}
-use Rattle.chip_asm.specs.Names.{Name}
+use Rattle.chip_symbols.specs.declared.table.NameId.{NameId}
+use Rattle.chip_symbols.specs.Names.{Name}
 use Rattle.chip_asm.specs.inner.Infos.{AreInfos, AreInfosOf, IsInfo, IsNumberOf, numbers_of}
 use Rattle.chip_asm.specs.inner.KeptLine.{KeptLine}
 use Rattle.chip_asm.specs.inner.Records.{reading_in, readings_in, texts_in}
-use Rattle.chip_asm.specs.inner.Tables.{AreNumbers, Extends, IsNumber, key_at, names_at}
+use Rattle.chip_symbols.specs.Tables.{AreNumbers, Extends, IsNumber, key_at, names_at}
 use Rattle.chip_asm.proofs.PlacesAgree.{one-side}
 
 pub number-extends : (old new : List Name) (id : NameId) (name : Name) → Extends old new → IsNumber old id name → IsNumber new id name

@@ -1,6 +1,6 @@
 -- What is kept of a source as a whole, before and after an edit.
-use Rattle.std.proofs.Common.{◌≡◌, ℕ, zero, suc, ◌+◌, ◌<◌, ◌≤◌, List, [], ◌∷◌, ◌++◌, reverse, length, take, drop, set, get_or, fold, refl, ap, sym, subst, ◌∙◌, arith, append_assoc, ◌-◌, Bool, true, false, cond, ◌&&◌, ltb, leb, map, find, Option, Some, None, replicate, sum_by, length-append, vec_len, slice_get, inl, inr, vec_capacity, All, length-set, eq-eqb}
-use Rattle.std.proofs.lemmas.List.{length-reverse, length-take, reverse-append, get_or_append_left, get_or-append_right, get_or_past, get_or-replicate, length-replicate, take_all, length-map, take-map, get_or-set_same, map-set, get_or_default, get_or-set_other}
+use Rattle.std.proofs.Common.{◌≡◌, ℕ, zero, suc, ◌+◌, ◌<◌, ◌≤◌, List, [], ◌∷◌, ◌++◌, reverse, length, take, drop, set, get_or, fold, refl, ap, sym, subst, ◌∙◌, arith, append_assoc, ◌-◌, Bool, true, false, cond, ◌&&◌, ltb, leb, map, find, Option, Some, None, replicate, sum_by, length-append, vec_len, slice_get, inl, inr, vec_capacity, All, length-set, eq-eqb, insert, remove}
+use Rattle.std.proofs.lemmas.List.{length-reverse, length-take, reverse-append, get_or_append_left, get_or-append_right, get_or_past, get_or-replicate, length-replicate, take_all, length-map, take-map, get_or-set_same, map-set, get_or_default, get_or-set_other, drop-map, map-append}
 use Rattle.std.proofs.Math.Seq.{get_or-append_seam, map-set_same, set-append_seam}
 use Rattle.chip_lang.specs.Line.{Reading, reading_of}
 use Rattle.chip_asm.specs.inner.Infos.{AreAlike, AreInfos, IsInfo, AreSteady, is_steady, has_code}
@@ -21,7 +21,7 @@ use Rattle.chip_asm.specs.inner.Codes.{IsImageOf, right_byte, IsWritten, code_ke
 use Rattle.chip_asm.specs.inner.Kept.{IsKept, lines_kept, IsAssembled, MayEdit, change_of, IsExchanged, lines_then, needed_by, texts_kept}
 use Rattle.chip_asm.specs.inner.KeptLine.{KeptLine}
 use Rattle.chip_asm.specs.inner.Records.{reading_in, readings_in, texts_in, IsPlaceWithin, lines_after, first_changed, count_after, place_before}
-use Rattle.chip_asm.specs.inner.Tables.{Extends, AreOver, AreUpTo}
+use Rattle.chip_symbols.specs.Tables.{Extends, AreOver, AreUpTo}
 use Rattle.chip_asm.proofs.InfoSteps.{infos-extend}
 use Rattle.std.specs.Global.{Vec}
 use Rattle.std.proofs.lemmas.Bool.{cases_lt, false_from_ne_true, cases_eq}
@@ -31,8 +31,8 @@ use Rattle.std.proofs.lemmas.Option.{same_Some, slice_get-get_or, slice_get_with
 use Rattle.chip_asm.specs.declared.layout.Layout.{Layout}
 use Rattle.chip_asm.specs.declared.placement.Placement.{Placement}
 use Rattle.chip_asm.specs.declared.placement.Status.TheVariants.{Pending, Skipped}
-use Rattle.chip_asm.specs.declared.table.Symbol.{Symbol}
-use Rattle.chip_asm.specs.Names.{Name, values_of}
+use Rattle.chip_symbols.specs.declared.table.Symbol.{Symbol}
+use Rattle.chip_symbols.specs.Names.{Name, values_of}
 use Rattle.chip_asm.specs.Work.{is_accepted_at, lines_to_encode, is_accepted_in, needs_count}
 use Rattle.chip_asm.specs.inner.Passes.{HasCode, IsHeld, IsSlot, is_byte_of, placed_at}
 use Rattle.chip_asm.proofs.LinesByPlace.{AtPlace, accepted-at, at-line, at-place, at-place-of, byte-line, byte-nowhere, ends-before, found-there, here-at, high, low, none-pending, covers-accepted, covered, set-here, set-other}
@@ -702,3 +702,10 @@ encoded-kept kept at added q old new e h = by (is_accepted q.status) (has_code (
     by true true accepted h = omega (arith, needed accepted)
     by true false accepted h = omega arith
     by false b accepted h = omega arith
+
+-- a line that comes or goes, by what is read of each
+pub map-insert : {X Y : Type 0} (f : X → Y) (xs : List X) (i : ℕ) (y : X) → map f (insert xs i y) ≡ insert (map f xs) i (f y)
+map-insert f xs i y = map-append f (take i xs) (y ∷ drop i xs) ∙ (λ j. sym (take-map f i xs) j ++ f y ∷ sym (drop-map f i xs) j)
+
+pub map-remove : {X Y : Type 0} (f : X → Y) (xs : List X) (i : ℕ) → map f (remove xs i) ≡ remove (map f xs) i
+map-remove f xs i = map-append f (take i xs) (drop (suc i) xs) ∙ (λ j. sym (take-map f i xs) j ++ sym (drop-map f (suc i) xs) j)

@@ -10,14 +10,14 @@ use Rattle.chip_lang.specs.Tree.{Tree}
 use Rattle.chip_lang.specs.Line.{Body, equ, org, ds, Reading, bad, read}
 use Rattle.chip_lang.specs.Value.{Symbols, value, value_of_name}
 use Rattle.chip_lang.specs.Uses.{names_in, has_same_value, agree_on}
-use Rattle.chip_asm.specs.declared.table.Symbol.{Symbol}
-use Rattle.chip_asm.specs.Names.{Name, lookup_name, values_of}
-use Rattle.chip_asm.specs.Layout.{Placed, body_of, is_redefinition, value_at, value_or_zero}
+use Rattle.chip_symbols.specs.declared.table.Symbol.{Symbol}
+use Rattle.chip_symbols.specs.Names.{Name, lookup_name, values_of, is_redefinition}
+use Rattle.chip_asm.specs.Layout.{Placed, body_of, value_at, value_or_zero}
 use Rattle.chip_asm.specs.Program.{is_unclosed, names_of_lines}
 use Rattle.chip_asm.specs.computed.Walk.{address, first_fault, fault_of_value, is_aligning, is_active, is_misplaced, place, placed, symbols}
 use Rattle.chip_asm.specs.inner.Placements.{final_placement, placements_of, Found, is_accepted_found}
 use Rattle.chip_asm.proofs.Resumed.{no_fault, NamesSplit, names-split, next-placed, none_from}
-use Rattle.chip_asm.proofs.NameValues.{value-of-name}
+use Rattle.chip_symbols.proofs.NameValues.{value-of-name}
 use Rattle.chip_asm.proofs.Placing.{length-numbered}
 
 -- laws of the language

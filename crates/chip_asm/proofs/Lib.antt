@@ -4,11 +4,8 @@ pub mod Placing
 pub mod LinesApart
 pub mod LinesAfter
 pub mod Resumed
-pub mod NameValues
 pub mod KeptValues
 pub mod PlacesAgree
-pub mod ValueSteps
-pub mod SymbolSteps
 pub mod CutSteps
 pub mod InfoSteps
 pub mod QuietLines

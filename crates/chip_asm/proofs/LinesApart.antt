@@ -4,7 +4,7 @@ use Rattle.std.proofs.lemmas.Bool.Decides.{nat_tests}
 use Rattle.std.proofs.lemmas.List.{get_or-reverse, length-reverse, append-nil, map-append}
 use Rattle.std.proofs.lemmas.Option.{get_or_from_slice_get, slice_get_within}
 use Rattle.chip_lang.specs.Line.{Reading, bad, read}
-use Rattle.chip_asm.specs.Layout.{Placed, body_of, symbol_of, symbol_given, value_given, takes_effect, is_redefinition}
+use Rattle.chip_asm.specs.Layout.{Placed, body_of, symbol_of, symbol_given, value_given, takes_effect}
 use Rattle.chip_asm.specs.computed.Walk.{place, placed, address, is_active, first_fault, symbols, is_misplaced}
 use Rattle.chip_asm.specs.Program.{covers}
 use Rattle.chip_asm.proofs.Resumed.{passes, no_fault, none_from}
@@ -16,8 +16,8 @@ use Rattle.std.specs.Cmp.{IsEquivalence}
 use Rattle.std.proofs.lemmas.Map.Keys.{IsDistinct-push}
 use Rattle.std.proofs.lemmas.Slice.Eq.{bytes_eq-Decides}
 use Rattle.chip_lang.specs.Uses.{name_defined}
-use Rattle.chip_asm.specs.declared.table.Symbol.{Symbol}
-use Rattle.chip_asm.specs.Names.{Name, lookup_name}
+use Rattle.chip_symbols.specs.declared.table.Symbol.{Symbol}
+use Rattle.chip_symbols.specs.Names.{Name, lookup_name, is_redefinition}
 
 -- No address is covered by two lines.
 

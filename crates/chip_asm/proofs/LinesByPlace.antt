@@ -22,7 +22,7 @@ use Rattle.std.proofs.lemmas.List.Folds.{find_at, list_all-map, list_any-append}
 use Rattle.std.proofs.lemmas.List.Sums.{get_or-le-sum_by, length-filter, passes_at_first, sum_by-cons, sum_by-set, sum_by-take-le, sum_by_more}
 use Rattle.std.proofs.lemmas.Option.{get_or_from_slice_get, same_Some, slice_get-get_or, slice_get-map, slice_get_past, slice_get_within}
 use Rattle.chip_lang.specs.declared.fault.Fault.TheVariants.{UnclosedIf}
-use Rattle.chip_asm.specs.Names.{values_of}
+use Rattle.chip_symbols.specs.Names.{values_of}
 use Rattle.chip_asm.specs.declared.layout.Layout.{Layout}
 use Rattle.chip_asm.specs.computed.Walk.{place, placed, address, is_aligning, symbols, enclosing}
 use Rattle.chip_asm.specs.inner.Placements.{IsLayoutOf, placements_of, final_placement, first_placements, Found, found, is_accepted_found, is_accepted, status_coded, nothing, count_of, fault_noted, is_active_status, refusal, block_of, placement_of}

@@ -9,8 +9,8 @@ use Rattle.chip_lang.specs.declared.limits.TheConstants.{IMAGE_START, MEMORY_BYT
 use Rattle.chip_asm.specs.declared.layout.Tally.{Tally}
 use Rattle.chip_asm.specs.declared.pass.Pass.{Pass}
 use Rattle.chip_asm.specs.declared.placement.Placement.{Placement}
-use Rattle.chip_asm.specs.Layout.{Placed, body_of, full_size, is_padded, own_size, value_at, is_redefinition, value_or_zero, has_ended}
-use Rattle.chip_asm.specs.Names.{values_of, Name}
+use Rattle.chip_asm.specs.Layout.{Placed, body_of, full_size, is_padded, own_size, value_at, value_or_zero, has_ended}
+use Rattle.chip_symbols.specs.Names.{values_of, Name, is_redefinition}
 use Rattle.chip_asm.specs.computed.Walk.{place, placed, symbols, address, enclosing, is_aligning}
 use Rattle.chip_asm.specs.inner.Codes.{IsCopied, copied_bytes, IsImageOf, IsWritten, code_kept, is_coded, kept_bytes, kept_fault, right_byte}
 use Rattle.chip_asm.specs.inner.Placements.{Follows, placement_of, HasPassed, AreCodesNoted, final_placement, placements_of, Found, found, is_accepted, bare_status, is_active_status, refusal, status_coded, is_accepted_found, nothing, is_pending, count_of}
@@ -18,7 +18,7 @@ use Rattle.chip_asm.specs.inner.Infos.{IsInfo, has_code, IsPlain, is_plain_line}
 use Rattle.chip_asm.specs.inner.KeptLine.{KeptLine}
 use Rattle.chip_asm.specs.inner.Passes.{Change, HasRoom, IsHeld, IsSlot, IsTally, IsUnderWay, is_byte_of, placed_at, AreGapsZero, HasCode, IsCarried, IsChange, code_before, AreCoded, AreSettled, IsDone, IsEncodedUnder, IsHalfDone, again_up_to, stood, is_encoded_again}
 use Rattle.chip_asm.specs.inner.Records.{reading_in, readings_in}
-use Rattle.chip_asm.specs.inner.Tables.{KeepsBefore, Tables, name_of, symbols_of}
+use Rattle.chip_symbols.specs.Tables.{KeepsBefore, Tables, name_of, symbols_of}
 use Rattle.chip_asm.proofs.QuietLines.{info-here, found-plain, passed-plain, plain-line}
 use Rattle.chip_asm.proofs.Resumed.{IsWithinMemory, next-placed, end-high, Resumes, resumes, none_from, steady-readings}
 use Rattle.chip_asm.proofs.LinesByPlace.{around, covered, inserted, no-code, same-bytes, one-more, take-next, set-here, set-other, is-marked, marked-placements, AtPlace, apart, at-line, at-place-of, bytes-fit, high, low, accepted-at, accepted-effect, byte-line, byte-outside, covers-accepted, ends-before, count-numbered, count_by-take, size-there}
@@ -30,8 +30,8 @@ use Rattle.std.proofs.lemmas.Bool.Decides.{nat_tests}
 use Rattle.chip_lang.specs.declared.fault.Fault.{Fault}
 use Rattle.chip_asm.specs.declared.placement.Status.{Status}
 use Rattle.chip_asm.specs.Program.{bytes_in_code, fault_in_code, names_of_lines, code_under, code_with, is_unclosed}
-use Rattle.chip_asm.specs.declared.table.NameId.{NameId}
-use Rattle.chip_asm.specs.declared.table.Symbol.{Symbol}
+use Rattle.chip_symbols.specs.declared.table.NameId.{NameId}
+use Rattle.chip_symbols.specs.declared.table.Symbol.{Symbol}
 use Rattle.std.specs.List.{enumerate_from}
 use Rattle.std.specs.Option.{option_map_or}
 use Rattle.chip_lang.specs.declared.fault.Fault.TheVariants.{UnclosedIf}

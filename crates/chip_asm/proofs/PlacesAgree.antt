@@ -7,7 +7,8 @@ use Rattle.std.proofs.lemmas.List.{take-append-le, take_all, take-append-drop, l
 use Rattle.std.proofs.lemmas.List.Sorted.{IsPermutation-reverse, sum_by-IsPermutation, list_any-IsPermutation}
 use Rattle.std.proofs.lemmas.List.Sums.{sum_by-cons, sum_by_push, take_while-cons}
 use Rattle.std.proofs.lemmas.Option.{get_or_from_slice_get, slice_get_read, slice_get_within, slice_get-map}
-use Rattle.chip_asm.specs.Layout.{Placed, is_if, is_endif, first_of, body_of, is_side_or_end, is_origin, is_align, is_align_off_body, has_else, has_ended, holds, is_redefinition, is_negative_space, is_backwards, is_past_end, value_at, value_or_zero, full_size}
+use Rattle.chip_symbols.specs.Names.{is_redefinition}
+use Rattle.chip_asm.specs.Layout.{Placed, is_if, is_endif, first_of, body_of, is_side_or_end, is_origin, is_align, is_align_off_body, has_else, has_ended, holds, is_negative_space, is_backwards, is_past_end, value_at, value_or_zero, full_size}
 use Rattle.chip_asm.specs.computed.Walk.{with_between, closes_no_more, encloses, enclosing, place, placed, is_aligning, address, symbols, is_active, is_misplaced, first_fault, fault_of_value}
 use Rattle.chip_asm.specs.Places.{Passes, IsLast, Encloses, sizes, IsFromLast, IsActive, fault_in_value, is_stray, first_pass_faults, IsPlaced, ArePlaced, IsUnclosed}
 use Rattle.chip_asm.proofs.BlockSteps.{reverse-cons}

@@ -5,12 +5,11 @@ use Rattle.chip_lang.specs.Line.{Reading, Body, align}
 use Rattle.chip_asm.specs.Layout.{Placed, first_of, is_end_body, body_of, takes_effect, is_origin, is_align, is_align_body, is_align_off_body, has_ended, symbol_of, condition_of, value_at, value_or_zero, full_size}
 use Rattle.chip_asm.specs.computed.Walk.{place, placed, address, is_aligning, symbols, is_active, first_fault, enclosing}
 use Rattle.chip_asm.proofs.OpenBlocks.{enclosing-open, IsNumbered}
-use Rattle.std.specs.List.{list_any, prefix_len}
 use Rattle.std.specs.Option.{option_map_or}
 use Rattle.std.proofs.lemmas.List.Sums.{sum_by-cons}
 use Rattle.std.proofs.lemmas.List.Elements.{filter_map-append}
-use Rattle.chip_asm.specs.Names.{Name}
-use Rattle.chip_asm.specs.declared.table.Symbol.{Symbol}
+use Rattle.chip_symbols.specs.Names.{Name}
+use Rattle.chip_symbols.specs.declared.table.Symbol.{Symbol}
 use Rattle.chip_asm.specs.inner.Placements.{next_aligning}
 use Rattle.chip_asm.proofs.BlockSteps.{reverse-cons}
 

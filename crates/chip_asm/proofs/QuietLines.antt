@@ -7,21 +7,21 @@ use Rattle.chip_lang.specs.declared.limits.TheConstants.{MEMORY_BYTES}
 use Rattle.chip_lang.specs.declared.fault.Fault.{Fault}
 use Rattle.chip_lang.specs.declared.fault.Fault.TheVariants.{DefinedTwice, PastMemory}
 use Rattle.chip_lang.specs.Line.{Body, empty, db, dw, da, code, else_line, endif, options, used, xref, Reading, bad, read}
-use Rattle.chip_asm.specs.Names.{Name}
-use Rattle.chip_asm.specs.declared.table.Symbol.{Symbol}
+use Rattle.chip_symbols.specs.Names.{Name, is_redefinition}
+use Rattle.chip_symbols.specs.declared.table.Symbol.{Symbol}
 use Rattle.chip_asm.specs.declared.block.Block.{Block}
 use Rattle.chip_asm.specs.inner.Blocks.{moved}
 use Rattle.chip_asm.specs.inner.Infos.{is_plain, is_plain_line, AreAlike, AreInfos, IsInfo, IsNumberOf, IsPlain}
 use Rattle.chip_asm.specs.inner.Placements.{next_aligning, Follows, placement_of, Found}
-use Rattle.chip_asm.specs.Layout.{Placed, body_of, is_if_body, is_else_body, is_endif_body, is_end_body, is_org_body, is_if, is_else, is_endif, takes_effect, is_origin, symbol_of, value_given, condition_of, value_at, value_or_zero, full_size, is_redefinition, has_ended, has_else, holds, first_of, symbol_given}
+use Rattle.chip_asm.specs.Layout.{Placed, body_of, is_if_body, is_else_body, is_endif_body, is_end_body, is_org_body, is_if, is_else, is_endif, takes_effect, is_origin, symbol_of, value_given, condition_of, value_at, value_or_zero, full_size, has_ended, has_else, holds, first_of, symbol_given}
 use Rattle.chip_asm.specs.computed.Walk.{place, first_fault, fault_of_value, is_misplaced, is_active, enclosing, symbols, address, is_aligning, placed}
 use Rattle.chip_asm.proofs.OpenBlocks.{open_blocks, enclosing-open}
 use Rattle.chip_asm.proofs.Placing.{address-cons, aligning-cons, has_ended-cons, symbols-cons, parts}
 use Rattle.chip_asm.specs.declared.pass.Pass.{Pass}
-use Rattle.chip_asm.specs.declared.table.NameId.{NameId}
+use Rattle.chip_symbols.specs.declared.table.NameId.{NameId}
 use Rattle.chip_asm.specs.inner.KeptLine.{KeptLine}
 use Rattle.chip_asm.specs.inner.Records.{reading_in}
-use Rattle.chip_asm.specs.inner.Tables.{Tables, name_of, symbols_of}
+use Rattle.chip_symbols.specs.Tables.{Tables, name_of, symbols_of}
 use Rattle.chip_asm.proofs.BlockSteps.{active_here}
 use Rattle.chip_asm.proofs.Resumed.{placement-at, follows-push}
 

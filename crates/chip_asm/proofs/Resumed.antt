@@ -4,7 +4,7 @@ use Rattle.std.specs.List.{list_all, cons_option}
 use Rattle.std.proofs.lemmas.List.Folds.{list_all-append, list_all-map}
 use Rattle.chip_lang.specs.Line.{Body, Reading, ifdef, ifund, else_line, endif, align, org, bad, read}
 use Rattle.chip_asm.specs.declared.block.Block.{Block}
-use Rattle.chip_asm.specs.Layout.{Placed, body_of, has_ended, is_if_body, is_side_or_end, full_size, value_at, value_or_zero, is_end_body, condition_of, symbol_given, is_if, is_align_body, is_endif, takes_effect, symbol_of, value_given, is_org_body, is_backwards, is_past_end, is_negative_space, is_redefinition}
+use Rattle.chip_asm.specs.Layout.{Placed, body_of, has_ended, is_if_body, is_side_or_end, full_size, value_at, value_or_zero, is_end_body, condition_of, symbol_given, is_if, is_align_body, is_endif, takes_effect, symbol_of, value_given, is_org_body, is_backwards, is_past_end, is_negative_space}
 use Rattle.chip_asm.specs.computed.Walk.{place, placed, is_active, enclosing, first_fault, symbols, is_aligning, address, fault_of_value, is_misplaced}
 use Rattle.chip_asm.specs.inner.Placements.{block_of, Follows, placement_of, next_address, next_aligning, Found, is_accepted_found, found, IsLayoutOf, first_placements, final_placement, placements_of}
 use Rattle.chip_asm.specs.inner.Blocks.{AreNested, moved, turn_first, close_first}
@@ -18,12 +18,12 @@ use Rattle.std.proofs.Math.Seq.{take-append_seam, get_or-append_seam}
 use Rattle.std.proofs.lemmas.List.{append-nil, map-append, length-map, take-append-drop, length-take-le, take_at, take_more, length-take, take-map, get_or-take}
 use Rattle.std.proofs.lemmas.List.Elements.{filter_map-append, All-nil, All-cons, All-head, All-tail, All-append, All-weaker, All-map}
 use Rattle.chip_lang.specs.Uses.{name_defined}
-use Rattle.chip_asm.specs.Names.{Name}
+use Rattle.chip_symbols.specs.Names.{Name, is_redefinition}
 use Rattle.chip_asm.specs.declared.layout.Layout.{Layout}
-use Rattle.chip_asm.specs.declared.table.Symbol.{Symbol}
+use Rattle.chip_symbols.specs.declared.table.Symbol.{Symbol}
 use Rattle.chip_asm.specs.Program.{names_of_lines}
 use Rattle.chip_asm.specs.inner.Infos.{is_steady, AreInfos, AreSteady}
-use Rattle.chip_asm.specs.inner.Tables.{AreOver, AreUpTo}
+use Rattle.chip_symbols.specs.Tables.{AreOver, AreUpTo}
 use Rattle.std.specs.Prelude.{int_lt}
 use Rattle.std.proofs.lemmas.Bool.{ltb-false}
 use Rattle.chip_lang.specs.declared.limits.TheConstants.{IMAGE_START, MEMORY_BYTES}

@@ -8,8 +8,8 @@ use Rattle.chip_lang.specs.declared.fault.Fault.{Fault}
 use Rattle.chip_lang.specs.Line.{Body, empty, equ, org, ds, db, dw, da, code, define, ifdef, ifund, else_line, endif, end_line, align, Reading, bad, read}
 use Rattle.chip_lang.specs.Value.{value}
 use Rattle.chip_lang.specs.Uses.{name_defined}
-use Rattle.chip_asm.specs.declared.table.Symbol.{Symbol}
-use Rattle.chip_asm.specs.Names.{Name, lookup_name, values_of}
+use Rattle.chip_symbols.specs.declared.table.Symbol.{Symbol}
+use Rattle.chip_symbols.specs.Names.{Name, lookup_name, values_of}
 
 -- what holds of a line in its source
 pub record Placed : Type 0 where
@@ -161,10 +161,6 @@ abbrev pub full_size : Bool → ℕ → Body → ℤ → ℕ
 full_size aligning here body value = own_size body value + padding aligning here body value
 
 -- what can be wrong with a name or a value
-
-abbrev pub is_redefinition : List (Name × Symbol) → Option Name → Bool
-is_redefinition names None = false
-is_redefinition names (Some name) = is_some (lookup_name names name)
 
 abbrev pub is_negative_space : Body → ℤ → Bool
 is_negative_space (ds e) value = int_lt value (pos 0)

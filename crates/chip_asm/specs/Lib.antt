@@ -1,7 +1,6 @@
 -- What whole sources are: a reader believes these files.
 --     Lines        the lines of a source, and whether it opens
 --     Edits        when an edit is refused
---     Names        names and tables of names
 --     Layout       words for a line: what it says, which name it gives, how much it takes
 --     Places       what holds of each line: whether it is active, where it stands, what is wrong with
 --                  it
@@ -19,7 +18,6 @@ pub mod Layout
 pub mod LineViews
 pub mod Lines
 pub mod Listing
-pub mod Names
 pub mod Places
 pub mod Program
 pub mod Sources

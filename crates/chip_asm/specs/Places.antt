@@ -10,9 +10,9 @@ use Rattle.chip_lang.specs.declared.fault.Fault.TheVariants.{DefinedTwice, OutOf
 use Rattle.chip_lang.specs.Code.{own_bytes}
 use Rattle.chip_lang.specs.Line.{Body, Reading, bad, read, fault_if, first_that_holds}
 use Rattle.chip_lang.specs.Uses.{name_defined}
-use Rattle.chip_asm.specs.declared.table.Symbol.{Symbol}
-use Rattle.chip_asm.specs.Names.{Name, values_of}
-use Rattle.chip_asm.specs.Layout.{Placed, body_of, is_if, is_else, is_endif, is_else_body, is_side_or_end, is_number, is_origin, is_align, is_align_off_body, takes_effect, symbol_of, holds, has_ended, condition_of, value_at, value_or_zero, full_size, is_redefinition, is_negative_space, is_backwards, is_past_end}
+use Rattle.chip_symbols.specs.declared.table.Symbol.{Symbol}
+use Rattle.chip_symbols.specs.Names.{Name, values_of, is_redefinition}
+use Rattle.chip_asm.specs.Layout.{Placed, body_of, is_if, is_else, is_endif, is_else_body, is_side_or_end, is_number, is_origin, is_align, is_align_off_body, takes_effect, symbol_of, holds, has_ended, condition_of, value_at, value_or_zero, full_size, is_negative_space, is_backwards, is_past_end}
 
 -- the line at place j is this one, and passes the test
 pub record Passes (test : Placed → Bool) (before : List Placed) (j : ℕ) (p : Placed) : Type 0 where

@@ -6,8 +6,8 @@ use Rattle.chip_lang.specs.declared.limits.TheConstants.{IMAGE_START}
 use Rattle.chip_lang.specs.declared.fault.Fault.{Fault}
 use Rattle.chip_lang.specs.declared.fault.Fault.TheVariants.{UnclosedIf}
 use Rattle.chip_lang.specs.Line.{Reading, reading_of}
-use Rattle.chip_asm.specs.declared.table.Symbol.{Symbol}
-use Rattle.chip_asm.specs.Names.{Name}
+use Rattle.chip_symbols.specs.declared.table.Symbol.{Symbol}
+use Rattle.chip_symbols.specs.Names.{Name}
 use Rattle.chip_asm.specs.Layout.{Placed, is_if, has_ended}
 use Rattle.chip_asm.specs.computed.Walk.{placed, symbols, enclosing, address}
 pub use Rattle.chip_asm.specs.Places.{bytes_in_code, code_with, fault_in_code}

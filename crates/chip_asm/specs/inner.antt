@@ -1,4 +1,4 @@
--- What the functions inside say: of the first pass in Blocks and Placements; of symbols in Tables; of
+-- What the functions inside say: of the first pass in Blocks and Placements; of
 -- kept lines in HeldText, KeptLine, Facts, Infos and Records; of their codes in Codes; of both passes
 -- in Passes; of all of it in Kept.
 pub mod Blocks
@@ -11,4 +11,3 @@ pub mod KeptLine
 pub mod Passes
 pub mod Placements
 pub mod Records
-pub mod Tables

@@ -2,7 +2,7 @@
 ghost use Rattle.std.specs.Prelude.{◌≡◌, ℕ, ◌+◌, ◌<◌, ◌≤◌, ◌&&◌, ◌||◌, not, true, false, length, map, Ok, slice_get};
 ghost use Rattle.chip_lang.specs.Uses.{agree_on};
 ghost use Rattle.chip_asm.specs.Layout.{body_of, value_at};
-ghost use Rattle.chip_asm.specs.Names.{values_of};
+ghost use Rattle.chip_symbols.specs.Names.{values_of};
 ghost use Rattle.chip_lang.specs.declared.limits.TheConstants.{IMAGE_BYTES};
 ghost use Rattle.chip_asm.specs.inner.Codes.{is_coded};
 ghost use Rattle.chip_asm.specs.inner.KeptLine.{IsKnownUnder};
@@ -10,7 +10,7 @@ ghost use Rattle.chip_asm.specs.inner.Infos.{AreInfos, IsInfo, AreSteady};
 ghost use Rattle.chip_asm.specs.inner.Placements.{placements_of, found, is_accepted, is_pending};
 ghost use Rattle.chip_asm.specs.inner.Passes.{AreCoded, AreSettled, Change, IsEncodedUnder, IsTally, IsUnderWay, again_up_to};
 ghost use Rattle.chip_asm.specs.inner.Records.{reading_in, readings_in};
-ghost use Rattle.chip_asm.specs.inner.Tables.{AreDifferences, Tables};
+ghost use Rattle.chip_symbols.specs.Tables.{AreDifferences, Tables};
 
 use crate::codes::{copy_code, write_line};
 use crate::kept_line::BoxedLine;
@@ -18,9 +18,9 @@ use crate::layout::Tally;
 use crate::line_info::Uses;
 use crate::pass::Pass;
 use crate::placement::{Placement, Status};
-use crate::table::Table;
 use chip_lang::Meter;
 use chip_lang::laws::{kept_value, same_code};
+use chip_symbols::Table;
 use std::ops::Range;
 
 /// How many lines before a place are steady, up to the first that isn't, where so many are known to

@@ -9,9 +9,9 @@ ghost use Rattle.chip_asm.specs.inner.Records.{reading_in};
 
 use crate::kept_line::BoxedLine;
 use crate::placement::Placement;
-use crate::table::{Scope, Table};
 use chip_lang::limits::IMAGE_START;
 use chip_lang::{Fault, Meter, encode_into};
+use chip_symbols::{Scope, Table};
 use std::ops::Range;
 
 /// The places of the bytes of a line in the image.

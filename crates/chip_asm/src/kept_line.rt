@@ -1,19 +1,19 @@
 //! What is kept of a line.
-ghost use Rattle.std.specs.Prelude.{◌≡◌, ◌+◌, ◌≤◌, List, Ok, IfOk, IfSome, length};
+ghost use Rattle.std.specs.Prelude.{◌≡◌, ◌+◌, ◌≤◌, List, Ok, IfOk, length};
 ghost use Rattle.chip_lang.specs.Line.{reading_of};
-ghost use Rattle.chip_lang.specs.SeenLine.{seen_body, seen_line};
+ghost use Rattle.chip_lang.specs.SeenLine.{seen_line};
 ghost use Rattle.chip_lang.specs.Meter.{one_more};
-ghost use Rattle.chip_asm.specs.Names.{Name};
+ghost use Rattle.chip_symbols.specs.Names.{Name};
 ghost use Rattle.chip_asm.specs.declared.line_info.Uses.TheVariants.{Several};
 ghost use Rattle.chip_asm.specs.inner.HeldText.{SaysNothing, part_from};
 ghost use Rattle.chip_asm.specs.inner.Infos.{IsInfo, numbers_in};
 ghost use Rattle.chip_asm.specs.inner.Records.{reading_in};
-ghost use Rattle.chip_asm.specs.inner.Tables.{Extends};
+ghost use Rattle.chip_symbols.specs.Tables.{Extends};
 
 use crate::line_info::{LineInfo, Numbered, Uses};
 use crate::line_text::{LineText, SharedSource};
-use crate::table::{NameId, Table};
 use chip_lang::{Body, Line, Meter, read_line, read_nothing};
+use chip_symbols::{NameId, Table};
 use std::alloc::{AllocError, Global};
 use std::marker::Model;
 use std::rc::Rc;

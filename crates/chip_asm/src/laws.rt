@@ -5,7 +5,6 @@ ghost use Rattle.std.specs.Str.{bytes_eq};
 ghost use Rattle.chip_lang.specs.Line.{Reading, reading_of};
 ghost use Rattle.chip_asm.specs.Layout.{Placed};
 ghost use Rattle.chip_asm.specs.computed.Walk.{placed};
-ghost use Rattle.chip_asm.specs.Names.{Name};
 ghost use Rattle.chip_asm.specs.Places.{ArePlaced, IsFaultOf, IsImage, IsUnclosed, names_given};
 ghost use Rattle.chip_asm.specs.Program.{symbols_of, fault_at, image_of, covers, is_unclosed};
 

@@ -1,9 +1,8 @@
 //! What the passes find of all lines.
-ghost use Rattle.std.specs.Prelude.{◌≡◌, ◌<◌, ◌≤◌, ℕ, [], List, Some, length, slice_get, slice_set, take, true, vec_len};
+ghost use Rattle.std.specs.Prelude.{◌≡◌, ◌<◌, ◌≤◌, [], List, Some, length, slice_set, take, true};
 ghost use Rattle.std.specs.List.{list_all};
 ghost use Rattle.chip_lang.specs.Line.{Reading};
 ghost use Rattle.chip_asm.specs.computed.Walk.{address, placed};
-ghost use Rattle.chip_asm.specs.declared.placement.Status.TheVariants.{Pending};
 ghost use Rattle.chip_asm.specs.inner.Placements.{IsLayoutOf};
 ghost use Rattle.chip_asm.specs.inner.Blocks.{AreMarked, is_among};
 ghost use Rattle.chip_asm.specs.inner.Passes.{IsTally};

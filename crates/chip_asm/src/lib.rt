@@ -15,16 +15,12 @@ mod line_info;
 mod line_text;
 mod line_view;
 mod listing;
-mod name_hasher;
 mod pass;
 mod placement;
 mod refusal;
 mod source;
-mod table;
-mod values;
 
+pub use chip_symbols::{NameHasher, Symbol};
 pub use line_view::LineView;
-pub use name_hasher::NameHasher;
 pub use refusal::{OpenError, Refusal};
 pub use source::Source;
-pub use table::Symbol;

@@ -5,13 +5,13 @@ ghost use Rattle.chip_lang.specs.SeenLine.{seen_body, seen_line};
 ghost use Rattle.chip_lang.specs.Uses.{name_defined, names_used};
 ghost use Rattle.chip_lang.specs.declared.limits.TheConstants.{MEMORY_BYTES};
 ghost use Rattle.chip_asm.specs.Layout.{body_of, is_padded, own_size};
-ghost use Rattle.chip_asm.specs.Names.{Name};
+ghost use Rattle.chip_symbols.specs.Names.{Name};
 ghost use Rattle.chip_asm.specs.inner.Infos.{AreAlike, IsInfo, IsNumberOf, IsPlain, IsSpaceOf, is_steady, numbers_of, has_code};
-ghost use Rattle.chip_asm.specs.inner.Tables.{AreNumbers, Extends};
+ghost use Rattle.chip_symbols.specs.Tables.{AreNumbers, Extends};
 
-use crate::table::{NameId, Table};
 use chip_lang::limits::MEMORY_BYTES;
 use chip_lang::{Body, Line, UsedNames, defines, used_names};
+use chip_symbols::{NameId, Table};
 use std::alloc::{AllocError, Global};
 
 /// What is known of the names in a line's expressions.
@@ -200,17 +200,6 @@ pub(crate) fn padded_size(size: usize, is_padded: bool, here: usize) -> usize
     }
 }
 
-/// Whether two names, or none, have the same number.
-fn is_same_name(one: Option<NameId>, other: Option<NameId>) -> bool
-    ensures { result ≡ true → one ≡ other }
-{
-    match (one, other) {
-        (Some(one), Some(other)) => one.number == other.number,
-        (None, None) => true,
-        _ => false,
-    }
-}
-
 /// What is known of a line whose names have numbers.
 #[derive(Drop)]
 pub(crate) struct Numbered {
@@ -303,6 +292,6 @@ impl LineInfo {
             }
             _ => false,
         };
-        is_same_space && is_same_name(self.defines, other.defines)
+        is_same_space && self.defines == other.defines
     }
 }

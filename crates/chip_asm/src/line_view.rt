@@ -1,7 +1,10 @@
 //! What a source tells of a line.
-ghost use Rattle.std.specs.Prelude.{◌≡◌, ◌<◌, ◌≤◌, length};
+ghost use Rattle.std.specs.Prelude.{◌≡◌, ◌<◌, ◌≤◌, IfOk, length};
+ghost use Rattle.chip_lang.specs.FaultPlace.{mnemonic_of, span_of_fault};
 ghost use Rattle.chip_lang.specs.Line.{reading_of};
+ghost use Rattle.chip_lang.specs.Scan.{AreTokens};
 ghost use Rattle.chip_lang.specs.SeenLine.{seen_line};
+ghost use Rattle.chip_lang.specs.computed.Tokens.{tokens_of};
 ghost use Rattle.chip_lang.specs.declared.limits.TheConstants.{MEMORY_BYTES};
 ghost use Rattle.chip_asm.specs.LineViews.{definition_of};
 ghost use Rattle.chip_asm.specs.inner.Facts.{facts_in};
@@ -9,7 +12,8 @@ ghost use Rattle.chip_asm.specs.inner.Records.{reading_in};
 
 use crate::kept_line::BoxedLine;
 use crate::placement::Placement;
-use chip_lang::{Body, Fault, Line};
+use chip_lang::{Body, Bytes, Fault, Line, Span, Token, fault_span, mnemonic_of, tokens};
+use std::alloc::{AllocError, Global};
 use std::marker::Model;
 
 /// A line of a source, and what holds of it there. It is lent by the source.
@@ -75,6 +79,33 @@ impl<'a> LineView<'a> {
         ensures { seen_line result.now ≡ reading_of self.now.text }
     {
         self.reading
+    }
+
+    /// The tokens of the text: one list, each token at its place, in rising order. Err where memory
+    /// ran out.
+    pub fn tokens(&self, alloc: Global) -> Result<Vec<Token>, AllocError>
+        ensures list { IfOk result (λ tokens. tokens.items ≡ tokens_of self.now.text) }
+        ensures placed { IfOk result (λ tokens. AreTokens self.now.text 0 tokens.items) }
+    {
+        tokens(alloc, self.text)
+    }
+
+    /// The mnemonic with which the statement begins, in upper case, if it begins with one. Err where
+    /// memory ran out.
+    pub fn mnemonic(&self, alloc: Global) -> Result<Option<Bytes>, AllocError>
+        ensures { IfOk result (λ mnemonic. mnemonic ≡ mnemonic_of self.now.text) }
+    {
+        mnemonic_of(alloc, self.text)
+    }
+
+    /// Where in the text a fault of it lies, as the table `place_of_fault` says. Err where memory ran
+    /// out.
+    pub fn span_of(&self, alloc: Global, fault: Fault) -> Result<Span, AllocError>
+        ensures span { IfOk result (λ span. span ≡ span_of_fault fault self.now.text) }
+        ensures rises { IfOk result (λ span. span.start ≤ span.end) }
+        ensures inside { IfOk result (λ span. span.end ≤ length self.now.text) }
+    {
+        fault_span(alloc, self.text, fault)
     }
 
     /// Whether the line is active: no IF block leaves it out, and no END stands before it.

@@ -1,12 +1,12 @@
 //! The first pass: one line after another.
-ghost use Rattle.std.specs.Prelude.{ℕ, ◌≡◌, reverse, ◌+◌, ◌-◌, ◌≤◌, ◌<◌, ◌^◌, List, [], ◌∷◌, ◌++◌, IfSome, length, is_some, is_none, unsigned_abs, pos, Option, None, Some, Ok, true, false, not, ◌&&◌, ◌||◌, if◌then◌else◌, option_to_list, slice_get, vec_capacity};
+ghost use Rattle.std.specs.Prelude.{ℕ, ◌≡◌, reverse, ◌+◌, ◌-◌, ◌≤◌, ◌<◌, ◌^◌, List, [], ◌∷◌, ◌++◌, IfSome, length, Option, None, Some, Ok, true, false, not, ◌&&◌, ◌||◌, if◌then◌else◌, option_to_list, vec_capacity};
 ghost use Rattle.std.specs.List.{list_all};
 ghost use Rattle.chip_asm.specs.declared.block.Block.{Block};
 ghost use Rattle.chip_asm.specs.inner.Blocks.{AreNested};
 ghost use Rattle.chip_asm.specs.inner.KeptLine.{IsKnownUnder};
-ghost use Rattle.chip_asm.specs.inner.Tables.{IsNumber, KeepsBefore, key_at};
-ghost use Rattle.chip_asm.specs.Names.{Name, lookup_name};
-ghost use Rattle.chip_asm.specs.Layout.{value_at, own_size, is_padded, full_size, is_backwards, is_past_end, is_redefinition, body_of, condition_of, is_end_body, symbol_given};
+ghost use Rattle.chip_symbols.specs.Tables.{KeepsBefore};
+ghost use Rattle.chip_symbols.specs.Names.{Name, is_redefinition};
+ghost use Rattle.chip_asm.specs.Layout.{value_at, full_size, body_of, condition_of, is_end_body, symbol_given};
 ghost use Rattle.chip_asm.specs.computed.Walk.{fault_of_value};
 ghost use Rattle.chip_lang.specs.SeenLine.{seen_line, seen_body};
 ghost use Rattle.chip_lang.specs.Line.{Reading, empty as empty_body};
@@ -20,9 +20,9 @@ use crate::kept_line::BoxedLine;
 use crate::layout::Tally;
 use crate::line_info::{is_data, padded_size, size_of_body};
 use crate::placement::{Placement, Status};
-use crate::table::{NameId, Scope, Symbol, Table};
 use chip_lang::limits::MEMORY_BYTES;
 use chip_lang::{Body, Fault, Line, Names, eval};
+use chip_symbols::{NameId, Scope, Symbol, Table};
 
 /// The state of the pass between two lines.
 #[derive(Drop)]
@@ -51,7 +51,7 @@ fn body_or<'a>(line: &'a Line, empty: &'a Body) -> &'a Body
 impl Pass {
     ghost use Rattle.chip_asm.specs.Layout.{Placed, has_ended};
     ghost use Rattle.chip_asm.specs.computed.Walk.{address, is_aligning, enclosing, is_active, is_misplaced, first_fault, symbols, place, placed};
-    ghost use Rattle.chip_asm.specs.inner.Infos.{AreInfos, IsNumberOf};
+    ghost use Rattle.chip_asm.specs.inner.Infos.{IsNumberOf};
     ghost use Rattle.chip_asm.specs.declared.placement.Status.TheVariants.{Pending};
     ghost use Rattle.chip_asm.specs.inner.Placements.{found, is_accepted, Follows, placement_of, next_address, next_aligning};
     ghost use Rattle.chip_asm.specs.inner.Passes.{Change, HasRoom, IsUnderWay};

@@ -1,6 +1,5 @@
 //! Why an edit is refused, or a source does not open.
 ghost use Rattle.std.specs.Prelude.{◌≡◌};
-ghost use Rattle.std.specs.List.{list_any};
 
 use std::alloc::AllocError;
 use thiserror::Error;

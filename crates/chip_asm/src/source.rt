@@ -1,11 +1,11 @@
 //! A source that is edited, with its layout, codes and image kept.
-ghost use Rattle.std.specs.Prelude.{◌≡◌, ◌+◌, ◌-◌, ◌<◌, ◌≤◌, ◌⊎◌, ℕ, List, OnOk, OnErr, IfOk, IfErr, IsSome, IfSome, [], length, insert, remove, slice_set, vec_len, Option, Some, None, map, option_map, slice_get};
+ghost use Rattle.std.specs.Prelude.{◌≡◌, ◌+◌, ◌-◌, ◌<◌, ◌≤◌, ◌⊎◌, OnOk, OnErr, IfOk, IfErr, IsSome, IfSome, [], length, insert, remove, slice_set, Option, Some, None, map, option_map, slice_get};
 ghost use Rattle.std.specs.Option.{option_copied};
 ghost use Rattle.chip_lang.specs.Line.{upper};
 ghost use Rattle.chip_lang.specs.Meter.{one_more};
 ghost use Rattle.chip_asm.specs.Edits.{insert_refusal, replace_refusal, delete_refusal, before_insert, before_replace, before_delete};
 ghost use Rattle.chip_asm.specs.Work.{lines_to_encode, accepted_of};
-ghost use Rattle.chip_asm.specs.Names.{lookup_name, values_of};
+ghost use Rattle.chip_symbols.specs.Names.{lookup_name, values_of};
 ghost use Rattle.chip_asm.specs.LineViews.{line_at, line_facts};
 ghost use Rattle.chip_asm.specs.Listing.{listing_of};
 ghost use Rattle.chip_asm.specs.Program.{AgreesOutside, symbols_of, fault_at, faults_of, image_of};
@@ -17,11 +17,10 @@ use crate::kept::Kept;
 use crate::kept_line::read_kept;
 use crate::line_view::LineView;
 use crate::listing::listing_bytes;
-use crate::name_hasher::NameHasher;
 use crate::refusal::{OpenError, Refusal, delete_refusal, insert_refusal, replace_refusal};
-use crate::table::{Scope, Symbol, Table};
 use chip_lang::limits::{IMAGE_BYTES, IMAGE_START};
 use chip_lang::{Bytes, Fault, Meter, Names};
+use chip_symbols::{NameHasher, Scope, Symbol, Table};
 use std::alloc::{AllocError, Global};
 use std::marker::Model;
 use std::ops::Range;

@@ -10,9 +10,9 @@ use Rattle.std.proofs.lemmas.Slice.Eq.{bytes_eq-Decides}
 use Rattle.chip_lang.specs.FaultPlace.{name_of_token}
 use Rattle.chip_lang.specs.Line.{upper}
 use Rattle.chip_lang.specs.declared.token.Token.{Token}
-use Rattle.chip_asm.specs.declared.table.Symbol.{Symbol}
-use Rattle.chip_asm.specs.Names.{Name, lookup_name, values_of}
-use Rattle.chip_asm.proofs.NameValues.{value-of-name}
+use Rattle.chip_symbols.specs.declared.table.Symbol.{Symbol}
+use Rattle.chip_symbols.specs.Names.{Name, lookup_name, values_of}
+use Rattle.chip_symbols.proofs.NameValues.{value-of-name}
 use Rattle.chip_check.specs.Place.{first_unknown, is_seen_symbol, is_unknown_name}
 use Rattle.chip_check.specs.inner.Known.{Agree, listed}
 

@@ -16,8 +16,8 @@ use Rattle.chip_lang.specs.Operand.{Operand}
 use Rattle.chip_lang.specs.Tree.{Tree}
 use Rattle.chip_lang.specs.Value.{◌>>=◌, Symbols, value}
 use Rattle.chip_lang.specs.computed.Tokens.{tokens_of}
-use Rattle.chip_asm.specs.declared.table.Symbol.{Symbol}
-use Rattle.chip_asm.specs.Names.{Name, lookup_name, values_of}
+use Rattle.chip_symbols.specs.declared.table.Symbol.{Symbol}
+use Rattle.chip_symbols.specs.Names.{Name, lookup_name, values_of}
 use Rattle.chip_asm.specs.Program.{symbols_of}
 
 -- EQU, ORG and DS see the names of earlier lines alone

@@ -1,7 +1,7 @@
 //! The names of a source that help looks up.
 
 ghost use Rattle.std.specs.Prelude.{◌≡◌, ◌++◌, ◌∷◌, [], IfOk, OnOk};
-ghost use Rattle.chip_asm.specs.Names.{lookup_name, values_of};
+ghost use Rattle.chip_symbols.specs.Names.{lookup_name, values_of};
 ghost use Rattle.chip_asm.specs.Program.{symbols_of};
 ghost use Rattle.chip_check.specs.inner.Known.{Agree, listed};
 

@@ -9,7 +9,7 @@ ghost use Rattle.chip_lang.specs.Operand.{operand_of};
 ghost use Rattle.chip_lang.specs.SeenLine.{seen_line};
 ghost use Rattle.chip_lang.specs.Scan.{AreTokens};
 ghost use Rattle.chip_lang.specs.Tree.{tree_of};
-ghost use Rattle.chip_asm.specs.Names.{values_of};
+ghost use Rattle.chip_symbols.specs.Names.{values_of};
 ghost use Rattle.chip_asm.specs.Program.{symbols_of};
 ghost use Rattle.chip_check.specs.inner.Known.{Agree, listed};
 ghost use Rattle.chip_check.specs.Place.{sees_earlier, last_seen, is_unknown_name, is_unknown, first_unknown, undefined_place, is_out, number_in, first_data_out, first_out, out_operand, tokens_after, is_comma, operand_end, operand_span, out_of_range_place, place_in};

@@ -8,7 +8,7 @@ use Rattle.std.proofs.lemmas.List.Elements.{All-append}
 use Rattle.std.specs.declared.alloc.AllocError.{AllocError}
 use Rattle.chip_lang.specs.Line.{lexemes_of}
 use Rattle.chip_asm.specs.LineViews.{LineFacts, line_at, line_facts}
-use Rattle.chip_asm.specs.Names.{values_of}
+use Rattle.chip_symbols.specs.Names.{values_of}
 use Rattle.chip_asm.specs.Program.{symbols_of}
 use Rattle.chip_properties.specs.declared.fault.PropertyFault.{PropertyFault}
 use Rattle.chip_properties.specs.declared.properties.Properties.{Properties}

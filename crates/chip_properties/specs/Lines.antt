@@ -4,7 +4,7 @@ use Rattle.std.specs.List.{prefix_len}
 use Rattle.chip_lang.specs.Token.{is_blank}
 use Rattle.chip_lang.specs.Line.{lexemes_of}
 use Rattle.chip_asm.specs.LineViews.{LineFacts, line_at, line_facts}
-use Rattle.chip_asm.specs.Names.{values_of}
+use Rattle.chip_symbols.specs.Names.{values_of}
 use Rattle.chip_asm.specs.Program.{symbols_of}
 use Rattle.chip_properties.specs.declared.fault.PropertyFault.{PropertyFault}
 use Rattle.chip_properties.specs.declared.limits.TheConstants.{MOST_PROPERTIES}

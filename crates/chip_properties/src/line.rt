@@ -1,10 +1,9 @@
 //! Lines that state properties.
 
-ghost use Rattle.std.specs.Prelude.{◌≡◌, ◌≤◌, IfOk, IfSome, drop, length, option_map};
+ghost use Rattle.std.specs.Prelude.{◌≡◌, ◌≤◌, IfOk, IfSome, length};
 ghost use Rattle.std.specs.List.{prefix_len};
 ghost use Rattle.std.specs.Option.{option_copied};
 ghost use Rattle.chip_lang.specs.Token.{is_blank};
-ghost use Rattle.chip_lang.specs.Line.{lexemes_of};
 ghost use Rattle.chip_properties.specs.Lines.{mark_end, property_text_of, trimmed, words_in};
 
 use chip_lang::{Bytes, Lexeme, lexemes};

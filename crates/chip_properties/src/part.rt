@@ -1,6 +1,6 @@
 //! Some of the tokens of a property.
 
-ghost use Rattle.std.specs.Prelude.{◌≡◌, ◌≤◌, ◌<◌, ◌+◌, ◌∷◌, IfSome, drop, length, option_map, take};
+ghost use Rattle.std.specs.Prelude.{◌≡◌, ◌≤◌, ◌<◌, ◌+◌, IfSome, drop, length, option_map, take};
 ghost use Rattle.chip_properties.specs.computed.Separated.{before_first, from_first, after_first, enclosed};
 ghost use Rattle.chip_properties.specs.inner.Parts.{tokens_in};
 

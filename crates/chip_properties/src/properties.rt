@@ -3,7 +3,7 @@
 ghost use Rattle.std.specs.Prelude.{◌≡◌, ◌≤◌, ◌+◌, ◌-◌, IfErr, IfOk, IfSome, None, OnOk, Some, drop, false, length, nat_lt};
 ghost use Rattle.chip_lang.specs.Line.{lexemes_of};
 ghost use Rattle.chip_asm.specs.LineViews.{line_at};
-ghost use Rattle.chip_asm.specs.Names.{values_of};
+ghost use Rattle.chip_symbols.specs.Names.{values_of};
 ghost use Rattle.chip_asm.specs.Program.{symbols_of};
 ghost use Rattle.chip_properties.specs.Language.{IsProperty};
 ghost use Rattle.chip_properties.specs.declared.limits.TheConstants.{MOST_PROPERTIES};

@@ -6,7 +6,7 @@ use Rattle.std.specs.Fmt.{decimal, signed_decimal}
 use Rattle.chip_lang.specs.declared.limits.TheConstants.{MEMORY_BYTES}
 use Rattle.chip_lang.specs.declared.fault.Fault.{Fault}
 use Rattle.chip_lang.specs.FaultNumber.{number_of_fault}
-use Rattle.chip_asm.specs.declared.table.Symbol.{Symbol}
+use Rattle.chip_symbols.specs.declared.table.Symbol.{Symbol}
 use Rattle.chip_asm.specs.Program.{image_of, symbols_of, faults_of}
 use Rattle.chip_asm.specs.Listing.{listing_of}
 use Rattle.chip_machine.specs.State.{State}

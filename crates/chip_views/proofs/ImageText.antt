@@ -19,7 +19,7 @@ use Rattle.chip_lang.specs.Line.{Body, empty, equ, org, ds, db, dw, da, code, de
 use Rattle.chip_lang.specs.Code.{own_bytes, word_bytes}
 use Rattle.chip_lang.specs.Show.{show_of, four_hex_digits, two_hex_digits}
 use Rattle.chip_asm.specs.Lines.{is_long, fault_of_lines, open_fault}
-use Rattle.chip_asm.specs.Names.{values_of}
+use Rattle.chip_symbols.specs.Names.{values_of}
 use Rattle.chip_asm.specs.Layout.{Placed, is_align_body}
 use Rattle.chip_asm.specs.computed.Walk.{place, placed}
 use Rattle.chip_asm.specs.Program.{image_of}

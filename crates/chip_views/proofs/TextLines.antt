@@ -1,10 +1,11 @@
 -- The lines of a text that was put together from lines.
-use Rattle.std.proofs.Common.{◌≡◌, ℕ, ◌==◌, ◌-◌, ◌<◌, ◌≤◌, Bool, true, false, cond, List, [], ◌∷◌, ◌++◌, length, take, slice_index, refl, sym, ap, ◌∙◌, append_assoc, arith}
+use Rattle.std.proofs.Common.{◌≡◌, ℕ, ◌==◌, ◌-◌, ◌<◌, ◌≤◌, Bool, true, false, List, [], ◌∷◌, ◌++◌, length, take, slice_index, refl, sym, ap, ◌∙◌, append_assoc, arith}
 use Rattle.std.specs.Prelude.{nat_le, if◌then◌else◌}
-use Rattle.std.specs.List.{slice_split, onto_first, list_all}
+use Rattle.std.specs.List.{slice_split, list_all}
 use Rattle.std.specs.Str.Lines.{lines, lines_of_parts, strip_carriage_return}
 use Rattle.std.proofs.lemmas.Bool.{and_parts, leb-true}
 use Rattle.chip_views.specs.Dis.{is_visible, text_of_lines}
+use Rattle.chip_asm.proofs.CutSteps.{Filled, filled}
 
 abbrev is_end : ℕ → Bool
 is_end b = b == 10
@@ -31,24 +32,6 @@ split_at [] rest seen = refl
 split_at (b ∷ line) rest seen =
     let parts = and_parts (is_visible b) (list_all is_visible line) seen in
     rw (other_than b 10 (omega arith) parts.0, split_at line rest parts.1) refl
-
--- a list with an element
-record Filled (parts : List (List ℕ)) : Type 0 where
-  first : List ℕ
-  others : List (List ℕ)
-  is : parts ≡ first ∷ others
-
-filled_first : (c : ℕ) (parts : List (List ℕ)) → Filled (onto_first c parts)
-filled_first c [] = record { first = c ∷ []; others = []; is = refl }
-filled_first c (part ∷ parts) = record { first = c ∷ part; others = parts; is = refl }
-
-filled_cond : (b : Bool) (xs ys : List (List ℕ)) → Filled xs → Filled ys → Filled (cond b xs ys)
-filled_cond true xs ys f g = f
-filled_cond false xs ys f g = g
-
-filled : (bytes : List ℕ) → Filled (slice_split is_end bytes)
-filled [] = record { first = []; others = []; is = refl }
-filled (x ∷ xs) = filled_cond (is_end x) _ _ (record { first = []; others = slice_split is_end xs; is = refl }) (filled_first x (slice_split is_end xs))
 
 parts_next : (line : List ℕ) (parts : List (List ℕ)) → list_all is_visible line ≡ true → Filled parts → lines_of_parts (line ∷ parts) ≡ line ∷ lines_of_parts parts
 parts_next line parts seen f =

@@ -17,8 +17,8 @@ use Rattle.chip_lang.specs.Operand.{Operand}
 use Rattle.chip_lang.specs.Tree.{Tree}
 use Rattle.chip_lang.specs.Line.{Body, Reading, read, code, dw, db, align}
 use Rattle.chip_lang.specs.Code.{own_bytes}
-use Rattle.chip_asm.specs.declared.table.Symbol.{Symbol}
-use Rattle.chip_asm.specs.Names.{Name, values_of}
+use Rattle.chip_symbols.specs.declared.table.Symbol.{Symbol}
+use Rattle.chip_symbols.specs.Names.{Name, values_of}
 use Rattle.chip_asm.specs.Layout.{Placed, body_of, is_if, is_if_body, is_end_body, is_org_body, is_side_or_end, is_origin, is_align_body, symbol_of, has_ended, value_at, full_size}
 use Rattle.chip_asm.specs.computed.Walk.{symbols, with_between, encloses, enclosing, is_active, address, is_aligning, is_misplaced, fault_of_value, first_fault, place, placed}
 use Rattle.chip_asm.specs.Program.{covers, byte_at, bytes_in_code, fault_in_code, numbered_fault, fault_of, unless_faulty, bytes_of_lines, image_of_lines}

@@ -9,7 +9,7 @@ use Rattle.std.specs.List.{flat_map}
 use Rattle.chip_lang.specs.Show.{four_hex_digits}
 use Rattle.chip_asm.specs.LineViews.{line_facts}
 use Rattle.chip_asm.specs.Listing.{row_by}
-use Rattle.chip_asm.specs.declared.table.Symbol.{Symbol}
+use Rattle.chip_symbols.specs.declared.table.Symbol.{Symbol}
 
 -- a number of 32 bits: four digits after the sign for hexadecimal, or eight where it has more
 abbrev pub hex_number : ℕ → List ℕ

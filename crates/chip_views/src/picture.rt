@@ -1,7 +1,7 @@
 //! The screen as text.
 
 ghost use Rattle.std.specs.Prelude.{◌≡◌, ◌<◌, ◌++◌, ◌+◌, ◌*◌, IfOk, OnOk};
-ghost use Rattle.chip_views.specs.Picture.{width, lines_high, is_seen, cell, cell_at, picture_line, picture_of};
+ghost use Rattle.chip_views.specs.Picture.{is_seen, cell, cell_at, picture_line, picture_of};
 
 use chip_machine::Machine;
 use std::alloc::{AllocError, Global};

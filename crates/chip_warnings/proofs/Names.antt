@@ -7,7 +7,7 @@ use Rattle.std.proofs.lemmas.Grind.{flat_map-append}
 use Rattle.std.proofs.lemmas.List.{append-nil, take_more}
 use Rattle.std.proofs.lemmas.List.Folds.{list_any-append}
 use Rattle.indexmap.specs.IndexSet.{IndexSet}
-use Rattle.chip_asm.specs.declared.name_hasher.NameHasher.{NameHasher}
+use Rattle.chip_symbols.specs.declared.name_hasher.NameHasher.{NameHasher}
 use Rattle.chip_warnings.specs.Seen.{names_of_line}
 use Rattle.chip_warnings.specs.inner.Noted.{Knows}
 use Rattle.chip_warnings.proofs.Lines.{take-next}

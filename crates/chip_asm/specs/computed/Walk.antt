@@ -7,9 +7,9 @@ use Rattle.chip_lang.specs.declared.limits.TheConstants.{IMAGE_START}
 use Rattle.chip_lang.specs.declared.fault.Fault.{Fault}
 use Rattle.chip_lang.specs.declared.fault.Fault.TheVariants.{DefinedTwice, OutOfRange, OrgBelowHere, PastMemory, StrayBranch}
 use Rattle.chip_lang.specs.Line.{Body, else_line, endif, Reading, bad, read}
-use Rattle.chip_asm.specs.Layout.{Placed, body_of, is_if, is_endif, first_of, has_else, holds, has_ended, is_side_or_end, is_origin, is_align, is_align_off_body, condition_of, value_at, value_or_zero, full_size, is_redefinition, is_negative_space, is_backwards, is_past_end, symbol_of}
-use Rattle.chip_asm.specs.declared.table.Symbol.{Symbol}
-use Rattle.chip_asm.specs.Names.{Name}
+use Rattle.chip_asm.specs.Layout.{Placed, body_of, is_if, is_endif, first_of, has_else, holds, has_ended, is_side_or_end, is_origin, is_align, is_align_off_body, condition_of, value_at, value_or_zero, full_size, is_negative_space, is_backwards, is_past_end, symbol_of}
+use Rattle.chip_symbols.specs.declared.table.Symbol.{Symbol}
+use Rattle.chip_symbols.specs.Names.{Name, is_redefinition}
 
 -- the names given by the lines so far, in line order
 unfoldable pub symbols : List Placed → List (Name × Symbol)

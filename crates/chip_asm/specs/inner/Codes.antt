@@ -4,7 +4,7 @@ use Rattle.chip_lang.specs.declared.fault.Fault.{Fault}
 use Rattle.chip_lang.specs.declared.limits.TheConstants.{IMAGE_BYTES, IMAGE_START}
 use Rattle.chip_lang.specs.Line.{Reading}
 use Rattle.chip_asm.specs.declared.placement.Placement.{Placement}
-use Rattle.chip_asm.specs.declared.table.Table.{Table}
+use Rattle.chip_symbols.specs.declared.table.Table.{Table}
 use Rattle.chip_asm.specs.Layout.{body_of}
 use Rattle.chip_asm.specs.inner.KeptLine.{KeptLine}
 use Rattle.chip_asm.specs.inner.Placements.{is_accepted}

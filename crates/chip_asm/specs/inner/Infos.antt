@@ -3,7 +3,7 @@
 use Rattle.std.specs.Prelude.{◌≡◌, ℕ, pos, length, slice_get, Bool, true, false, not, if◌then◌else◌, ◌&&◌, List, [], ◌∷◌, All, Option, Some, None, ◌<◌, slice_index_or, ⊤}
 use Rattle.chip_lang.specs.Line.{Body, empty, code, options, used, xref, Reading, bad, read, db, dw, da}
 use Rattle.chip_lang.specs.Uses.{names_used, name_defined}
-use Rattle.chip_asm.specs.Names.{Name}
+use Rattle.chip_symbols.specs.Names.{Name}
 use Rattle.chip_asm.specs.inner.KeptLine.{KeptLine}
 use Rattle.chip_asm.specs.declared.line_info.LineInfo.{LineInfo}
 use Rattle.chip_asm.specs.declared.line_info.Numbered.{Numbered}
@@ -11,9 +11,9 @@ use Rattle.chip_asm.specs.declared.line_info.Space.{Space}
 use Rattle.chip_asm.specs.declared.line_info.Space.TheVariants.{Short, Data, Asked}
 use Rattle.chip_asm.specs.declared.line_info.Uses.{Uses}
 use Rattle.chip_asm.specs.declared.line_info.Uses.TheVariants.{Nothing, One, Several}
-use Rattle.chip_asm.specs.declared.table.NameId.{NameId}
+use Rattle.chip_symbols.specs.declared.table.NameId.{NameId}
 use Rattle.chip_asm.specs.inner.Records.{reading_in}
-use Rattle.chip_asm.specs.inner.Tables.{AreNumbers, IsNumber}
+use Rattle.chip_symbols.specs.Tables.{AreNumbers, IsNumber}
 use Rattle.chip_asm.specs.Layout.{body_of, full_size, is_padded, own_size, is_if_body, is_end_body, is_align_body}
 
 -- all that the first pass asks of the statement is its size

@@ -4,7 +4,7 @@ use Rattle.chip_asm.specs.declared.limits.TheConstants.{MOST_LINES}
 use Rattle.chip_lang.specs.Line.{Reading, reading_of}
 use Rattle.chip_asm.specs.declared.edit.Edit.{Edit}
 use Rattle.chip_asm.specs.declared.kept.Kept.{Kept}
-use Rattle.chip_asm.specs.Names.{values_of}
+use Rattle.chip_symbols.specs.Names.{values_of}
 use Rattle.chip_asm.specs.Program.{names_of_lines}
 use Rattle.chip_asm.specs.Work.{needs_count}
 use Rattle.chip_lang.specs.declared.limits.TheConstants.{IMAGE_BYTES, IMAGE_START}

@@ -2,11 +2,11 @@
 use Rattle.std.specs.Prelude.{ℕ, List, ◌≡◌, ◌+◌, ◌≤◌, [], ℤ, IfSome, Ok, Option, length}
 use Rattle.chip_lang.specs.declared.line.Line.{Line}
 use Rattle.chip_asm.specs.declared.line_info.LineInfo.{LineInfo}
-use Rattle.chip_asm.specs.declared.table.NameId.{NameId}
+use Rattle.chip_symbols.specs.declared.table.NameId.{NameId}
 use Rattle.chip_lang.specs.Line.{Reading}
-use Rattle.chip_asm.specs.declared.table.Symbol.{Symbol}
+use Rattle.chip_symbols.specs.declared.table.Symbol.{Symbol}
 use Rattle.chip_asm.specs.Layout.{body_of, value_at}
-use Rattle.chip_asm.specs.Names.{Name}
+use Rattle.chip_symbols.specs.Names.{Name}
 use Rattle.chip_asm.specs.declared.kept_line.HeldLine.{HeldLine}
 use Rattle.chip_asm.specs.declared.kept_line.HeldLine.TheVariants.{Nothing, Boxed}
 use Rattle.chip_asm.specs.inner.HeldText.{SaysNothing, part_from}

@@ -12,7 +12,7 @@ use Rattle.chip_asm.specs.declared.placement.Placement.{Placement}
 use Rattle.chip_asm.specs.declared.placement.Status.{Status}
 use Rattle.chip_asm.specs.declared.placement.Status.TheVariants.{Pending}
 use Rattle.chip_asm.specs.Layout.{Placed, body_of, takes_effect}
-use Rattle.chip_asm.specs.Names.{Name, values_of}
+use Rattle.chip_symbols.specs.Names.{Name, values_of}
 use Rattle.chip_asm.specs.Program.{bytes_in_code, code_under, code_with, fault_in_code, names_of_lines}
 use Rattle.chip_asm.specs.Work.{is_accepted_at, is_accepted_in, needs}
 use Rattle.chip_asm.specs.computed.Walk.{placed}
@@ -20,7 +20,7 @@ use Rattle.chip_asm.specs.inner.Infos.{AreInfos, has_code}
 use Rattle.chip_asm.specs.inner.KeptLine.{KeptLine}
 use Rattle.chip_asm.specs.inner.Placements.{placements_of, IsWalked, count_of, found, is_accepted, is_pending, status_coded}
 use Rattle.chip_asm.specs.inner.Records.{readings_in}
-use Rattle.chip_asm.specs.inner.Tables.{Tables}
+use Rattle.chip_symbols.specs.Tables.{Tables}
 use Rattle.std.specs.List.{enumerate_from}
 
 -- an edit: the lines before and after it, where the line at a place stood, and the names that have

@@ -1,8 +1,8 @@
 -- What help knows of the names of a source.
 use Rattle.std.specs.Prelude.{◌≡◌, ℕ, List, map}
 use Rattle.std.specs.Global.{Vec}
-use Rattle.chip_asm.specs.declared.table.Symbol.{Symbol}
-use Rattle.chip_asm.specs.Names.{Name, lookup_name}
+use Rattle.chip_symbols.specs.declared.table.Symbol.{Symbol}
+use Rattle.chip_symbols.specs.Names.{Name, lookup_name}
 
 -- the entries of a map, as names with their symbols
 abbrev pub listed : List (Vec ℕ × Symbol) → List (Name × Symbol)

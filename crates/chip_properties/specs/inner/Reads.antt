@@ -1,7 +1,7 @@
 -- What is read of tokens (own).
 use Rattle.std.specs.Prelude.{◌≡◌, ◌⊎◌, Option, Some, None, Result, Ok, Err}
 use Rattle.chip_lang.specs.Value.{Symbols}
-use Rattle.chip_asm.specs.Names.{values_of}
+use Rattle.chip_symbols.specs.Names.{values_of}
 use Rattle.chip_asm.specs.Program.{symbols_of}
 use Rattle.chip_properties.specs.declared.fault.Failure.{Failure}
 use Rattle.chip_properties.specs.declared.fault.Failure.TheVariants.{OutOfMemory}

@@ -4,7 +4,7 @@ use Rattle.std.specs.List.{list_any}
 use Rattle.std.specs.Global.{Vec}
 use Rattle.std.specs.Str.{bytes_eq}
 use Rattle.indexmap.specs.IndexSet.{IndexSet}
-use Rattle.chip_asm.specs.declared.name_hasher.NameHasher.{NameHasher}
+use Rattle.chip_symbols.specs.declared.name_hasher.NameHasher.{NameHasher}
 use Rattle.chip_warnings.specs.declared.marks.Marks.{Marks}
 use Rattle.chip_warnings.specs.Marked.{Marked}
 

@@ -1,7 +1,7 @@
 use Rattle.std.proofs.Common.{◌-◌, ◌≤◌}
 use Rattle.chip_asm.specs.inner.Infos.{AreInfos}
 use Rattle.chip_asm.specs.inner.Passes.{AreSettled}
-use Rattle.chip_asm.specs.inner.Tables.{AreDifferences, Tables}
+use Rattle.chip_symbols.specs.Tables.{AreDifferences, Tables}
 use Rattle.chip_asm.proofs.assemble.next_unsettled.Given as goal
 
 abbrev pub invariant-loop-place : goal.invariant-loop-place

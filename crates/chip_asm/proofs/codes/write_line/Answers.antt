@@ -4,7 +4,7 @@ use Rattle.chip_lang.specs.Code.{bytes_coded, code_of, coded}
 use Rattle.chip_lang.specs.SeenLine.{seen_line}
 use Rattle.chip_lang.specs.declared.limits.TheConstants.{IMAGE_START}
 use Rattle.chip_asm.specs.Layout.{body_of}
-use Rattle.chip_asm.specs.Names.{values_of}
+use Rattle.chip_symbols.specs.Names.{values_of}
 use Rattle.chip_asm.specs.Program.{bytes_in_code, fault_in_code}
 use Rattle.chip_asm.specs.inner.Codes.{code_kept, kept_bytes}
 use Rattle.chip_asm.specs.inner.Infos.{has_code}
@@ -19,10 +19,10 @@ returns-then-info-clause-written c =
     let kept = c.args.kept.now in
     let names = c.args.names.now in
     let has : has_code (body_of (reading_in kept)) ≡ true = sym c.requires.info.coded ∙ ap (λ i. i.is_coded) (sym c.info.ensures) ∙ c.if-info.true in
-    let is : code_of (seen_line c.line.result.now) (values_of c.new-scope.result.table.now.symbols) ≡ coded (code_kept names kept)
-    = ap (λ line. code_of (seen_line line) (values_of c.new-scope.result.table.now.symbols)) c.line.ensures ∙ ap (λ t. code_of (reading_in kept) (values_of t.symbols)) c.new-scope.ensures
+    let is : code_of (seen_line c.line.result.now) (values_of c.new-scope.result.symbols) ≡ coded (code_kept names kept)
+    = ap (λ line. code_of (seen_line line) (values_of c.new-scope.result.symbols)) c.line.ensures ∙ ap (λ t. code_of (reading_in kept) (values_of t.symbols)) c.new-scope.ensures
     ∙ code-read (reading_in kept) (values_of names.symbols) has in
-    let bytes : bytes_coded (code_of (seen_line c.line.result.now) (values_of c.new-scope.result.table.now.symbols)) ≡ kept_bytes names kept q
+    let bytes : bytes_coded (code_of (seen_line c.line.result.now) (values_of c.new-scope.result.symbols)) ≡ kept_bytes names kept q
     = ap bytes_coded is ∙ bytes-coded (code_kept names kept) ∙ sym (ap (λ b. cond b (bytes_in_code (code_kept names kept)) []) (sym c.is_accepted.ensures ∙ c.if-is_accepted.true)) in
     let long : length (take (c.places_of.result.end - c.places_of.result.start) (drop c.places_of.result.start c.args.image.now)) ≡ q.size
     = omega (arith, length-take (c.places_of.result.end - c.places_of.result.start) (drop c.places_of.result.start c.args.image.now), length-drop c.places_of.result.start c.args.image.now) in

@@ -1,8 +1,8 @@
 use Rattle.std.proofs.Common.{◌≡◌, ◌∙◌, ◌++◌, ◌∷◌, [], List, ap, sym, subst, refl, None, Some, slice_get, drop}
 use Rattle.std.proofs.lemmas.List.{append-nil, append_assoc}
-use Rattle.chip_asm.specs.Names.{Name}
-use Rattle.chip_asm.specs.declared.table.NameId.{NameId}
-use Rattle.chip_asm.specs.inner.Tables.{AreNumbers}
+use Rattle.chip_symbols.specs.Names.{Name}
+use Rattle.chip_symbols.specs.declared.table.NameId.{NameId}
+use Rattle.chip_symbols.specs.Tables.{AreNumbers}
 use Rattle.chip_asm.proofs.InfoSteps.{extends-through, numbers-push}
 use Rattle.chip_asm.proofs.line_info.push_numbers.Goals as goal
 

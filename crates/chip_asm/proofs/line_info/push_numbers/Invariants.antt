@@ -1,6 +1,6 @@
 use Rattle.std.proofs.Common.{◌≡◌, ◌++◌, List, length}
-use Rattle.chip_asm.specs.Names.{Name}
-use Rattle.chip_asm.specs.inner.Tables.{AreNumbers, Extends}
+use Rattle.chip_symbols.specs.Names.{Name}
+use Rattle.chip_symbols.specs.Tables.{AreNumbers, Extends}
 use Rattle.chip_asm.proofs.line_info.push_numbers.Given as goal
 
 abbrev pub invariant-loop-name : goal.invariant-loop-name

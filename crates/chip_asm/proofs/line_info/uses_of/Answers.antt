@@ -3,9 +3,9 @@ use Rattle.std.specs.Borrow.{Bor}
 use Rattle.std.proofs.lemmas.List.Elements.{All-cons, All-nil}
 use Rattle.chip_lang.specs.SeenLine.{seen_line}
 use Rattle.chip_lang.specs.Uses.{names_used}
-use Rattle.chip_asm.specs.Names.{Name}
-use Rattle.chip_asm.specs.inner.Tables.{AreNumbers, IsNumber}
-use Rattle.chip_asm.specs.declared.table.NameId.{NameId}
+use Rattle.chip_symbols.specs.Names.{Name}
+use Rattle.chip_symbols.specs.Tables.{AreNumbers, IsNumber}
+use Rattle.chip_symbols.specs.declared.table.NameId.{NameId}
 use Rattle.chip_asm.proofs.InfoSteps.{no-numbers}
 use Rattle.chip_asm.proofs.line_info.uses_of.Goals as goal
 

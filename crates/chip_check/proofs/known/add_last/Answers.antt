@@ -4,8 +4,8 @@ use Rattle.std.specs.Map.{lookup}
 use Rattle.std.specs.Str.{bytes_eq}
 use Rattle.std.proofs.lemmas.List.{map-append}
 use Rattle.indexmap.proofs.CallerLemmas.{insert_entry-new}
-use Rattle.chip_asm.specs.declared.table.Symbol.{Symbol}
-use Rattle.chip_asm.specs.Names.{lookup_name}
+use Rattle.chip_symbols.specs.declared.table.Symbol.{Symbol}
+use Rattle.chip_symbols.specs.Names.{lookup_name}
 use Rattle.chip_check.specs.inner.Known.{listed}
 use Rattle.chip_check.proofs.KnownNames.{agree-known, lookup-listed}
 use Rattle.chip_check.proofs.known.add_last.Goals as goal

@@ -1,6 +1,6 @@
 use Rattle.std.proofs.Common.{◌∙◌, ◌++◌, ◌∷◌, [], ap, sym, arith, take}
 use Rattle.std.proofs.lemmas.List.{take_more}
-use Rattle.chip_asm.specs.Names.{lookup_name}
+use Rattle.chip_symbols.specs.Names.{lookup_name}
 use Rattle.chip_check.specs.inner.Known.{listed}
 use Rattle.chip_check.proofs.KnownNames.{agree-behind}
 use Rattle.chip_check.proofs.known.by_name.Goals as goal

@@ -2,7 +2,7 @@ use Rattle.std.proofs.Common.{◌≡◌, ◌∙◌, ap, sym, subst}
 use Rattle.std.specs.Prelude.{IfOk}
 use Rattle.chip_lang.specs.FaultPlace.{span_of_fault}
 use Rattle.chip_lang.specs.declared.fault.Fault.{Fault}
-use Rattle.chip_asm.specs.Names.{values_of}
+use Rattle.chip_symbols.specs.Names.{values_of}
 use Rattle.chip_asm.specs.Program.{symbols_of}
 use Rattle.chip_check.specs.Place.{out_of_range_place, place_in}
 use Rattle.chip_check.specs.inner.Known.{listed}

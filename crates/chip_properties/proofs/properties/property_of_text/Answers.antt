@@ -1,5 +1,5 @@
 use Rattle.chip_lang.specs.Line.{lexemes_of}
-use Rattle.chip_asm.specs.Names.{values_of}
+use Rattle.chip_symbols.specs.Names.{values_of}
 use Rattle.chip_asm.specs.Program.{symbols_of}
 use Rattle.chip_properties.proofs.SoundProperties.{kind_kept, text_states}
 use Rattle.chip_properties.proofs.CompleteProperties.{text_refused}

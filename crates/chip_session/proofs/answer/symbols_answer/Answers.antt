@@ -4,7 +4,7 @@ use Rattle.std.proofs.lemmas.Grind.{flat_map-append}
 use Rattle.std.proofs.lemmas.List.{append-nil, take_more}
 use Rattle.std.proofs.lemmas.List.Concat.{flat_map-cons}
 use Rattle.std.proofs.lemmas.Option.{get_or_from_slice_get, slice_get_within}
-use Rattle.chip_asm.specs.declared.table.Symbol.{Symbol}
+use Rattle.chip_symbols.specs.declared.table.Symbol.{Symbol}
 use Rattle.chip_asm.specs.Program.{symbols_of}
 use Rattle.chip_session.specs.Answers.{symbol_line}
 use Rattle.chip_session.proofs.answer.symbols_answer.Goals as goal

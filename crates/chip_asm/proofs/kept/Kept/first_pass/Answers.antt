@@ -3,7 +3,7 @@ use Rattle.std.specs.Global.{Vec}
 use Rattle.chip_asm.specs.declared.block.Block.{Block}
 use Rattle.chip_asm.specs.inner.Kept.{IsExchanged}
 use Rattle.chip_asm.specs.inner.Passes.{Change, IsUnderWay}
-use Rattle.chip_asm.specs.inner.Tables.{Tables}
+use Rattle.chip_symbols.specs.Tables.{Tables}
 use Rattle.chip_asm.proofs.PassSteps.{begun-way}
 use Rattle.chip_asm.proofs.Resumed.{end-high, end-low}
 use Rattle.chip_asm.proofs.LinesByPlace.{refilled}

@@ -1,6 +1,6 @@
 use Rattle.std.proofs.Common.{◌≡◌, ℕ, ◌≤◌, ◌∙◌, Global, List, Vec, ap, arith, get_or, length, subst, take, vec_capacity, vec_len}
 use Rattle.std.proofs.lemmas.List.{length-map}
-use Rattle.chip_asm.specs.Names.{values_of}
+use Rattle.chip_symbols.specs.Names.{values_of}
 use Rattle.chip_asm.specs.computed.Walk.{address, placed}
 use Rattle.chip_asm.specs.declared.block.Block.{Block}
 use Rattle.chip_asm.specs.declared.kept.Kept.{Kept}
@@ -11,7 +11,7 @@ use Rattle.chip_asm.specs.inner.Passes.{Change}
 use Rattle.chip_asm.specs.inner.Placements.{nothing}
 use Rattle.chip_asm.specs.inner.Records.{IsPlaceWithin, count_after, items_after, lines_after, reading_in, readings_in, first_changed}
 use Rattle.chip_asm.specs.inner.Infos.{AreSteady}
-use Rattle.chip_asm.specs.inner.Tables.{Tables}
+use Rattle.chip_symbols.specs.Tables.{Tables}
 use Rattle.chip_asm.proofs.KeptSteps.{exchanged, placed-many, begun-kept, kept-edited, within-lines}
 use Rattle.chip_asm.proofs.Resumed.{Begun}
 use Rattle.chip_asm.proofs.LinesAfter.{edited-items}

@@ -2,11 +2,11 @@ use Rattle.std.proofs.Common.{◌≡◌, ◌∙◌, ℤ, Bool, List, Option, ap,
 use Rattle.chip_lang.specs.SeenLine.{seen_body}
 use Rattle.chip_lang.specs.Value.{value_of_name}
 use Rattle.chip_asm.specs.Layout.{condition_of}
-use Rattle.chip_asm.specs.Names.{Name, lookup_name, values_of}
-use Rattle.chip_asm.specs.declared.table.Symbol.{Symbol}
-use Rattle.chip_asm.specs.inner.Tables.{Tables}
-use Rattle.chip_asm.proofs.NameValues.{value-of-name}
-use Rattle.chip_asm.proofs.SymbolSteps.{valued-given}
+use Rattle.chip_symbols.specs.Names.{Name, lookup_name, values_of}
+use Rattle.chip_symbols.specs.declared.table.Symbol.{Symbol}
+use Rattle.chip_symbols.specs.Tables.{Tables}
+use Rattle.chip_symbols.proofs.NameValues.{value-of-name}
+use Rattle.chip_symbols.proofs.SymbolSteps.{valued-given}
 use Rattle.chip_asm.proofs.pass.Pass.condition.Goals as goal
 
 given : (names : List (Name × Symbol)) (name : Name) (x : Option ℤ) → x ≡ value_of_name (values_of names) name → is_some x ≡ is_some (lookup_name names name)

@@ -1,11 +1,10 @@
 use Rattle.std.proofs.Common.{◌≡◌, rules, ◌<◌, vec_len, ◌∙◌, ◌-◌, ap, sym, arith, length, remove}
-use Rattle.indexmap.proofs.SetLemmas.{map-remove}
 use Rattle.chip_asm.specs.Edits.{delete_refusal}
 use Rattle.chip_asm.specs.declared.edit.Edit.TheVariants.{Delete}
 use Rattle.chip_asm.specs.inner.Kept.{MayEdit}
 use Rattle.chip_asm.specs.inner.KeptLine.{KeptLine}
 use Rattle.chip_asm.specs.inner.Records.{texts_in}
-use Rattle.chip_asm.proofs.KeptSteps.{count-texts, may-edit, needs-edit}
+use Rattle.chip_asm.proofs.KeptSteps.{count-texts, map-remove, may-edit, needs-edit}
 use Rattle.chip_asm.proofs.source.Source.delete.Goals as goal
 use Rattle.chip_asm.proofs.source.Source.delete.Goals.{In_default}
 

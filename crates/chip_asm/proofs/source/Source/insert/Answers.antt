@@ -1,12 +1,11 @@
 use Rattle.std.proofs.Common.{◌≡◌, rules, refl, ◌≤◌, vec_len, ◌∙◌, ◌-◌, ap, sym, arith, length, insert}
-use Rattle.indexmap.proofs.SetLemmas.{map-insert}
 use Rattle.chip_lang.specs.Line.{reading_of}
 use Rattle.chip_asm.specs.Edits.{insert_refusal}
 use Rattle.chip_asm.specs.declared.edit.Edit.TheVariants.{Insert}
 use Rattle.chip_asm.specs.inner.Kept.{MayEdit}
 use Rattle.chip_asm.specs.inner.KeptLine.{KeptLine}
 use Rattle.chip_asm.specs.inner.Records.{texts_in}
-use Rattle.chip_asm.proofs.KeptSteps.{count-texts, has-room, may-edit, needs-edit, kept-same}
+use Rattle.chip_asm.proofs.KeptSteps.{count-texts, has-room, kept-same, map-insert, may-edit, needs-edit}
 use Rattle.chip_asm.proofs.source.Source.insert.Goals as goal
 use Rattle.chip_asm.proofs.source.Source.insert.Goals.{In_ok-added}
 

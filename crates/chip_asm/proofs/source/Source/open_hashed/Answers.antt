@@ -1,7 +1,7 @@
 use Rattle.std.proofs.Common.{◌≡◌, arith, ap, length, subst, sym, []}
 use Rattle.chip_asm.specs.declared.edit.Edit.TheVariants.{Open}
 use Rattle.chip_asm.specs.inner.Infos.{AreInfos}
-use Rattle.chip_asm.specs.inner.Tables.{Tables}
+use Rattle.chip_symbols.specs.Tables.{Tables}
 use Rattle.chip_asm.specs.inner.Records.{place_before, readings_in, texts_in}
 use Rattle.chip_asm.proofs.Views.{accepted-view, count-accepted}
 use Rattle.chip_asm.proofs.source.Source.open_hashed.Goals as goal

@@ -1,6 +1,6 @@
 use Rattle.std.proofs.Common.{◌∙◌, ap, map}
 use Rattle.chip_lang.specs.Line.{upper}
-use Rattle.chip_asm.specs.Names.{lookup_name}
+use Rattle.chip_symbols.specs.Names.{lookup_name}
 use Rattle.chip_asm.proofs.Views.{symbols-view}
 use Rattle.chip_asm.proofs.source.Source.symbol.Goals as goal
 

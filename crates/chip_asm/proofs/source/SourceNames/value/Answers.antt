@@ -1,6 +1,6 @@
 use Rattle.std.proofs.Common.{◌∙◌, ap}
 use Rattle.chip_lang.specs.Value.{value_of_name}
-use Rattle.chip_asm.specs.Names.{values_of}
+use Rattle.chip_symbols.specs.Names.{values_of}
 use Rattle.chip_asm.proofs.Views.{symbols-view}
 use Rattle.chip_asm.proofs.source.SourceNames.value.Goals as goal
 

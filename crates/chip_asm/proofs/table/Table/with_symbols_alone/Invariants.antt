@@ -1,5 +1,0 @@
-use Rattle.std.proofs.Common.{◌≡◌, take}
-use Rattle.chip_asm.proofs.table.Table.with_symbols_alone.Given as goal
-
-abbrev pub invariant-loop-entry : goal.invariant-loop-entry
-invariant-loop-entry l = l.table.symbols ≡ take l.entry-index l.self.symbols

@@ -1,0 +1,3 @@
+pub mod SymbolSteps
+pub mod NameValues
+pub mod ValueSteps

@@ -1,0 +1,9 @@
+//! The symbols of a source: names, each with a number and a value, kept under edits.
+#![tactic(auto)]
+
+mod name_hasher;
+mod table;
+mod values;
+
+pub use name_hasher::NameHasher;
+pub use table::{NameId, Scope, Symbol, Table};

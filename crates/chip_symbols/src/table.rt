@@ -1,0 +1,416 @@
+//! The symbols of a source.
+ghost use Rattle.std.specs.Prelude.{◌≡◌, ◌+◌, ◌++◌, [], ◌∷◌, ◌<◌, ◌≤◌, All, List, true, false, not, OnOk, OnErr, IfOk, IfSome, None, Some, Option, is_some, length, map, option_map, slice_get, vec_capacity};
+ghost use Rattle.std.specs.List.{list_all};
+ghost use Rattle.std.specs.Str.{bytes_eq};
+ghost use Rattle.chip_lang.specs.Line.{upper};
+ghost use Rattle.chip_lang.specs.Uses.{has_same_value};
+ghost use Rattle.chip_symbols.specs.Names.{Name, lookup_name, values_of, is_redefinition};
+ghost use Rattle.chip_symbols.specs.Tables.{AreDifferences, AreOver, AreUpTo, Extends, IsNumber, KeepsBefore, key_at, name_of, names_at, symbols_of, value_among};
+ghost use Rattle.chip_symbols.specs.inner.Entries.{AreApart, AreDefined, EndsBy, IsFront, IsPastNext};
+
+use crate::name_hasher::NameHasher;
+use crate::values::Values;
+use chip_lang::short_bytes::upper;
+use chip_lang::{Bytes, Names};
+use indexmap::IndexSet;
+use std::alloc::{AllocError, Global};
+use std::cell::Cell;
+use std::marker::Model;
+
+/// The value of a name, and the number of the line that gives it.
+#[derive(Clone, Copy, Debug, PartialEq, Eq)]
+pub struct Symbol {
+    /// The value of the name.
+    pub value: i32,
+    /// The number of the line, counted from 1.
+    pub line: usize,
+}
+
+/// The number of a name, which it keeps as long as there is the table.
+#[derive(Clone, Copy, PartialEq, Eq)]
+pub struct NameId {
+    /// It counts from 0.
+    pub number: u32,
+}
+
+/// A name that a line gives, with what it means.
+#[derive(Clone, Copy)]
+pub(crate) struct Entry {
+    pub(crate) id: NameId,
+    pub(crate) symbol: Symbol,
+}
+
+/// Takes back the entries of the lines past a number, and the values of their names.
+fn take_back(entries: &mut Vec<Entry>, values: &mut Values, number: usize)
+    requires { All (λ e. e.id.number < length values.old.current) entries.old.items }
+    ensures defined { (keys : List Name) → AreApart keys
+        → AreDefined keys entries.old.items values.old.current
+        → AreDefined keys entries.new.items values.new.current }
+    ensures past { values.new.past ≡ values.old.past }
+    ensures room { vec_capacity entries.new ≡ vec_capacity entries.old }
+    ensures front { IsFront entries.new.items entries.old.items }
+    ensures ends { EndsBy number entries.new.items }
+    ensures stops { IsPastNext number entries.new.items entries.old.items }
+{
+    while let Some(entry) = entries.last() {
+        if entry.symbol.line <= number {
+            break;
+        }
+        let index = entry.id.number as usize;
+        values.set(index, None);
+        entries.pop();
+    }
+}
+
+/// The table of symbols. Names are in upper case. Each has a number as soon as a line uses or
+/// defines it, which stays. The symbols stand in line order, and the value of each name at its
+/// number.
+#[derive(Drop)]
+pub struct Table {
+    keys: IndexSet<Vec<u8>, NameHasher>,
+    hasher: NameHasher,
+    entries: Vec<Entry>,
+    values: Values,
+}
+
+impl Model for Table {
+    ghost use Rattle.std.specs.Prelude.{length, map, vec_capacity, ◌≡◌};
+    ghost use Rattle.std.specs.FinMap.{from_entries};
+    ghost use Rattle.chip_symbols.specs.Tables.{Tables, tables_code};
+    ghost use Rattle.chip_symbols.specs.inner.Entries.{AreApart, AreDefined, symbols_in, valued_in};
+
+    ghost Value = { Tables };
+
+    ghost coded = { tables_code };
+
+    ghost view = { λ t. record {
+      keys = map (λ k. k.items) t.keys.keys;
+      symbols = symbols_in (map (λ k. k.items) t.keys.keys) t.entries.items;
+      before = from_entries (valued_in (map (λ k. k.items) t.keys.keys) t.values.past);
+      room = vec_capacity t.entries;
+    } };
+
+    ghost invariant = { λ t. AreApart (map (λ k. k.items) t.keys.keys)
+        × (AreDefined (map (λ k. k.items) t.keys.keys) t.entries.items t.values.current
+        × (length t.values.past ≡ length t.values.current)) };
+}
+
+impl Table {
+    ghost use Rattle.chip_symbols.specs.declared.table.Symbol.{Symbol};
+
+    /// One without names, which are hashed so.
+    pub fn new(alloc: Global, hasher: NameHasher) -> Self
+        ensures keys { result.keys ≡ [] }
+        ensures symbols { result.symbols ≡ [] }
+    {
+        Table {
+            keys: IndexSet::with_hasher(alloc, hasher),
+            hasher,
+            entries: Vec::new(alloc),
+            values: Values::new(alloc),
+        }
+    }
+
+    /// The number of a name, which is a new one where the name has none.
+    pub fn number(&mut self, alloc: Global, name: &[u8]) -> Result<NameId, AllocError>
+        ensures keys { Extends self.old.keys self.new.keys }
+        ensures symbols { self.new.symbols ≡ self.old.symbols }
+        ensures before { self.new.before ≡ self.old.before }
+        ensures id { IfOk result (λ id. IsNumber self.new.keys id name.now) }
+    {
+        let index = match self.keys.get_index_of(name) {
+            Some(index) => index,
+            None => self.add(alloc, name)?,
+        };
+        match u32::try_from(index) {
+            Ok(number) => Ok(NameId { number }),
+            Err(_) => Err(AllocError),
+        }
+    }
+
+    /// Adds a name that isn't there.
+    fn add(&mut self, alloc: Global, name: &[u8]) -> Result<usize, AllocError>
+        ensures keys { Extends self.old.keys self.new.keys }
+        ensures symbols { self.new.symbols ≡ self.old.symbols }
+        ensures before { self.new.before ≡ self.old.before }
+        ensures within { IfOk result (λ index. index < length self.new.keys) }
+        ensures named { IfOk result (λ index. key_at self.new.keys index ≡ name.now) }
+    {
+        let key = Vec::from_slice(alloc, name)?;
+        self.values.reserve()?;
+        let (index, is_new) = self.keys.insert_full(key)?;
+        if is_new {
+            self.values.add();
+        }
+        Ok(index)
+    }
+
+    /// Takes room for the symbols of so many lines more.
+    fn reserve(&mut self, lines: usize) -> Result<(), AllocError>
+        ensures keys { self.new.keys ≡ self.old.keys }
+        ensures symbols { self.new.symbols ≡ self.old.symbols }
+        ensures before { self.new.before ≡ self.old.before }
+        ensures room { OnOk result (length self.new.symbols + lines ≤ self.new.room) }
+    {
+        self.entries.reserve(lines)
+    }
+
+    /// Begins an edit before which the lines up to a number stay: the symbols are theirs, with room
+    /// for those of so many lines, and the values before the edit are kept apart.
+    pub fn begin(&mut self, number: usize, lines: usize) -> Result<(), AllocError>
+        ensures room { OnOk result (length self.new.symbols + lines ≤ self.new.room) }
+        ensures keys { self.new.keys ≡ self.old.keys }
+        ensures before { OnOk result (self.new.before ≡ values_of self.old.symbols) }
+        ensures symbols { OnOk result ((early later : List (Name × Symbol))
+            → self.old.symbols ≡ early ++ later → AreUpTo number early → AreOver number later
+            → self.new.symbols ≡ early) }
+        ensures same { OnErr result (self.new.symbols ≡ self.old.symbols) }
+    {
+        self.reserve(lines)?;
+        self.values.settle();
+        take_back(&mut self.entries, &mut self.values, number);
+        Ok(())
+    }
+
+    /// Whether the name of a number has a symbol.
+    pub fn is_defined(&self, id: NameId) -> bool
+        requires { id.number < length self.now.keys }
+        ensures { result
+            ≡ is_some (lookup_name self.now.symbols (key_at self.now.keys id.number)) }
+    {
+        self.values.get(id.number as usize).is_some()
+    }
+
+    /// Whether a name may have another value, or none, than before the edit.
+    pub fn has_differences(&self) -> bool
+        ensures { result ≡ false → self.now.before ≡ values_of self.now.symbols }
+    {
+        self.values.has_differences()
+    }
+
+    /// Whether names have other values, or none, than before the edit.
+    pub fn differences(&self) -> &[bool]
+        ensures { AreDifferences self.now result.now }
+    {
+        self.values.noted()
+    }
+
+    /// Whether the name of a number has the value, or none, that it had before the edit.
+    pub fn keeps_value(&self, id: NameId) -> bool
+        requires { id.number < length self.now.keys }
+        ensures { result
+            ≡ has_same_value self.now.before (values_of self.now.symbols)
+            (key_at self.now.keys id.number) }
+    {
+        !self.values.differ(id.number as usize)
+    }
+
+    /// Whether the names of these numbers have the values, or none, that they had before the edit.
+    pub fn keep_values(&self, numbers: &[NameId]) -> bool
+        requires { All (λ id. id.number < length self.now.keys) numbers.now }
+        ensures { result
+            ≡ list_all (has_same_value self.now.before (values_of self.now.symbols))
+            (names_at self.now.keys numbers.now) }
+    {
+        let Some((id, numbers)) = numbers.split_first() else {
+            return true;
+        };
+        self.keeps_value(*id) && self.keep_values(numbers)
+    }
+
+    /// The value and the line of a name in either case.
+    pub fn symbol_in_any_case(&self, name: &[u8]) -> Option<Symbol>
+        ensures { result ≡ lookup_name self.now.symbols (map upper name.now) }
+    {
+        for entry in &self.entries {
+            if is_spelled(name, self.name(entry.id)) {
+                return Some(entry.symbol);
+            }
+        }
+        None
+    }
+
+    /// The name of a number.
+    fn name(&self, id: NameId) -> &[u8]
+        requires { id.number < length self.now.keys }
+        ensures { result.now ≡ key_at self.now.keys id.number }
+    {
+        match self.keys.get_index(id.number as usize) {
+            Some(key) => key,
+            None => unreachable!(),
+        }
+    }
+
+    /// The names in line order, each with its value and line.
+    pub fn symbols(&self, alloc: Global) -> Result<Vec<(Bytes, Symbol)>, AllocError>
+        ensures { IfOk result (λ symbols. symbols.items ≡ self.now.symbols) }
+    {
+        let mut symbols = Vec::with_capacity(alloc, self.entries.len())?;
+        for entry in &self.entries {
+            let name = Bytes::from_slice(alloc, self.name(entry.id))?;
+            symbols.push((name, entry.symbol))?;
+        }
+        Ok(symbols)
+    }
+
+    /// How many names have a symbol.
+    pub fn symbol_count(&self) -> usize
+        ensures { result ≡ length self.now.symbols }
+    {
+        self.entries.len()
+    }
+
+    /// The name at a place in line order, with its value and line.
+    pub fn symbol_at(&self, place: usize) -> Option<(&[u8], Symbol)>
+        ensures { option_map (λ found. (found.0.now, found.1)) result
+            ≡ slice_get self.now.symbols place }
+    {
+        let entry = self.entries.get(place)?;
+        Some((self.name(entry.id), entry.symbol))
+    }
+
+    /// How its names are hashed.
+    pub fn hasher(&self) -> NameHasher {
+        self.hasher
+    }
+
+    /// How many names have a number.
+    pub fn count(&self) -> usize
+        ensures { result ≡ length self.now.keys }
+    {
+        self.keys.len()
+    }
+
+    /// The same symbols in a table without other names.
+    pub fn with_symbols_alone(&self, alloc: Global) -> Result<Table, AllocError>
+        ensures { IfOk result (λ table. table.symbols ≡ self.now.symbols) }
+    {
+        let mut table = Table::new(alloc, self.hasher);
+        for entry in &self.entries {
+            let id = table.number(alloc, self.name(entry.id))?;
+            table.reserve(1)?;
+            table.define(id, entry.symbol);
+        }
+        Ok(table)
+    }
+
+    /// Adds the symbol of a name, if there is one. False where the name has one already.
+    #[inline(always)]
+    pub fn define_new(&mut self, defines: Option<NameId>, symbol: Symbol) -> bool
+        requires within { IfSome defines (λ id. id.number < length self.old.keys) }
+        requires room { length self.old.symbols < self.old.room }
+        ensures new { result
+            ≡ not (is_redefinition self.old.symbols (name_of self.old.keys defines)) }
+        ensures symbols { result ≡ true
+            → self.new.symbols ≡ self.old.symbols ++ symbols_of self.old.keys defines symbol }
+        ensures same { result ≡ false → self.new ≡ self.old }
+        ensures keeps { KeepsBefore self.old self.new }
+    {
+        let Some(id) = defines else {
+            return true;
+        };
+        if self.is_defined(id) {
+            return false;
+        }
+        self.define(id, symbol);
+        true
+    }
+
+    /// Adds the symbol of a name that has none.
+    #[inline(never)]
+    pub fn define(&mut self, id: NameId, symbol: Symbol)
+        requires within { id.number < length self.old.keys }
+        requires new { lookup_name self.old.symbols (key_at self.old.keys id.number) ≡ None }
+        requires room { length self.old.symbols < self.old.room }
+        ensures symbols { self.new.symbols
+            ≡ self.old.symbols ++ (key_at self.old.keys id.number, symbol) ∷ [] }
+        ensures keeps { KeepsBefore self.old self.new }
+    {
+        self.entries.push_reserved(Entry { id, symbol });
+        self.values.set(id.number as usize, Some(symbol.value));
+    }
+}
+
+/// Whether a text in either case spells a name.
+fn is_spelled(text: &[u8], name: &[u8]) -> bool
+    ensures { result ≡ bytes_eq (map upper text.now) name.now }
+{
+    let Some((byte, text)) = text.split_first() else {
+        return name.is_empty();
+    };
+    let Some((letter, name)) = name.split_first() else {
+        return false;
+    };
+    upper(*byte) == *letter && is_spelled(text, name)
+}
+
+/// A table, which is asked for the names of a line, mostly in their order.
+#[derive(Drop)]
+pub struct Scope<'a> {
+    table: &'a Table,
+    /// The numbers of the line's names.
+    numbers: &'a [NameId],
+    /// The place among them of the name that is likely to be asked for next.
+    place: Cell<usize>,
+}
+
+impl<'a> Model for Scope<'a> {
+    ghost use Rattle.chip_symbols.specs.Tables.{Tables, tables_code};
+
+    ghost Value = { Tables };
+
+    ghost coded = { tables_code };
+
+    ghost view = { λ s. s.table.now };
+}
+
+impl<'a> Scope<'a> {
+    /// A table, and the numbers of the names of which it is going to be asked, mostly in this order.
+    pub fn new(table: &'a Table, numbers: &'a [NameId]) -> Self
+        ensures { result ≡ table.now }
+    {
+        Scope {
+            table,
+            numbers,
+            place: Cell::new(0),
+        }
+    }
+
+    /// The number at a place, where it is that of the name.
+    #[inline(always)]
+    fn number_at(&self, place: usize, name: &[u8]) -> Option<NameId>
+        ensures { IfSome result (λ id. IsNumber self.now.keys id name.now) }
+    {
+        let table = self.table;
+        let id = self.numbers.get(place)?;
+        let key = table.keys.get_index(id.number as usize)?;
+        if name != key.as_slice() {
+            return None;
+        }
+        Some(*id)
+    }
+
+    /// The value of a name that stands elsewhere.
+    #[inline(never)]
+    fn value_elsewhere(&self, name: &[u8]) -> Option<i32>
+        ensures { result ≡ value_among self.now.symbols name.now }
+    {
+        let table = self.table;
+        let index = table.keys.get_index_of(name)?;
+        table.values.get(index)
+    }
+}
+
+impl<'a> Names for Scope<'a> {
+    ghost symbols = { λ s. values_of s.symbols };
+
+    fn value(&self, name: &[u8]) -> Option<i32> {
+        let table = self.table;
+        let place = self.place.get();
+        self.place.set(place.wrapping_add(1));
+        match self.number_at(place, name) {
+            Some(id) => table.values.get(id.number as usize),
+            None => self.value_elsewhere(name),
+        }
+    }
+}
