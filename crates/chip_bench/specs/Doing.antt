@@ -3,7 +3,7 @@
 --     Debugs, Assembles, Tells, Runs, Traces, Pictures    what each command did
 --     Does                           the same, by what was asked
 --     Performs, ShowsHelp, ShowsVersion   the same, for the arguments
-use Rattle.std.specs.Prelude.{◌≡◌, ◌≢◌, ◌⊎◌, ℕ, ◌≤◌, min, Bool, true, List, [], codes, length, Option, Some, None, MatchOption, Ok, if◌then◌else◌}
+use Rattle.std.specs.Prelude.{◌≡◌, ◌≢◌, ◌⊎◌, ℕ, ◌≤◌, min, Bool, true, List, [], length, Option, Some, None, MatchOption, Ok, if◌then◌else◌}
 use Rattle.std.specs.Borrow.{Bor}
 use Rattle.chip_asm.specs.Lines.{lines_of, open_fault}
 use Rattle.chip_asm.specs.Program.{image_of}

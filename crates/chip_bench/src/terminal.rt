@@ -97,7 +97,7 @@ impl<'e, E: Write> Observer for Terminal<'e, E> {
                     }
                 }
             }
-            Refused::Command(Refusal::NoSuchLine) => {
+            Refused::Command(Refusal::Source(chip_asm::Refusal::NoSuchLine)) => {
                 self.say("the source has ");
                 self.say_lines(bench.source());
             }

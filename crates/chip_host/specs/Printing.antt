@@ -13,7 +13,6 @@ use Rattle.chip_asm.specs.declared.refusal.OpenError.TheVariants as unopened
 use Rattle.chip_session.specs.Answers.{faults_text}
 use Rattle.chip_session.specs.Serving.{BeginsWith}
 use Rattle.chip_session.specs.Tally.{Tally}
-use Rattle.chip_session.specs.Transcript.{refused}
 use Rattle.chip_session.specs.Writing.{Breaks, Writes}
 use Rattle.chip_host.specs.declared.ending.Ending.{Ending}
 use Rattle.chip_host.specs.declared.ending.Ending.TheVariants.{Done, Faulty}

@@ -6,7 +6,6 @@ pub mod ProgressLemmas
 pub mod ServeLemmas
 pub mod AnswerLemmas
 pub mod ImageLemmas
-pub mod Parts
 pub mod TapeLemmas
 pub mod TextLemmas
 pub mod RunLemmas

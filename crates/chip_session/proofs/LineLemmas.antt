@@ -7,30 +7,13 @@ use Rattle.std.proofs.lemmas.Bool.{eqb-true}
 use Rattle.std.proofs.lemmas.List.{append-nil, map-append, length-append}
 use Rattle.chip_session.specs.Lines.{all_but_last, last_part, complete_lines, unfinished_line}
 use Rattle.chip_asm.specs.Lines.{is_newline, lines_of}
+use Rattle.chip_asm.proofs.CutSteps.{filled}
 
 -- a byte put at the end of the last part
 abbrev onto_last : ℕ → List (List ℕ) → List (List ℕ)
 onto_last b [] = (b ∷ []) ∷ []
 onto_last b (part ∷ []) = (part ++ b ∷ []) ∷ []
 onto_last b (part ∷ next ∷ parts) = part ∷ onto_last b (next ∷ parts)
-
--- a list with an element
-record Filled (parts : List (List ℕ)) : Type 0 where
-  first : List ℕ
-  others : List (List ℕ)
-  is : parts ≡ first ∷ others
-
-filled_first : (c : ℕ) (parts : List (List ℕ)) → Filled (onto_first c parts)
-filled_first c [] = record { first = c ∷ []; others = []; is = refl }
-filled_first c (part ∷ parts) = record { first = c ∷ part; others = parts; is = refl }
-
-filled_cond : (b : Bool) (xs ys : List (List ℕ)) → Filled xs → Filled ys → Filled (cond b xs ys)
-filled_cond true xs ys f g = f
-filled_cond false xs ys f g = g
-
-filled : (bytes : List ℕ) → Filled (slice_split is_newline bytes)
-filled [] = record { first = []; others = []; is = refl }
-filled (x ∷ xs) = filled_cond (is_newline x) _ _ (record { first = []; others = slice_split is_newline xs; is = refl }) (filled_first x (slice_split is_newline xs))
 
 first_last : (c b : ℕ) (part : List ℕ) (parts : List (List ℕ)) → onto_first c (onto_last b (part ∷ parts)) ≡ onto_last b (onto_first c (part ∷ parts))
 first_last c b part [] = refl

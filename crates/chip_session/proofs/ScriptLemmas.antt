@@ -4,7 +4,8 @@ use Rattle.std.specs.Result.{OnErr}
 use Rattle.std.specs.Str.Lines.{strip_carriage_return}
 use Rattle.std.proofs.lemmas.List.{append-nil, take_all, length-take}
 use Rattle.std.proofs.lemmas.Bool.{cases_lt, cond_below, cond_above, ne_eqb}
-use Rattle.chip_session.specs.Session.{Session}
+use Rattle.chip_session.specs.Session.{Change, Session, delete_event, delete_line, insert_event, insert_line, memory_refusal, replace_event, replace_line}
+use Rattle.chip_session.specs.Refusals.{is_for_memory}
 use Rattle.chip_session.specs.declared.command.CommandFault.{CommandFault}
 use Rattle.chip_session.specs.declared.refusal.Refusal.{Refusal}
 use Rattle.std.specs.List.{list_all, before_first, after_first}
@@ -85,6 +86,18 @@ no_memory (inr q) h = absurd (h q.0)
 pub not_for_memory : {P Q R X : Type 0} {e m : X} → P ⊎ ((e ≡ m) × Q × R) → (e ≡ m → ⊥) → P
 not_for_memory (inl p) h = p
 not_for_memory (inr q) h = absurd (h q.0)
+
+-- the refusals of changes for which memory ran out say so, and others are none of them
+pub for_memory : (c : Change) → is_for_memory (memory_refusal c) ≡ true
+for_memory (insert_line number text) = refl
+for_memory (replace_line number text) = refl
+for_memory (delete_line number) = refl
+for_memory (insert_event step key down) = refl
+for_memory (replace_event step key down) = refl
+for_memory (delete_event step key) = refl
+
+pub not_memory : (e m : Refusal) → is_for_memory m ≡ true → is_for_memory e ≡ false → e ≡ m → ⊥
+not_memory e m is other same = let never : true ≡ false = sym is ∙ ap is_for_memory (sym same) ∙ other in cc
 
 -- what holds in any case holds where there is an error
 pub on_err : {A E P : Type 0} (r : Result A E) → P → OnErr r P

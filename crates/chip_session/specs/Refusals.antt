@@ -1,5 +1,5 @@
 -- The codes of refusals (own).
-use Rattle.std.specs.Prelude.{ℕ, List, codes}
+use Rattle.std.specs.Prelude.{ℕ, Bool, true, false, List, codes}
 use Rattle.chip_asm.specs.declared.refusal.Refusal.{Refusal as SourceRefusal}
 use Rattle.chip_asm.specs.declared.refusal.Refusal.TheVariants as source
 use Rattle.chip_replay.specs.declared.keys.KeyFault.{KeyFault}
@@ -7,36 +7,35 @@ use Rattle.chip_replay.specs.declared.keys.KeyFault.TheVariants as key
 use Rattle.chip_session.specs.declared.refusal.Refusal.{Refusal}
 use Rattle.chip_session.specs.declared.refusal.Refusal.TheVariants as refusal
 
--- the code of a refusal; N10 and Q4 are never written
+-- the code of a refused edit of a line; N10 and Q4 are never written
+abbrev pub source_code : SourceRefusal → List ℕ
+source_code source.NoSuchLine = codes "N1"
+source_code source.TextTooLong = codes "N2"
+source_code source.TooManyLines = codes "N3"
+source_code source.LineBreak = codes "N4"
+source_code source.OutOfMemory = codes "N10"
+
+-- that of a refused edit of a key event
+abbrev pub key_code : KeyFault → List ℕ
+key_code key.StepTooLarge = codes "N5"
+key_code key.NoSuchKey = codes "N6"
+key_code key.EventThere = codes "N7"
+key_code key.NoEvent = codes "N8"
+key_code key.TooManyEvents = codes "N9"
+key_code key.OutOfMemory = codes "N10"
+
+-- the code of a refusal
 abbrev pub refusal_code : Refusal → List ℕ
-refusal_code refusal.NoSuchLine = codes "N1"
-refusal_code refusal.TextTooLong = codes "N2"
-refusal_code refusal.TooManyLines = codes "N3"
-refusal_code refusal.LineBreak = codes "N4"
-refusal_code refusal.EventPastLast = codes "N5"
-refusal_code refusal.NoSuchKey = codes "N6"
-refusal_code refusal.EventThere = codes "N7"
-refusal_code refusal.NoEvent = codes "N8"
-refusal_code refusal.TooManyEvents = codes "N9"
-refusal_code refusal.EditMemory = codes "N10"
+refusal_code (refusal.Source why) = source_code why
+refusal_code (refusal.Keys why) = key_code why
 refusal_code refusal.NoImage = codes "Q1"
 refusal_code refusal.StepPastLast = codes "Q2"
 refusal_code refusal.AddressPastEnd = codes "Q3"
 refusal_code refusal.AnswerMemory = codes "Q4"
 
--- a refusal of the source's, as one of the session's
-abbrev pub source_refusal : SourceRefusal → Refusal
-source_refusal source.NoSuchLine = refusal.NoSuchLine
-source_refusal source.TextTooLong = refusal.TextTooLong
-source_refusal source.TooManyLines = refusal.TooManyLines
-source_refusal source.LineBreak = refusal.LineBreak
-source_refusal source.OutOfMemory = refusal.EditMemory
-
--- a refusal of the key script's, as one of the session's
-abbrev pub key_refusal : KeyFault → Refusal
-key_refusal key.StepTooLarge = refusal.EventPastLast
-key_refusal key.NoSuchKey = refusal.NoSuchKey
-key_refusal key.EventThere = refusal.EventThere
-key_refusal key.NoEvent = refusal.NoEvent
-key_refusal key.TooManyEvents = refusal.TooManyEvents
-key_refusal key.OutOfMemory = refusal.EditMemory
+-- memory ran out
+abbrev pub is_for_memory : Refusal → Bool
+is_for_memory (refusal.Source source.OutOfMemory) = true
+is_for_memory (refusal.Keys key.OutOfMemory) = true
+is_for_memory refusal.AnswerMemory = true
+is_for_memory why = false

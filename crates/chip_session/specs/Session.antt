@@ -4,13 +4,14 @@ use Rattle.std.specs.FinMap as map
 use Rattle.chip_asm.specs.Edits.{insert_refusal, replace_refusal, delete_refusal}
 use Rattle.chip_asm.specs.Lines.{lines_of}
 use Rattle.chip_asm.specs.declared.refusal.Refusal.{Refusal as SourceRefusal}
+use Rattle.chip_asm.specs.declared.refusal.Refusal.TheVariants.{OutOfMemory as no_line_memory}
 use Rattle.chip_replay.specs.declared.keys.KeyFault.{KeyFault}
+use Rattle.chip_replay.specs.declared.keys.KeyFault.TheVariants.{OutOfMemory as no_event_memory}
 use Rattle.chip_replay.specs.declared.keys.Moment.{Moment}
 use Rattle.chip_replay.specs.Keys.{Events, insert_fault, edit_fault}
 use Rattle.chip_session.specs.Settings.{SessionSettings}
 use Rattle.chip_session.specs.declared.refusal.Refusal.{Refusal}
-use Rattle.chip_session.specs.declared.refusal.Refusal.TheVariants.{EditMemory}
-use Rattle.chip_session.specs.Refusals.{source_refusal, key_refusal}
+use Rattle.chip_session.specs.declared.refusal.Refusal.TheVariants.{Source, Keys}
 
 abbrev pub Text : Type 0
 Text = List ℕ
@@ -39,12 +40,12 @@ pub data Change : Type 0 where
 -- the session with these lines, where the edit isn't refused
 abbrev pub with_lines : Session → Option SourceRefusal → List Text → Result Session Refusal
 with_lines session None lines = Ok (record session { lines = lines })
-with_lines session (Some why) lines = Err (source_refusal why)
+with_lines session (Some why) lines = Err (Source why)
 
 -- the session with these events, where the edit isn't refused
 abbrev pub with_events : Session → Option KeyFault → Events → Result Session Refusal
 with_events session None events = Ok (record session { keys = events })
-with_events session (Some why) events = Err (key_refusal why)
+with_events session (Some why) events = Err (Keys why)
 
 -- the step and the key of an event
 abbrev pub moment : ℕ → ℕ → Moment
@@ -77,8 +78,15 @@ TakesMemory (replace_event step key down) = ⊥
 TakesMemory (delete_event step key) = ⊥
 TakesMemory change = Unit {0}
 
+-- the refusal of an edit for which memory ran out
+abbrev pub memory_refusal : Change → Refusal
+memory_refusal (insert_event step key down) = Keys no_event_memory
+memory_refusal (replace_event step key down) = Keys no_event_memory
+memory_refusal (delete_event step key) = Keys no_event_memory
+memory_refusal change = Source no_line_memory
+
 -- why an edit is refused: the first refusal that applies, or that memory ran out where none does
 abbrev pub IsRefused : Session → Change → Refusal → Type 0
 IsRefused session change e =
     (edited session change ≡ Err e)
-    ⊎ ((e ≡ EditMemory) × TakesMemory change × IsOk (edited session change))
+    ⊎ ((e ≡ memory_refusal change) × TakesMemory change × IsOk (edited session change))

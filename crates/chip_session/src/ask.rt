@@ -1,5 +1,5 @@
 //! The answers to questions.
-ghost use Rattle.std.specs.Prelude.{◌≡◌, ◌∷◌, [], ℕ, List, false, Ok, Err, Some, IfOk};
+ghost use Rattle.std.specs.Prelude.{◌≡◌, [], ℕ, List, false, Ok, Err, Some, IfOk};
 ghost use Rattle.chip_asm.specs.Program.{image_of};
 ghost use Rattle.chip_session.specs.Kept.{session_on, IsLastImage};
 ghost use Rattle.chip_session.specs.inner.InStep.{GoesOn};

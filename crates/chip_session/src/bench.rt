@@ -1,5 +1,5 @@
 //! A session: edits of the source and of the key events, and questions about both.
-ghost use Rattle.std.specs.Prelude.{◌≡◌, ◌≢◌, ◌<◌, ◌≤◌, ◌⊎◌, [], false, is_none, max, Err, None, Some, Ok, OnOk, OnErr, IfOk, IfErr, length, unwrap_or};
+ghost use Rattle.std.specs.Prelude.{◌≡◌, ◌<◌, ◌≤◌, ◌⊎◌, [], false, is_none, max, Err, None, Some, Ok, OnOk, OnErr, IfOk, IfErr, length, unwrap_or};
 ghost use Rattle.std.specs.Str.Lines.{lines};
 ghost use Rattle.chip_replay.specs.declared.limits.TheConstants.{LAST_STEP};
 ghost use Rattle.chip_session.specs.Answers.{answer_to, machine_of, step_asked};

@@ -1,5 +1,5 @@
 //! A reader or a writer whose failures are counted.
-ghost use Rattle.std.specs.Prelude.{◌≡◌, List, ℕ, MatchResult, is_ok};
+ghost use Rattle.std.specs.Prelude.{◌≡◌, is_ok};
 ghost use Rattle.std.specs.Io.{ReadsAtMost, WritesAtMost};
 ghost use Rattle.std.specs.Io.KnownBytes.{Keeps, ReadConsumes, WriteAppends};
 ghost use Rattle.chip_session.specs.Tally.{failures_after_flush, failures_after_read, failures_after_write, write_failed};

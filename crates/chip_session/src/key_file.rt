@@ -87,7 +87,7 @@ fn make_change(
     };
     match bench.apply(alloc, &change) {
         Ok(()) => Ok(None),
-        Err(Refusal::EditMemory) => Err(AllocError),
+        Err(refusal) if refusal.is_for_memory() => Err(AllocError),
         Err(refusal) => Ok(Some(refusal.code())),
     }
 }

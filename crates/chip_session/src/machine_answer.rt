@@ -1,10 +1,10 @@
 //! Answers about the machine's state.
 
-ghost use Rattle.std.specs.Prelude.{◌≡◌, ◌+◌, ◌*◌, ◌<◌, ◌≤◌, ◌^◌, ◌++◌, ◌∷◌, [], ℕ, List, false, codes, length, replicate, OnOk, slice_index};
+ghost use Rattle.std.specs.Prelude.{◌≡◌, ◌+◌, ◌*◌, ◌<◌, ◌≤◌, ◌++◌, ◌∷◌, [], false, codes, length, replicate, OnOk};
 ghost use Rattle.chip_machine.specs.Step.{word_at};
 ghost use Rattle.chip_session.specs.Answers.{asks_past_end, state_answer};
 ghost use Rattle.chip_session.specs.Text.{hex_line};
-ghost use Rattle.chip_session.specs.MachineAnswers.{size_name, state_name, register_line, place_part, timer_part, condition_part, state_line, flag_line, registers_of, bytes_at, memory_line, word_line, disassembly_of, has_lit, row_line, row_lines, two_digits, screen_of};
+ghost use Rattle.chip_session.specs.MachineAnswers.{size_name, state_name, register_line, place_part, timer_part, condition_part, state_line, flag_line, registers_of, memory_line, word_line, disassembly_of, has_lit, row_line, row_lines, two_digits, screen_of};
 
 use crate::question::StateQuestion;
 use crate::text::{push_hex, push_spaced_words, write_hex};

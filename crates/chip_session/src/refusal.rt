@@ -1,7 +1,8 @@
 //! Why an edit or a question is refused.
 ghost use Rattle.std.specs.Prelude.{◌≡◌};
-ghost use Rattle.chip_session.specs.Refusals.{refusal_code, source_refusal, key_refusal};
+ghost use Rattle.chip_session.specs.Refusals.{is_for_memory, key_code, refusal_code, source_code};
 ghost use Rattle.chip_session.specs.Transcript.{refused_code};
+ghost use Rattle.chip_session.specs.declared.refusal.Refusal.TheVariants.{Source, Keys};
 
 use crate::command::CommandFault;
 use chip_replay::KeyFault;
@@ -10,36 +11,12 @@ use thiserror::Error;
 /// Why an edit or a question was refused.
 #[derive(Clone, Copy, Debug, PartialEq, Eq, Error)]
 pub enum Refusal {
-    /// N1: there is no line of that number.
-    #[error("no such line")]
-    NoSuchLine,
-    /// N2: the text has over `LINE_BYTES` bytes.
-    #[error("text too long")]
-    TextTooLong,
-    /// N3: there are 4,000 lines already.
-    #[error("too many lines")]
-    TooManyLines,
-    /// N4: the text holds a carriage return or a newline.
-    #[error("line break in the text")]
-    LineBreak,
-    /// N5: the event's step is above `LAST_STEP`.
-    #[error("event past the last step")]
-    EventPastLast,
-    /// N6: the key is above 15.
-    #[error("no such key")]
-    NoSuchKey,
-    /// N7: there is an event of that step and key.
-    #[error("event already there")]
-    EventThere,
-    /// N8: there is no event of that step and key.
-    #[error("no such event")]
-    NoEvent,
-    /// N9: there are 10,000 events already.
-    #[error("too many events")]
-    TooManyEvents,
-    /// N10: memory ran out for the edit.
-    #[error("out of memory")]
-    EditMemory,
+    /// N1 to N4, N10: an edit of a line.
+    #[error("{0}")]
+    Source(chip_asm::Refusal),
+    /// N5 to N9, N10: an edit of a key event.
+    #[error("{0}")]
+    Keys(KeyFault),
     /// Q1: there is no image, since some line has a fault.
     #[error("no image")]
     NoImage,
@@ -60,21 +37,52 @@ impl Refusal {
         ensures { result.now ≡ refusal_code self }
     {
         match self {
-            Refusal::NoSuchLine => b"N1",
-            Refusal::TextTooLong => b"N2",
-            Refusal::TooManyLines => b"N3",
-            Refusal::LineBreak => b"N4",
-            Refusal::EventPastLast => b"N5",
-            Refusal::NoSuchKey => b"N6",
-            Refusal::EventThere => b"N7",
-            Refusal::NoEvent => b"N8",
-            Refusal::TooManyEvents => b"N9",
-            Refusal::EditMemory => b"N10",
+            Refusal::Source(why) => source_code(why),
+            Refusal::Keys(why) => key_code(why),
             Refusal::NoImage => b"Q1",
             Refusal::StepPastLast => b"Q2",
             Refusal::AddressPastEnd => b"Q3",
             Refusal::AnswerMemory => b"Q4",
         }
+    }
+
+    /// Whether memory ran out.
+    pub(crate) fn is_for_memory(self) -> bool
+        ensures { result ≡ is_for_memory self }
+    {
+        matches!(
+            self,
+            Refusal::Source(chip_asm::Refusal::OutOfMemory)
+                | Refusal::Keys(KeyFault::OutOfMemory)
+                | Refusal::AnswerMemory
+        )
+    }
+}
+
+/// The code of a refused edit of a line.
+fn source_code(why: chip_asm::Refusal) -> &'static [u8]
+    ensures { result.now ≡ source_code why }
+{
+    match why {
+        chip_asm::Refusal::NoSuchLine => b"N1",
+        chip_asm::Refusal::TextTooLong => b"N2",
+        chip_asm::Refusal::TooManyLines => b"N3",
+        chip_asm::Refusal::LineBreak => b"N4",
+        chip_asm::Refusal::OutOfMemory => b"N10",
+    }
+}
+
+/// The code of a refused edit of a key event.
+fn key_code(why: KeyFault) -> &'static [u8]
+    ensures { result.now ≡ key_code why }
+{
+    match why {
+        KeyFault::StepTooLarge => b"N5",
+        KeyFault::NoSuchKey => b"N6",
+        KeyFault::EventThere => b"N7",
+        KeyFault::NoEvent => b"N8",
+        KeyFault::TooManyEvents => b"N9",
+        KeyFault::OutOfMemory => b"N10",
     }
 }
 
@@ -100,30 +108,17 @@ impl Refused {
 }
 
 impl From<chip_asm::Refusal> for Refusal {
-    ghost from_gives = { λ why refusal. refusal ≡ source_refusal why };
+    ghost from_gives = { λ why refusal. refusal ≡ Source why };
 
     fn from(why: chip_asm::Refusal) -> Refusal {
-        match why {
-            chip_asm::Refusal::NoSuchLine => Refusal::NoSuchLine,
-            chip_asm::Refusal::TextTooLong => Refusal::TextTooLong,
-            chip_asm::Refusal::TooManyLines => Refusal::TooManyLines,
-            chip_asm::Refusal::LineBreak => Refusal::LineBreak,
-            chip_asm::Refusal::OutOfMemory => Refusal::EditMemory,
-        }
+        Refusal::Source(why)
     }
 }
 
 impl From<KeyFault> for Refusal {
-    ghost from_gives = { λ why refusal. refusal ≡ key_refusal why };
+    ghost from_gives = { λ why refusal. refusal ≡ Keys why };
 
     fn from(why: KeyFault) -> Refusal {
-        match why {
-            KeyFault::StepTooLarge => Refusal::EventPastLast,
-            KeyFault::NoSuchKey => Refusal::NoSuchKey,
-            KeyFault::EventThere => Refusal::EventThere,
-            KeyFault::NoEvent => Refusal::NoEvent,
-            KeyFault::TooManyEvents => Refusal::TooManyEvents,
-            KeyFault::OutOfMemory => Refusal::EditMemory,
-        }
+        Refusal::Keys(why)
     }
 }

@@ -1,5 +1,5 @@
 //! A script, carried out as it is read.
-ghost use Rattle.std.specs.Prelude.{◌≡◌, ◌≢◌, ℕ, List, take, ◌+◌, ◌≤◌, ◌<◌, Ok, Err, Some, None, [], ◌∷◌, ◌++◌, length, OnOk, OnErr, IfOk, IfErr};
+ghost use Rattle.std.specs.Prelude.{◌≡◌, ◌≢◌, ℕ, List, take, ◌+◌, ◌≤◌, ◌<◌, Ok, Err, Some, None, [], ◌++◌, length, OnOk, OnErr, IfOk, IfErr};
 ghost use Rattle.std.specs.Str.Lines.{strip_carriage_return};
 ghost use Rattle.chip_asm.specs.Lines.{open_fault};
 ghost use Rattle.chip_session.specs.Session.{Session, session_of};
@@ -513,10 +513,10 @@ pub fn respond(
             Err(refusal) => refusal,
         },
     };
-    match refusal {
-        Refusal::EditMemory | Refusal::AnswerMemory => Err(AllocError),
-        _ => refuse_for(answer, Refused::Command(refusal)),
+    if refusal.is_for_memory() {
+        return Err(AllocError);
     }
+    refuse_for(answer, Refused::Command(refusal))
 }
 
 // Appends the answer to a line that is refused, and tells why it is.

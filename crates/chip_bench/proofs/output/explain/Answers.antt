@@ -1,4 +1,4 @@
-use Rattle.std.proofs.Common.{ℕ, Option, Some, None, option_map, subst}
+use Rattle.std.proofs.Common.{ℕ, Option, option_map, subst}
 use Rattle.std.specs.Global.{Vec}
 use Rattle.chip_pages.specs.Pages.{IsExplained}
 use Rattle.chip_bench.proofs.DoingLemmas.{explained, unexplained}

@@ -1,6 +1,6 @@
 use Rattle.std.proofs.Common.{◌+◌, ◌*◌, ℕ}
 use Rattle.chip_session.specs.MachineAnswers.{word_line}
-use Rattle.chip_session.proofs.Parts.{parts_more}
+use Rattle.chip_views.proofs.Parts.{parts_more}
 use Rattle.chip_session.proofs.machine_answer.push_disassembly.Goals as goal
 
 pub loop-place-preserved : goal.loop-place-preserved

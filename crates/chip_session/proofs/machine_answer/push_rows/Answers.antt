@@ -1,5 +1,5 @@
 use Rattle.chip_session.specs.MachineAnswers.{row_line}
-use Rattle.chip_session.proofs.Parts.{parts_more}
+use Rattle.chip_views.proofs.Parts.{parts_more}
 use Rattle.chip_session.proofs.machine_answer.push_rows.Goals as goal
 
 pub loop-row-preserved : goal.loop-row-preserved

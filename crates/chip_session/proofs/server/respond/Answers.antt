@@ -1,4 +1,4 @@
-use Rattle.std.proofs.Common.{◌∙◌, sym, ap, inl, inr, ◌++◌, ◌∷◌, [], Some, Ok, Err}
+use Rattle.std.proofs.Common.{◌∙◌, refl, sym, ap, inl, inr, ◌++◌, ◌∷◌, [], Some, Ok, Err}
 use Rattle.std.proofs.lemmas.Result.{IfOk-weaker, on_ok_weaker}
 use Rattle.chip_session.specs.Commands.{blank, change, ask}
 use Rattle.chip_session.specs.Refusals.{refusal_code}
@@ -8,7 +8,7 @@ use Rattle.chip_session.specs.Workbench.{Workbench}
 use Rattle.chip_session.specs.Changes.{change_of}
 use Rattle.chip_session.specs.CommandView.{command_view}
 use Rattle.chip_session.specs.declared.refusal.Refused.TheVariants as why
-use Rattle.chip_session.proofs.ScriptLemmas.{ask_not_refused, ask_told, reply_is, after_is, refusal_is, no_memory, not_for_memory, on_err}
+use Rattle.chip_session.proofs.ScriptLemmas.{ask_not_refused, ask_told, reply_is, after_is, refusal_is, no_memory, not_for_memory, for_memory, not_memory, on_err}
 use Rattle.chip_session.proofs.server.respond.Goals as goal
 use Rattle.chip_session.proofs.server.respond.Goals.{in-Change+in-Err-apply, in-Ask+in-Err-ask}
 
@@ -67,36 +67,36 @@ returns-in-Ok-ask-clause-refused c =
     sym (refusal_is c.args.bench.now.session c.args.line.now (Ok (ask c.in-Ask.question)) (c.in-Ok.ensures ∙ ap (λ x. Ok (command_view x)) c.in-Ask.is)
     ∙ ask_not_refused _ (answer_to c.args.bench.now.session c.in-Ask.question) c.in-Ok-ask.ensures.answer)
 
-pub returns-in_default : goal.returns-in_default
-returns-in_default c = elim c.match-command.branch [
+pub returns : goal.returns
+returns c = elim c.match-command.branch [
   | in-Change+in-Err-apply w ↦
       (let read = c.in-Ok.ensures ∙ ap (λ x. Ok (command_view x)) w.in-Change.is in
-      let none = not_for_memory w.in-Err-apply.ensures.err (λ e. c.in_default.not-EditMemory (w.refusal-is ∙ e)) in
+      let none = not_for_memory w.in-Err-apply.ensures.err (λ e. not_memory _ _ (for_memory (change_of w.in-Change.change)) (sym c.is_for_memory.ensures ∙ c.if-is_for_memory.false) (w.refusal-is ∙ e)) in
       record {
-        answer = on_ok_weaker c.refuse_for-in_default.result (λ h. h
+        answer = on_ok_weaker c.refuse_for-2.result (λ h. h
             ∙ ap (λ l. l ++ refused (refusal_code c.match-command.refusal)) (ap (λ v. v.items) w.answer-is ∙ c.clear.ensures.items)
             ∙ ap (λ r. refused (refusal_code r)) w.refusal-is
-            ∙ sym (reply_is c.args.bench.now.session c.args.line.now (Ok (change (change_of w.in-Change.change))) read ∙ ap change_reply none)) c.refuse_for-in_default.ensures.answer;
-        bench = on_ok_weaker c.refuse_for-in_default.result (λ h. ap (λ (b : Workbench). b.session) w.bench-is ∙ w.in-Err-apply.ensures.same
-            ∙ sym (after_is c.args.bench.now.session c.args.line.now (Ok (change (change_of w.in-Change.change))) read ∙ ap (change_after c.args.bench.now.session) none)) c.refuse_for-in_default.ensures.answer;
-        memory = on_err c.refuse_for-in_default.result (inl (ap (λ (b : Workbench). b.session) w.bench-is ∙ w.in-Err-apply.ensures.same));
-        refused = IfOk-weaker c.refuse_for-in_default.result _ _ (λ given h. h
+            ∙ sym (reply_is c.args.bench.now.session c.args.line.now (Ok (change (change_of w.in-Change.change))) read ∙ ap change_reply none)) c.refuse_for-2.ensures.answer;
+        bench = on_ok_weaker c.refuse_for-2.result (λ h. ap (λ (b : Workbench). b.session) w.bench-is ∙ w.in-Err-apply.ensures.same
+            ∙ sym (after_is c.args.bench.now.session c.args.line.now (Ok (change (change_of w.in-Change.change))) read ∙ ap (change_after c.args.bench.now.session) none)) c.refuse_for-2.ensures.answer;
+        memory = on_err c.refuse_for-2.result (inl (ap (λ (b : Workbench). b.session) w.bench-is ∙ w.in-Err-apply.ensures.same));
+        refused = IfOk-weaker c.refuse_for-2.result _ _ (λ given h. h
             ∙ ap (λ r. Some (why.Command r)) w.refusal-is
-            ∙ sym (refusal_is c.args.bench.now.session c.args.line.now (Ok (change (change_of w.in-Change.change))) read ∙ ap refusal_of none)) c.refuse_for-in_default.ensures.why;
+            ∙ sym (refusal_is c.args.bench.now.session c.args.line.now (Ok (change (change_of w.in-Change.change))) read ∙ ap refusal_of none)) c.refuse_for-2.ensures.why;
       })
   | in-Ask+in-Err-ask w ↦
       (let read = c.in-Ok.ensures ∙ ap (λ x. Ok (command_view x)) w.in-Ask.is in
-      let none = no_memory w.in-Err-ask.ensures.answer.0 (λ e. c.in_default.not-AnswerMemory (w.refusal-is ∙ e)) in
+      let none = no_memory w.in-Err-ask.ensures.answer.0 (λ e. not_memory _ _ refl (sym c.is_for_memory.ensures ∙ c.if-is_for_memory.false) (w.refusal-is ∙ e)) in
       record {
-        answer = on_ok_weaker c.refuse_for-in_default.result (λ h. h
+        answer = on_ok_weaker c.refuse_for-2.result (λ h. h
             ∙ ap (λ l. l ++ refused (refusal_code c.match-command.refusal)) (ap (λ v. v.items) w.answer-is ∙ w.in-Err-ask.ensures.answer.1 ∙ c.clear.ensures.items)
             ∙ ap (λ r. refused (refusal_code r)) w.refusal-is
-            ∙ sym (reply_is c.args.bench.now.session c.args.line.now (Ok (ask w.in-Ask.question)) read ∙ ap ask_reply none)) c.refuse_for-in_default.ensures.answer;
-        bench = on_ok_weaker c.refuse_for-in_default.result (λ h. ap (λ (b : Workbench). b.session) w.bench-is ∙ w.in-Err-ask.ensures.session
-            ∙ sym (after_is c.args.bench.now.session c.args.line.now (Ok (ask w.in-Ask.question)) read)) c.refuse_for-in_default.ensures.answer;
-        memory = on_err c.refuse_for-in_default.result (inl (ap (λ (b : Workbench). b.session) w.bench-is ∙ w.in-Err-ask.ensures.session));
-        refused = IfOk-weaker c.refuse_for-in_default.result _ _ (λ given h. h
+            ∙ sym (reply_is c.args.bench.now.session c.args.line.now (Ok (ask w.in-Ask.question)) read ∙ ap ask_reply none)) c.refuse_for-2.ensures.answer;
+        bench = on_ok_weaker c.refuse_for-2.result (λ h. ap (λ (b : Workbench). b.session) w.bench-is ∙ w.in-Err-ask.ensures.session
+            ∙ sym (after_is c.args.bench.now.session c.args.line.now (Ok (ask w.in-Ask.question)) read)) c.refuse_for-2.ensures.answer;
+        memory = on_err c.refuse_for-2.result (inl (ap (λ (b : Workbench). b.session) w.bench-is ∙ w.in-Err-ask.ensures.session));
+        refused = IfOk-weaker c.refuse_for-2.result _ _ (λ given h. h
             ∙ ap (λ r. Some (why.Command r)) w.refusal-is
-            ∙ sym (refusal_is c.args.bench.now.session c.args.line.now (Ok (ask w.in-Ask.question)) read ∙ ap refusal_of none)) c.refuse_for-in_default.ensures.why;
+            ∙ sym (refusal_is c.args.bench.now.session c.args.line.now (Ok (ask w.in-Ask.question)) read ∙ ap refusal_of none)) c.refuse_for-2.ensures.why;
       })
 ]
