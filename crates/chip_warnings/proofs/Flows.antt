@@ -6,7 +6,8 @@ use Rattle.chip_warnings.specs.declared.flow.Reach.TheVariants.{Unsure}
 use Rattle.chip_warnings.specs.declared.seen.Says.{Says}
 use Rattle.chip_warnings.specs.declared.seen.Says.TheVariants.{Nothing, Code, Rows, PerhapsCode, Data}
 use Rattle.chip_warnings.specs.declared.seen.Seen.{Seen}
-use Rattle.chip_warnings.specs.Reach.{base_before, begins_since, flow_after, has_bytes, last_with_bytes, may_skip, reach_after, reach_at, reach_by, reach_past}
+use Rattle.chip_warnings.specs.Reach.{base_before, begins_since, flow_after, has_bytes, last_with_bytes, reach_after, reach_at, reach_by, reach_past}
+use Rattle.chip_warnings.specs.Instructions.{may_skip}
 use Rattle.chip_warnings.specs.Seen.{holds_of}
 
 module _ (jumped : ℕ → Bool) (above : List Seen) (s : Seen) (flow : Flow) (before : flow ≡ flow_after jumped above) where

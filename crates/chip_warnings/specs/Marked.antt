@@ -5,6 +5,8 @@ use Rattle.chip_lang.specs.declared.limits.TheConstants.{MEMORY_BYTES}
 use Rattle.chip_warnings.specs.declared.marks.Naming.{Naming}
 use Rattle.chip_warnings.specs.declared.marks.Naming.TheVariants.{Jump, Point}
 use Rattle.chip_warnings.specs.declared.seen.Seen.{Seen}
+use Rattle.chip_lang.specs.Decoding.{decode_of}
+use Rattle.chip_warnings.specs.Instructions.{jumps_by_table, leads_to_one, points, stores}
 use Rattle.chip_warnings.specs.Seen.{base_of, holds_of, is_code, is_data, target_of}
 
 -- one of so many bytes, from one on, that lie in the memory
@@ -15,11 +17,11 @@ is_among first count address =
 -- how many addresses an instruction may go to, from the one in its word on: JP and CALL to that one,
 -- JP V0 to 256
 abbrev pub places_jumped_to : (base : ℕ) → ℕ
-places_jumped_to base = if base == 4096 || base == 8192 then 1 else (if base == 45056 then 256 else 0)
+places_jumped_to base = if leads_to_one (decode_of base) then 1 else (if jumps_by_table (decode_of base) then 256 else 0)
 
 -- how many addresses it names as those of bytes: LD I one
 abbrev pub places_pointed_at : (base : ℕ) → ℕ
-places_pointed_at base = if base == 40960 then 1 else 0
+places_pointed_at base = if points (decode_of base) then 1 else 0
 
 -- how many it names for something
 abbrev pub places_named : Naming → (base : ℕ) → ℕ
@@ -38,7 +40,7 @@ names_at naming address s =
 
 -- a store: LD B, Vx or LD [I], Vx
 abbrev pub is_store : Seen → Bool
-is_store s = holds_of (λ base. base == 61491 || base == 61525) (base_of s.says)
+is_store s = holds_of stores (base_of s.says)
 
 -- data that begins at an address of the memory
 abbrev pub is_data_at : (address : ℕ) → Seen → Bool

@@ -7,6 +7,8 @@ use Rattle.chip_warnings.specs.declared.flow.Flow.{Flow}
 use Rattle.chip_warnings.specs.declared.seen.Says.{Says}
 use Rattle.chip_warnings.specs.declared.seen.Says.TheVariants.{Nothing, Code}
 use Rattle.chip_warnings.specs.declared.seen.Seen.{Seen}
+use Rattle.chip_lang.specs.Decoding.{decode_of}
+use Rattle.chip_warnings.specs.Instructions.{goes_elsewhere, jumps_by_table, may_skip}
 use Rattle.chip_warnings.specs.Seen.{base_of, holds_of}
 
 -- ---- the line above
@@ -39,19 +41,6 @@ base_before (Some s) address = if s.address + 2 == address then base_of s.says e
 
 -- ---- where execution comes
 
--- JP, RET, EXIT
-abbrev pub goes_elsewhere : (base : ℕ) → Bool
-goes_elsewhere base = base == 4096 || base == 238 || base == 253
-
--- SE, SNE, SKP, SKNP
-abbrev pub may_skip : (base : ℕ) → Bool
-may_skip base =
-    base == 12288 || base == 16384 || base == 20480 || base == 36864 || base == 57502 || base == 57505
-
--- JP V0, after which a table may follow
-abbrev pub jumps_by_table : (base : ℕ) → Bool
-jumps_by_table base = base == 45056
-
 -- Whether execution comes to an instruction, by what is known from the lines above it. It comes to a
 -- label, to what stands after ORG, to an address to which an instruction may go, and from the
 -- instruction above to the next one.
@@ -64,8 +53,8 @@ reach_at jumped flow s =
 -- where the instruction goes elsewhere, unless the one above may skip that.
 abbrev pub reach_past : (may_be_skipped : Bool) → (base : ℕ) → Reach → Reach
 reach_past may_be_skipped base Comes =
-    if goes_elsewhere base && not may_be_skipped then Never
-    else (if jumps_by_table base then Unsure else Comes)
+    if goes_elsewhere (decode_of base) && not may_be_skipped then Never
+    else (if jumps_by_table (decode_of base) then Unsure else Comes)
 reach_past may_be_skipped base reach = Unsure
 
 -- whether execution comes to the place after a line, by what is known at that line

@@ -6,6 +6,7 @@ use Rattle.chip_lang.specs.declared.limits.TheConstants.{IMAGE_START}
 use Rattle.chip_lang.specs.Line.{Body, equ, org, ds, db, dw, da, code, define, ifdef, ifund, Reading, bad, read, reading_of}
 use Rattle.chip_lang.specs.Decoding.{decode_of}
 use Rattle.chip_lang.specs.Uses.{name_defined, names_used}
+use Rattle.chip_lang.specs.declared.instr.Instr.{Instr}
 use Rattle.chip_asm.specs.LineViews.{LineFacts, line_facts}
 use Rattle.chip_properties.specs.Lines.{words_in}
 use Rattle.chip_warnings.specs.declared.seen.Says.{Says}
@@ -51,10 +52,10 @@ abbrev pub base_of : Says → Option ℕ
 base_of (Code base word) = Some base
 base_of says = None
 
--- an instruction is there, and something holds of the word of its form
-abbrev pub holds_of : (holds : (base : ℕ) → Bool) → Option ℕ → Bool
+-- an instruction is there, and something holds of it
+abbrev pub holds_of : (holds : Option Instr → Bool) → Option ℕ → Bool
 holds_of holds None = false
-holds_of holds (Some base) = holds base
+holds_of holds (Some base) = holds (decode_of base)
 
 -- the address in an instruction's word
 abbrev pub target_of : Says → ℕ

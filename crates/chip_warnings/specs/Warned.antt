@@ -1,5 +1,5 @@
 -- Which lines have which warnings (own).
-use Rattle.std.specs.Prelude.{ℕ, ◌+◌, ◌%◌, ◌==◌, ◌&&◌, ◌||◌, not, Bool, true, false, List, [], ◌∷◌, length, map, filter, is_none, reverse, take, Option, Some, None, slice_get, slice_index_or}
+use Rattle.std.specs.Prelude.{ℕ, ◌+◌, ◌%◌, ◌==◌, ◌&&◌, not, Bool, true, false, List, [], ◌∷◌, length, map, filter, is_none, reverse, take, Option, Some, None, slice_get, slice_index_or}
 use Rattle.std.specs.List.{flat_map, range_with_len}
 use Rattle.chip_machine.specs.declared.quirks.Quirks.{Quirks}
 use Rattle.chip_warnings.specs.declared.coverage.Coverage.{Coverage}
@@ -13,8 +13,9 @@ use Rattle.chip_warnings.specs.declared.warning.Warning.{Warning}
 use Rattle.chip_warnings.specs.declared.warning.WarningCode.{WarningCode}
 use Rattle.chip_warnings.specs.declared.warning.WarningCode.TheVariants.{SplitRows, UnusedName, Unreachable, FallsIntoData, JumpsToData, OddAddress, NotInProfile, NeverExecuted, Property}
 use Rattle.chip_warnings.specs.Seen.{base_of, holds_of, is_code, is_data, seen_lines, target_of}
+use Rattle.chip_warnings.specs.Instructions.{goes_elsewhere, is_super_instruction, leads_to_one}
 use Rattle.chip_warnings.specs.Marked.{Marked, marked_by}
-use Rattle.chip_warnings.specs.Reach.{base_before, flow_after, goes_elsewhere, reach_at}
+use Rattle.chip_warnings.specs.Reach.{base_before, flow_after, reach_at}
 use Rattle.chip_warnings.specs.Warnings.{is_switched_off}
 
 -- ---- each kind, at a line, by what is known from the lines above it
@@ -63,25 +64,19 @@ is_unreachable marked flow s =
 abbrev pub falls_into_data : Marked → Flow → Seen → Bool
 falls_into_data marked flow s =
     is_data s.says && is_coming flow.reach
-    && holds_of (λ base. not (goes_elsewhere base)) (base_before flow.last s.address)
+    && holds_of (λ instr. not (goes_elsewhere instr)) (base_before flow.last s.address)
     && not marked.writes_code
 
 -- W5: JP or CALL to data
 abbrev pub jumps_to_data : Marked → Seen → Bool
 jumps_to_data marked s =
-    holds_of (λ base. base == 4096 || base == 8192) (base_of s.says)
+    holds_of leads_to_one (base_of s.says)
     && marked.data_at (target_of s.says)
 
 -- W6: an instruction at an odd address, unless one stands directly before it
 abbrev pub is_at_odd_address : Flow → Seen → Bool
 is_at_odd_address flow s =
     is_code s.says && is_odd s.address && is_none (base_before flow.last s.address)
-
--- SCD, SCR, SCL, EXIT, LOW, HIGH, LD HF, LD R
-abbrev pub is_super_instruction : (base : ℕ) → Bool
-is_super_instruction base =
-    base == 192 || base == 251 || base == 252 || base == 253 || base == 254 || base == 255
-    || base == 61488 || base == 61557 || base == 61573
 
 -- W7: an instruction that the machine doesn't have
 abbrev pub is_not_in_profile : Quirks → Seen → Bool

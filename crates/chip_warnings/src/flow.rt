@@ -1,12 +1,16 @@
 //! Where execution comes, line after line.
 
 ghost use Rattle.std.specs.Prelude.{◌≡◌, ◌∷◌, [], List, ℕ, Bool, Some, false, not, is_some};
-ghost use Rattle.chip_warnings.specs.Reach.{base_before, comes_next, flow_after, goes_elsewhere, may_skip, reach_at, reach_past};
+ghost use Rattle.chip_warnings.specs.Instructions.{goes_elsewhere, may_skip};
+ghost use Rattle.chip_warnings.specs.Reach.{base_before, comes_next, flow_after, reach_at, reach_past};
 ghost use Rattle.chip_warnings.specs.Seen.{holds_of};
-ghost use Rattle.chip_warnings.specs.Warned.{falls_into_data, has_warning, is_at_odd_address, is_not_in_profile, is_super_instruction, is_unreachable, jumps_to_data, splits_rows};
+ghost use Rattle.chip_warnings.specs.Warned.{falls_into_data, has_warning, is_at_odd_address, is_not_in_profile, is_unreachable, jumps_to_data, splits_rows};
 ghost use Rattle.chip_warnings.specs.inner.Noted.{marked_in};
 
 use crate::coverage::Coverage;
+use crate::instruction::{
+    goes_elsewhere, is_super_instruction, jumps_by_table, leads_to_one, may_skip,
+};
 use crate::marks::Marks;
 use crate::seen::{Says, Seen};
 use crate::warning::WarningCode;
@@ -90,8 +94,7 @@ impl Flow {
         };
         if goes_elsewhere(base) && !may_be_skipped {
             Reach::Never
-        } else if base == 0xB000 {
-            // JP V0: a table may follow
+        } else if jumps_by_table(base) {
             Reach::Unsure
         } else {
             Reach::Comes
@@ -196,7 +199,7 @@ impl Flow {
 
     /// Whether directly before an address stands an instruction that doesn't go elsewhere.
     fn is_run_past(&self, address: usize) -> bool
-        ensures { result ≡ holds_of (λ base. not (goes_elsewhere base))
+        ensures { result ≡ holds_of (λ instr. not (goes_elsewhere instr))
             (base_before self.now.last address) }
     {
         match self.base_before(address) {
@@ -218,8 +221,7 @@ pub(crate) fn data_line(marks: &Marks, seen: &Seen) -> Option<usize>
     ensures { is_some result ≡ jumps_to_data (marked_in marks.now) seen.now }
 {
     match seen.says.base() {
-        // JP, CALL
-        Some(base) if base == 0x1000 || base == 0x2000 => marks.data_at(seen.says.target()),
+        Some(base) if leads_to_one(base) => marks.data_at(seen.says.target()),
         _ => None,
     }
 }
@@ -235,28 +237,4 @@ fn is_not_in_profile(quirks: Quirks, seen: &Seen) -> bool
         Some(base) => is_super_instruction(base),
         None => false,
     }
-}
-
-/// Whether an instruction is one of SUPER-CHIP: SCD, SCR, SCL, EXIT, LOW, HIGH, LD HF, LD R.
-fn is_super_instruction(base: u16) -> bool
-    ensures { result ≡ is_super_instruction base }
-{
-    matches!(
-        base,
-        0x00C0 | 0x00FB | 0x00FC | 0x00FD | 0x00FE | 0x00FF | 0xF030 | 0xF075 | 0xF085
-    )
-}
-
-/// Whether an instruction goes elsewhere: JP, RET, EXIT.
-fn goes_elsewhere(base: u16) -> bool
-    ensures { result ≡ goes_elsewhere base }
-{
-    matches!(base, 0x1000 | 0x00EE | 0x00FD)
-}
-
-/// Whether an instruction may skip the next one: SE, SNE, SKP, SKNP.
-fn may_skip(base: u16) -> bool
-    ensures { result ≡ may_skip base }
-{
-    matches!(base, 0x3000 | 0x4000 | 0x5000 | 0x9000 | 0xE09E | 0xE0A1)
 }

@@ -3,6 +3,7 @@
 
 mod coverage;
 mod flow;
+mod instruction;
 mod marks;
 mod report;
 mod seen;

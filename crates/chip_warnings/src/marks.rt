@@ -1,12 +1,13 @@
 //! What instructions do with the addresses that they name.
 
-ghost use Rattle.std.specs.Prelude.{◌≡◌, ◌<◌, ◌≤◌, ◌+◌, ◌&&◌, ◌||◌, ℕ, IfOk, IfSome, length, nat_lt, slice_index, is_some};
+ghost use Rattle.std.specs.Prelude.{◌≡◌, ◌<◌, ◌≤◌, ◌+◌, ◌&&◌, ◌||◌, ℕ, IfOk, length, nat_lt, slice_index, is_some};
 ghost use Rattle.std.specs.List.{list_any};
 ghost use Rattle.chip_lang.specs.declared.limits.TheConstants.{MEMORY_BYTES};
 ghost use Rattle.chip_warnings.specs.Seen.{base_of, is_code};
 ghost use Rattle.chip_warnings.specs.Marked.{is_among, is_data_at, is_store, marked_by, names_at, places_named, places_of, has_store};
 ghost use Rattle.chip_warnings.specs.inner.Noted.{flag, marked_in};
 
+use crate::instruction::{jumps_by_table, leads_to_one, points, stores};
 use crate::seen::Seen;
 use chip_lang::limits::MEMORY_BYTES;
 use std::alloc::{AllocError, Global};
@@ -119,11 +120,9 @@ fn places_of(naming: Naming, seen: &Seen) -> usize
     ensures bound { result ≤ 256 }
 {
     match (naming, seen.says.base()) {
-        // JP, CALL, JP V0
-        (Naming::Jump, Some(base)) if base == 0x1000 || base == 0x2000 => 1,
-        (Naming::Jump, Some(base)) if base == 0xB000 => 256,
-        // LD I
-        (Naming::Point, Some(base)) if base == 0xA000 => 1,
+        (Naming::Jump, Some(base)) if leads_to_one(base) => 1,
+        (Naming::Jump, Some(base)) if jumps_by_table(base) => 256,
+        (Naming::Point, Some(base)) if points(base) => 1,
         _ => 0,
     }
 }
@@ -140,8 +139,7 @@ fn is_store(seen: &Seen) -> bool
     ensures { result ≡ is_store seen.now }
 {
     match seen.says.base() {
-        // LD B, LD [I]
-        Some(base) => base == 0xF033 || base == 0xF055,
+        Some(base) => stores(base),
         None => false,
     }
 }

@@ -14,8 +14,8 @@ use crate::seen::Seen;
 use crate::survey::Survey;
 use crate::text::{fault_there, help, sentence};
 use crate::warning::{CODES, Warning, WarningCode};
-use chip_asm::Source;
-use chip_lang::{Span, fault_span};
+use chip_asm::{LineView, Source};
+use chip_lang::Span;
 use chip_machine::Quirks;
 use chip_properties::{PropertyFault, properties_of};
 use std::alloc::{AllocError, Global};
@@ -52,8 +52,7 @@ pub fn warnings(
     let mut flow = Flow::start();
     let mut faults = properties.faults.as_slice();
     for place in 0..source.lines() {
-        let number = place + 1;
-        if let Some(line) = source.line(number) {
+        if let Some(line) = source.line(place + 1) {
             let seen = survey.line(place);
             let judge = Judge {
                 marks: &survey.marks,
@@ -62,9 +61,8 @@ pub fn warnings(
                 allowed,
                 coverage,
             };
-            let bytes = line.text();
-            judge.push_warnings(alloc, &mut warnings, number, bytes, &seen)?;
-            faults = judge.push_fault_at(alloc, &mut warnings, faults, number, bytes)?;
+            judge.push_warnings(alloc, &mut warnings, &line, &seen)?;
+            faults = judge.push_fault_at(alloc, &mut warnings, faults, &line)?;
             flow = flow.after(&survey.marks, &seen);
         }
     }
@@ -82,24 +80,23 @@ pub(crate) struct Judge<'a> {
 }
 
 impl<'a> Judge<'a> {
-    /// Adds the warnings of the line of a number.
+    /// Adds the warnings of a line.
     fn push_warnings(
         &self,
         alloc: Global,
         warnings: &mut Vec<Warning>,
-        number: usize,
-        line: &[u8],
+        line: &LineView<'_>,
         seen: &Seen,
     ) -> Result<(), AllocError>
-        ensures adds { OnOk result (Adds (StandsAt self.now.allowed number line.now)
+        ensures adds { OnOk result (Adds (StandsAt self.now.allowed line.now.number line.now.text)
             warnings.old.items warnings.new.items) }
         ensures told { OnOk result (kinds_told warnings.new.items
-            ≡ kinds_told warnings.old.items ++ map (λ kind. (number, kind))
+            ≡ kinds_told warnings.old.items ++ map (λ kind. (line.now.number, kind))
             (kinds_on (asked_by self.now) (marked_in self.now.marks.now) self.now.flow.now seen.now)) }
     {
         for code in CODES {
             if self.has(*code, seen) {
-                let warning = self.warning(alloc, *code, number, line, seen)?;
+                let warning = self.warning(alloc, *code, line, seen)?;
                 warnings.push(warning)?;
             }
         }
@@ -119,24 +116,23 @@ impl<'a> Judge<'a> {
                 .has(code, self.marks, seen, self.quirks, self.coverage)
     }
 
-    /// The warning of a kind of the line of a number.
+    /// The warning of a kind of a line.
     fn warning(
         &self,
         alloc: Global,
         code: WarningCode,
-        number: usize,
-        line: &[u8],
+        line: &LineView<'_>,
         seen: &Seen,
     ) -> Result<Warning, AllocError>
         requires { is_switched_off self.now.allowed code ≡ false }
-        ensures stands { IfOk result (StandsAt self.now.allowed number line.now) }
+        ensures stands { IfOk result (StandsAt self.now.allowed line.now.number line.now.text) }
         ensures kind { IfOk result (λ warning. warning.code ≡ code) }
     {
-        let span = fault_span(alloc, line, fault_there(code))?;
-        let sentence = sentence(alloc, code, line, span, seen, self)?;
+        let span = line.span_of(alloc, fault_there(code))?;
+        let sentence = sentence(alloc, code, line.text(), span, seen, self)?;
         let help = Vec::from_slice(alloc, help(code))?;
         Ok(Warning {
-            line: number,
+            line: line.number(),
             span,
             code,
             sentence,
@@ -144,18 +140,17 @@ impl<'a> Judge<'a> {
         })
     }
 
-    /// Adds the first of some faults of properties, where it stands on the line of a number, and tells
-    /// which ones stand on later lines.
+    /// Adds the first of some faults of properties, where it stands on the line, and tells which ones
+    /// stand on later lines.
     #[tactic(auto, using(crate::proofs::Placed::adds_none))]
     fn push_fault_at<'b>(
         &self,
         alloc: Global,
         warnings: &mut Vec<Warning>,
         faults: &'b [PropertyFault],
-        number: usize,
-        line: &[u8],
+        line: &LineView<'_>,
     ) -> Result<&'b [PropertyFault], AllocError>
-        ensures adds { OnOk result (Adds (StandsAt self.now.allowed number line.now)
+        ensures adds { OnOk result (Adds (StandsAt self.now.allowed line.now.number line.now.text)
             warnings.old.items warnings.new.items) }
         ensures told { OnOk result
             (kinds_told warnings.new.items ≡ kinds_told warnings.old.items) }
@@ -163,24 +158,23 @@ impl<'a> Judge<'a> {
         let Some((fault, later)) = faults.split_first() else {
             return Ok(faults);
         };
-        if fault.line != number {
+        if fault.line != line.number() {
             return Ok(faults);
         }
-        self.push_fault(alloc, warnings, fault, number, line)?;
+        self.push_fault(alloc, warnings, fault, line)?;
         Ok(later)
     }
 
-    /// Adds the fault of a property that stands on the line of a number, unless it is switched off.
+    /// Adds the fault of a property that stands on the line, unless it is switched off.
     #[tactic(auto, using(crate::proofs::Placed::adds_none))]
     fn push_fault(
         &self,
         alloc: Global,
         warnings: &mut Vec<Warning>,
         fault: &PropertyFault,
-        number: usize,
-        line: &[u8],
+        line: &LineView<'_>,
     ) -> Result<(), AllocError>
-        ensures adds { OnOk result (Adds (StandsAt self.now.allowed number line.now)
+        ensures adds { OnOk result (Adds (StandsAt self.now.allowed line.now.number line.now.text)
             warnings.old.items warnings.new.items) }
         ensures told { OnOk result
             (kinds_told warnings.new.items ≡ kinds_told warnings.old.items) }
@@ -189,9 +183,9 @@ impl<'a> Judge<'a> {
         if code.is_switched_off(self.allowed) {
             return Ok(());
         }
-        let end = fault.span.end.min(line.len());
+        let end = fault.span.end.min(line.text().len());
         let warning = Warning {
-            line: number,
+            line: line.number(),
             span: Span {
                 start: fault.span.start.min(end),
                 end,

@@ -3,7 +3,7 @@
 ghost use Rattle.std.specs.Prelude.{◌≡◌, ◌<◌, ◌∷◌, [], List, ℕ, IfOk, OnOk, Some, slice_get, vec_len};
 ghost use Rattle.chip_lang.specs.SeenLine.{seen_line};
 ghost use Rattle.chip_lang.specs.Uses.{names_used};
-ghost use Rattle.chip_warnings.specs.Seen.{is_meant, is_needless, is_unused, is_used, names_asked, names_of_line, seen_lines, seen_of};
+ghost use Rattle.chip_warnings.specs.Seen.{is_meant, is_unused, is_used, names_asked, names_of_line, seen_lines, seen_of};
 ghost use Rattle.chip_warnings.specs.Marked.{marked_by};
 ghost use Rattle.chip_warnings.specs.inner.Noted.{Has, Knows, marked_in};
 

@@ -4,6 +4,7 @@ ghost use Rattle.std.specs.Prelude.{◌≤◌, length};
 
 use crate::coverage::Coverage;
 use crate::flow::data_line;
+use crate::instruction::goes_elsewhere;
 use crate::marks::Marks;
 use crate::report::Judge;
 use crate::seen::{Says, Seen};
@@ -62,8 +63,8 @@ pub(crate) fn sentence(
 
 /// Says where a JP or CALL leads.
 fn jump_sentence(alloc: Global, seen: &Seen, marks: &Marks) -> Result<String, AllocError> {
-    let name = match seen.says {
-        Says::Code { base: 0x1000, .. } => "JP",
+    let name = match seen.says.base() {
+        Some(base) if goes_elsewhere(base) => "JP",
         _ => "CALL",
     };
     let target = data_line(marks, seen).unwrap_or(0);

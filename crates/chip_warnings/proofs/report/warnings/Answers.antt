@@ -1,11 +1,11 @@
-use Rattle.std.proofs.Common.{◌≡◌, ◌∙◌, ◌<◌, ◌-◌, ◌+◌, ◌∷◌, ℕ, List, Some, IfSome, length, ap, arith, slice_get, subst, sym, take, reverse}
+use Rattle.std.proofs.Common.{◌≡◌, ◌∙◌, ◌<◌, ◌≤◌, ◌-◌, ◌+◌, ◌++◌, ◌∷◌, ℕ, List, Some, IfSome, length, ap, arith, map, slice_get, subst, sym, take, reverse}
 use Rattle.std.specs.List.{flat_map, range_with_len}
 use Rattle.chip_asm.specs.LineViews.{LineFacts, line_facts}
 use Rattle.chip_warnings.specs.declared.seen.Seen.{Seen}
 use Rattle.chip_warnings.specs.Marked.{Marked, marked_by}
 use Rattle.chip_warnings.specs.Reach.{flow_after}
 use Rattle.chip_warnings.specs.Seen.{seen_lines}
-use Rattle.chip_warnings.specs.Warned.{kinds_told, warned, warned_at}
+use Rattle.chip_warnings.specs.Warned.{kinds_on, kinds_told, warned, warned_at}
 use Rattle.chip_warnings.specs.inner.Noted.{marked_in}
 use Rattle.chip_asm.proofs.ListingSteps.{past-rows}
 use Rattle.chip_asm.proofs.WholeImage.{line-at-place}
@@ -30,15 +30,19 @@ loop-place-preserved c =
           let marked : Marked = marked_in c.in_ok-survey.survey.marks in
           let at : slice_get lines place ≡ Some s = ap (λ l. slice_get l place) (sym c.in_ok-survey.ensures.lines) ∙ w.line-seen.ensures in
           let same : marked ≡ marked_by lines = c.in_ok-survey.ensures.marks in
-          let text : slice_get texts (place + 1 - 1) ≡ Some w.in-Some.line.text = subst (λ o. IfSome o (λ (f : LineFacts). slice_get texts (place + 1 - 1) ≡ Some f.text)) w.in-Some.is c.line.ensures.text in
-          let there : slice_get texts (place + 1 - 1) ≡ Some w.text-bytes.result.now = text ∙ ap Some (sym w.text-bytes.ensures) in
+          let line : LineFacts = w.in-Some.line in
+          let number : line.number ≡ place + 1 = subst (λ o. IfSome o (λ (f : LineFacts). f.number ≡ place + 1)) w.in-Some.is c.line.ensures.number in
+          let text : slice_get texts (place + 1 - 1) ≡ Some line.text = subst (λ o. IfSome o (λ (f : LineFacts). slice_get texts (place + 1 - 1) ≡ Some f.text)) w.in-Some.is c.line.ensures.text in
+          let there : slice_get texts (line.number - 1) ≡ Some line.text = ap (λ n. slice_get texts (n - 1)) number ∙ text in
+          let low : 1 ≤ line.number = omega (arith, number) in
           record {
-            placed = rw w.warnings-is (next_placed c.args.allowed texts (place + 1) w.text-bytes.result.now (omega arith) there _ _
-                (next_placed c.args.allowed texts (place + 1) w.text-bytes.result.now (omega arith) there _ _ c.loop-place.invariant.placed w.in_ok-push_warnings.ensures.adds)
+            placed = rw w.warnings-is (next_placed c.args.allowed texts line.number line.text low there _ _
+                (next_placed c.args.allowed texts line.number line.text low there _ _ c.loop-place.invariant.placed w.in_ok-push_warnings.ensures.adds)
                 w.in_ok-faults.ensures.adds);
             told = ap (λ v. kinds_told v.items) w.warnings-is
                 ∙ warned-next (record { allowed = c.args.allowed; quirks = c.args.quirks; coverage = c.args.coverage }) lines place s marked c.loop-place.flow _ _ at same c.loop-place.invariant.flow c.loop-place.invariant.told
-                (w.in_ok-faults.ensures.told ∙ w.in_ok-push_warnings.ensures.told);
+                (w.in_ok-faults.ensures.told ∙ w.in_ok-push_warnings.ensures.told
+                ∙ ap (λ n. kinds_told c.loop-place.warnings.items ++ map (λ kind. (n, kind)) (kinds_on (record { allowed = c.args.allowed; quirks = c.args.quirks; coverage = c.args.coverage }) marked c.loop-place.flow s)) number);
             flow = w.flow-is
                 ∙ w.after-flow.ensures above (c.loop-place.invariant.flow ∙ ap (λ (m : Marked). flow_after m.jumped above) (sym same))
                 ∙ ap (λ (m : Marked). flow_after m.jumped (s ∷ above)) same

@@ -35,15 +35,15 @@ loop-code-preserved c =
           record {
             adds = rw w.warnings-is (adds_one _ _ _ _ _ c.loop-code.invariant.adds w.in_ok-push.ensures.items w.in_ok-warning.ensures.stands);
             told = ap (λ v. kinds_told v.items) w.warnings-is
-                ∙ told-next c.args.number test kinds i SplitRows _ (kinds_told was) _ true c.loop-code-test.true c.loop-code.invariant.told yes
-                (told-more was _ new w.in_ok-push.ensures.items ∙ ap (λ t. kinds_told was ++ t) (kind-told new c.args.number kind w.in_ok-warning.ensures.stands.there w.in_ok-warning.ensures.kind plain));
+                ∙ told-next c.args.line.now.number test kinds i SplitRows _ (kinds_told was) _ true c.loop-code-test.true c.loop-code.invariant.told yes
+                (told-more was _ new w.in_ok-push.ensures.items ∙ ap (λ t. kinds_told was ++ t) (kind-told new c.args.line.now.number kind w.in_ok-warning.ensures.stands.there w.in_ok-warning.ensures.kind plain));
           }
       | else-has w ↦
           let no : test kind ≡ false = sym value ∙ w.if-has.false in
           record {
             adds = rw w.warnings-is c.loop-code.invariant.adds;
             told = ap (λ v. kinds_told v.items) w.warnings-is
-                ∙ told-next c.args.number test kinds i SplitRows _ (kinds_told was) _ false c.loop-code-test.true c.loop-code.invariant.told no (sym (append-nil (kinds_told was)));
+                ∙ told-next c.args.line.now.number test kinds i SplitRows _ (kinds_told was) _ false c.loop-code-test.true c.loop-code.invariant.told no (sym (append-nil (kinds_told was)));
           }
     ]
 
@@ -54,4 +54,4 @@ returns-clause-told c =
     let marked : Marked = marked_in c.args.self.now.marks.now in
     let test : WarningCode → Bool = λ k. not (is_switched_off asked.allowed k) && has_warning asked marked c.args.self.now.flow.now c.args.seen.now k in
     c.loop-code.invariant.told
-    ∙ ap (λ ks. kinds_told c.args.warnings.now.items ++ map (λ kind. (c.args.number, kind)) (filter test ks)) (take_all c.loop-code.code-index kinds c.loop-code-test.false)
+    ∙ ap (λ ks. kinds_told c.args.warnings.now.items ++ map (λ kind. (c.args.line.now.number, kind)) (filter test ks)) (take_all c.loop-code.code-index kinds c.loop-code-test.false)

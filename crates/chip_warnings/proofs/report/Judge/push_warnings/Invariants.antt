@@ -8,9 +8,9 @@ use Rattle.chip_warnings.proofs.report.Judge.push_warnings.Given as goal
 
 abbrev pub invariant-loop-code : goal.invariant-loop-code
 invariant-loop-code l = record {
-  adds : Adds (StandsAt l.self.allowed l.number l.line) l.initial.warnings.items l.warnings.items;
+  adds : Adds (StandsAt l.self.allowed l.line.number l.line.text) l.initial.warnings.items l.warnings.items;
   told : kinds_told l.warnings.items ≡ kinds_told l.initial.warnings.items
-      ++ map (λ kind. (l.number, kind))
+      ++ map (λ kind. (l.line.number, kind))
       (filter (λ kind. not (is_switched_off l.self.allowed kind) && has_warning (asked_by l.self) (marked_in l.self.marks.now) l.self.flow.now l.seen kind)
       (take l.code-index kinds));
 }

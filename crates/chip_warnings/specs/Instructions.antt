@@ -1,0 +1,56 @@
+-- What instructions do that warnings ask of them (COSMAC VIP manual; SUPER-CHIP 1.1).
+use Rattle.std.specs.Prelude.{Bool, true, false, Option, Some}
+use Rattle.chip_lang.specs.declared.instr.Instr.{Instr}
+use Rattle.chip_lang.specs.declared.instr.Instr.TheVariants as instr
+
+-- JP, RET, EXIT go elsewhere
+abbrev pub goes_elsewhere : Option Instr → Bool
+goes_elsewhere (Some (instr.Jump a)) = true
+goes_elsewhere (Some instr.Return) = true
+goes_elsewhere (Some instr.Exit) = true
+goes_elsewhere other = false
+
+-- SE, SNE, SKP, SKNP may skip the next instruction
+abbrev pub may_skip : Option Instr → Bool
+may_skip (Some (instr.SkipIfByte x byte)) = true
+may_skip (Some (instr.SkipUnlessByte x byte)) = true
+may_skip (Some (instr.SkipIfEqual x y)) = true
+may_skip (Some (instr.SkipUnlessEqual x y)) = true
+may_skip (Some (instr.SkipIfKey x)) = true
+may_skip (Some (instr.SkipUnlessKey x)) = true
+may_skip other = false
+
+-- JP, CALL lead to one place
+abbrev pub leads_to_one : Option Instr → Bool
+leads_to_one (Some (instr.Jump a)) = true
+leads_to_one (Some (instr.Call a)) = true
+leads_to_one other = false
+
+-- JP V0 leads to one of 256, among which a table may follow
+abbrev pub jumps_by_table : Option Instr → Bool
+jumps_by_table (Some (instr.JumpOffset a)) = true
+jumps_by_table other = false
+
+-- LD I points at bytes
+abbrev pub points : Option Instr → Bool
+points (Some (instr.LoadIndex a)) = true
+points other = false
+
+-- LD B, Vx and LD [I], Vx write into the memory
+abbrev pub stores : Option Instr → Bool
+stores (Some (instr.StoreDecimal x)) = true
+stores (Some (instr.StoreRegisters x)) = true
+stores other = false
+
+-- SCD, SCR, SCL, EXIT, LOW, HIGH, LD HF, LD R are those that SUPER-CHIP added
+abbrev pub is_super_instruction : Option Instr → Bool
+is_super_instruction (Some (instr.ScrollDown n)) = true
+is_super_instruction (Some instr.ScrollRight) = true
+is_super_instruction (Some instr.ScrollLeft) = true
+is_super_instruction (Some instr.Exit) = true
+is_super_instruction (Some instr.LowSize) = true
+is_super_instruction (Some instr.HighSize) = true
+is_super_instruction (Some (instr.BigDigit x)) = true
+is_super_instruction (Some (instr.StoreFlags x)) = true
+is_super_instruction (Some (instr.LoadFlags x)) = true
+is_super_instruction other = false
