@@ -10,7 +10,7 @@ use Rattle.std.specs.Borrow.{Bor}
 use Rattle.chip_asm.specs.Lines.{lines_of, open_fault}
 use Rattle.chip_asm.specs.Program.{image_of, symbols_of}
 use Rattle.chip_analysis.specs.Checking.{IsPrintedCheckOf, with_ending, paints}
-use Rattle.chip_host.specs.Printing.{Printed, IfOpens, Streams, WritesFront, PrintsSuch, Prints, printed_faults, printed, Fails}
+use Rattle.chip_host.specs.Printing.{Printed, IfOpens, Streams, WritesFront, PrintsSuch, Prints, printed_faults, Fails}
 use Rattle.chip_host.specs.SettingArguments.{settings_asked}
 use Rattle.chip_session.specs.Settings.{SessionSettings}
 use Rattle.chip_session.specs.Tally.{Tally}

@@ -1,9 +1,9 @@
 //! Where in a source a search found what it looked for.
 ghost use Rattle.std.specs.Prelude.{◌<◌};
 
-use chip_asm::Source;
+use chip_asm::{LineView, Source};
 use chip_explore::{KeyEvent, Met, Outcome};
-use chip_lang::tokens;
+use chip_lang::Kind;
 use chip_machine::Machine;
 use chip_replay::{AtError, KeyFault, LEAST_SPACING, Replay};
 use chip_trace::push_decimal;
@@ -46,7 +46,7 @@ pub(crate) fn place_text(
             text.extend_from_slice(b", line ")?;
             push_decimal(&mut text, number as u64)?;
             text.extend_from_slice(b": ")?;
-            text.extend_from_slice(statement_of(alloc, line.text())?)?;
+            text.extend_from_slice(statement_of(alloc, &line)?)?;
             break;
         }
     }
@@ -79,12 +79,12 @@ fn address_at(
 }
 
 // The text of a line's statement, from its first token behind a label to its last, which no comment is.
-fn statement_of(alloc: Global, line: &[u8]) -> Result<&[u8], AllocError> {
-    let tokens = tokens(alloc, line)?;
+fn statement_of<'a>(alloc: Global, line: &LineView<'a>) -> Result<&'a [u8], AllocError> {
+    let tokens = line.tokens(alloc)?;
     let start = match (tokens.get(1), tokens.get(2)) {
-        (Some(colon), Some(first)) if line.get(colon.start) == Some(&b':') => first.start,
+        (Some(colon), Some(first)) if colon.kind == Kind::Sign(b':') => first.start,
         _ => tokens.first().map_or(0, |first| first.start),
     };
     let end = tokens.last().map_or(0, |last| last.end);
-    Ok(line.get(start..end).unwrap_or(b""))
+    Ok(line.text().get(start..end).unwrap_or(b""))
 }

@@ -1,5 +1,5 @@
 -- The names that help looks up, and their symbols.
-use Rattle.std.proofs.Common.{◌≡◌, ◌∙◌, ℕ, cond, Bool, true, false, true≢false, is_some, List, [], ◌∷◌, ◌++◌, map, refl, ap, sym, subst, Option, None, Some, option_map, not, ◌&&◌, nat_le, if◌then◌else◌}
+use Rattle.std.proofs.Common.{◌≡◌, ◌∙◌, ℕ, cond, Bool, true, false, true≢false, is_some, List, [], ◌∷◌, ◌++◌, length, map, refl, ap, sym, subst, Option, None, Some, option_map, not, ◌&&◌, nat_le, if◌then◌else◌}
 use Rattle.std.specs.FinMap as finite
 use Rattle.std.specs.Global.{Vec}
 use Rattle.std.specs.Map.{lookup}
@@ -8,12 +8,15 @@ use Rattle.std.specs.Str.{bytes_eq}
 use Rattle.std.proofs.lemmas.Cmp.{nat_list_cmp_total}
 use Rattle.std.proofs.lemmas.Slice.Eq.{bytes_eq-Decides}
 use Rattle.chip_lang.specs.FaultPlace.{name_of_token}
-use Rattle.chip_lang.specs.Line.{upper}
+use Rattle.chip_lang.specs.Line.{reading_of, upper}
+use Rattle.chip_lang.specs.declared.fault_place.Span.{Span}
 use Rattle.chip_lang.specs.declared.token.Token.{Token}
+use Rattle.chip_lang.specs.computed.Tokens.{tokens_of}
 use Rattle.chip_symbols.specs.declared.table.Symbol.{Symbol}
 use Rattle.chip_symbols.specs.Names.{Name, lookup_name, values_of}
 use Rattle.chip_symbols.proofs.NameValues.{value-of-name}
-use Rattle.chip_check.specs.Place.{first_unknown, is_seen_symbol, is_unknown_name}
+use Rattle.chip_check.specs.Place.{first_unknown, is_seen_symbol, is_unknown_name, last_seen, or_span, undefined_place}
+use Rattle.chip_asm.specs.Program.{symbols_of}
 use Rattle.chip_check.specs.inner.Known.{Agree, listed}
 
 pub ruleset known_names = (value-of-name)
@@ -64,3 +67,9 @@ pub same-unknown : (xs ys : List (Name × Symbol)) (last : ℕ) (line : List ℕ
 same-unknown xs ys last line place [] agree = refl
 same-unknown xs ys last line place (t ∷ ts) agree =
     λ j. if nat_le place t.start && unknown-name xs ys last agree (name_of_token line t) j then Some (record { start = t.start; end = t.end }) else same-unknown xs ys last line place ts agree j
+
+-- and so the same place of the first one
+pub place_by : (names : List (Name × Symbol)) (lines : List (List ℕ)) (number : ℕ) (line : List ℕ) (span : Span) (found : Option Span) → Agree names (symbols_of lines)
+    → first_unknown names (last_seen number (length lines) (reading_of line)) line span.start (tokens_of line) ≡ found → or_span found span ≡ undefined_place lines number line span
+place_by names lines number line span found agree is =
+    ap (λ o. or_span o span) (sym is ∙ same-unknown names (symbols_of lines) (last_seen number (length lines) (reading_of line)) line span.start (tokens_of line) agree)

@@ -5,46 +5,51 @@ use crate::hint::{Hint, push_formatted, push_help, push_note, push_sentence};
 use crate::known::Known;
 use crate::operand_advice::{REGISTERS, is_like_register, out_of_range, wrong_operands};
 use crate::other_assemblers::{Radix, other_number, other_word};
-use crate::place::read;
-use crate::words::{has_twice, is_one_of, is_register, is_special, is_word, words_of};
+use crate::place::tokens_after;
+use crate::words::{Word, has_twice, is_one_of, is_register, is_special, words_of};
+use chip_asm::{LineView, OpenError, Source};
 use chip_lang::limits::{IMAGE_BYTES, IMAGE_START, NAME_BYTES};
-use chip_lang::{Fault, Line};
+use chip_lang::{Fault, Kind, Line, Token};
 use std::alloc::{AllocError, Global};
 
-/// A line with a fault, and its tokens.
+/// A line with a fault, and its words.
 #[derive(Clone, Copy)]
 struct FaultyLine<'a> {
-    number: usize,
-    line: &'a [u8],
-    /// The line from the place of the fault on.
+    line: &'a LineView<'a>,
+    /// The text from the place of the fault on.
     text: &'a [u8],
-    /// The tokens of the line, in upper case.
-    words: &'a [&'a [u8]],
-    /// Those of the text.
-    rest: &'a [&'a [u8]],
+    words: &'a [Word<'a>],
+    /// Those from the place of the fault on.
+    rest: &'a [Word<'a>],
 }
 
-/// Adds the help for a fault of the line of a number, which lies at a place of the line.
-pub(crate) fn push_advice(
+/// The help for a fault of a line of these tokens, which lies at a place of the line.
+pub(crate) fn advice_on(
     alloc: Global,
-    hints: &mut Vec<Hint>,
     known: &Known,
-    number: usize,
-    line: &[u8],
+    line: &LineView<'_>,
+    tokens: &[Token],
     fault: Fault,
     place: usize,
-) -> Result<(), AllocError> {
-    let upper = line.to_ascii_uppercase(alloc)?;
-    let words = words_of(alloc, &upper)?;
-    let rest = words_of(alloc, upper.get(place..).unwrap_or(&[]))?;
+) -> Result<Vec<Hint>, AllocError> {
+    let text = line.text();
+    let upper = text.to_ascii_uppercase(alloc)?;
+    let words = words_of(alloc, &upper, tokens)?;
+    let before = words
+        .len()
+        .saturating_sub(tokens_after(place, tokens).len());
+    let (_, text) = text.split_at(place.min(text.len()));
+    let rest = words.get(before..).unwrap_or(&[]);
+    let words = words.as_slice();
     let faulty = FaultyLine {
-        number,
         line,
-        text: line.get(place..).unwrap_or(&[]),
-        words: &words,
-        rest: &rest,
+        text,
+        words,
+        rest,
     };
-    push_fault_advice(alloc, hints, known, fault, faulty)
+    let mut hints = Vec::new(alloc);
+    push_fault_advice(alloc, &mut hints, known, fault, faulty)?;
+    Ok(hints)
 }
 
 fn push_fault_advice(
@@ -55,8 +60,8 @@ fn push_fault_advice(
     faulty: FaultyLine<'_>,
 ) -> Result<(), AllocError> {
     match fault {
-        Fault::UndefinedName => undefined_name(alloc, hints, known, faulty.number, faulty.rest),
-        Fault::OutOfRange => out_of_range(alloc, hints, known, faulty.line),
+        Fault::UndefinedName => undefined_name(alloc, hints, known, faulty),
+        Fault::OutOfRange => out_of_range(alloc, hints, known, faulty.line.reading()),
         Fault::DefinedTwice => defined_twice(alloc, hints, known, faulty.rest),
         _ => push_line_advice(alloc, hints, fault, faulty),
     }
@@ -107,7 +112,7 @@ fn bad_character(
     hints: &mut Vec<Hint>,
     faulty: FaultyLine<'_>,
 ) -> Result<(), AllocError> {
-    let sentence = sentence_for_file(faulty.line);
+    let sentence = sentence_for_file(faulty.line.text());
     if sentence.is_some() {
         return push_sentence(alloc, hints, sentence);
     }
@@ -135,7 +140,7 @@ fn sentence_for_file(line: &[u8]) -> Option<&'static str> {
 }
 
 /// What helps with a byte that begins no token: `text` is the line from it on, `rest` its words.
-fn sentence_for_character(text: &[u8], rest: &[&[u8]]) -> Option<&'static str> {
+fn sentence_for_character(text: &[u8], rest: &[Word<'_>]) -> Option<&'static str> {
     match (text, rest) {
         ([b'#', ..], _) => {
             Some("`#` begins a hexadecimal number, as in `#1F`; a comment begins with `;`")
@@ -143,7 +148,7 @@ fn sentence_for_character(text: &[u8], rest: &[&[u8]]) -> Option<&'static str> {
         ([b'$', ..], _) => Some("`$` begins a binary number, as in `$101`"),
         ([b'@', ..], _) => Some("`@` begins an octal number, as in `@17`"),
         ([b'%', ..], _) => Some("a binary number begins with `$`, as in `$101`"),
-        ([b'.', ..], [_, word, ..]) if is_word(word) => {
+        ([b'.', ..], [_, word, ..]) if word.kind == Kind::Word => {
             Some("no full stop stands before a directive or a label")
         }
         ([b'.', ..], _) => Some("a number is whole"),
@@ -173,7 +178,7 @@ fn unknown_word(
     hints: &mut Vec<Hint>,
     faulty: FaultyLine<'_>,
 ) -> Result<(), AllocError> {
-    let Some(word) = faulty.rest.first() else {
+    let Some(Word { text: word, .. }) = faulty.rest.first() else {
         return Ok(());
     };
     if is_register(word) || is_special(word) {
@@ -184,7 +189,7 @@ fn unknown_word(
         );
     }
     let (written, behind) = faulty.text.split_at(word.len().min(faulty.text.len()));
-    let is_label = reads_as_label(alloc, faulty.line, behind)?;
+    let is_label = reads_as_label(alloc, faulty.words, written, behind)?;
     push_meant(alloc, hints, word, is_label)?;
     if is_label {
         push_help(
@@ -218,32 +223,49 @@ fn push_meant(
     }
 }
 
-/// Whether a line would read with a colon before its last bytes.
-fn reads_as_label(alloc: Global, line: &[u8], behind: &[u8]) -> Result<bool, AllocError> {
-    let end = line.len().saturating_sub(behind.len());
-    let front = line.get(..end).unwrap_or(&[]);
-    let changed = [front, b":", behind].concat(alloc)?;
-    let line = read(alloc, &changed)?;
-    Ok(matches!(&*line, Line::Read { .. }))
+/// Whether a line of these words would read with a colon after the first, which is `written` so and
+/// has the text `behind` it.
+fn reads_as_label(
+    alloc: Global,
+    words: &[Word<'_>],
+    written: &[u8],
+    behind: &[u8],
+) -> Result<bool, AllocError> {
+    // between two words is a blank: the colon takes its place, so that the line gets no longer
+    let behind = match words {
+        [_] => b"".as_slice(),
+        [_, next, ..] if next.kind == Kind::Word => behind.get(1..).unwrap_or(&[]),
+        _ => return Ok(false),
+    };
+    let changed = [written, b":", behind].concat(alloc)?;
+    match Source::open_bytes(alloc, changed) {
+        Ok(source) => Ok(
+            source
+                .line(1)
+                .is_some_and(|line| matches!(line.reading(), Line::Read { .. })),
+        ),
+        Err(OpenError::OutOfMemory) => Err(AllocError),
+        Err(_) => Ok(false),
+    }
 }
 
 /// Help with a word that can't be a name; `rest` are the words from it on.
-fn bad_name(alloc: Global, hints: &mut Vec<Hint>, rest: &[&[u8]]) -> Result<(), AllocError> {
+fn bad_name(alloc: Global, hints: &mut Vec<Hint>, rest: &[Word<'_>]) -> Result<(), AllocError> {
     match rest {
-        [word, more @ ..] if is_register(word) && is_assignment(more) => push_help(
+        [word, more @ ..] if is_register(word.text) && is_assignment(more) => push_help(
             alloc,
             hints,
             &[
-                word,
+                word.text,
                 b" is a register; LD gives it a value, as in LD ",
-                word,
+                word.text,
                 b", 5",
             ],
         ),
-        [word, ..] if is_reserved(word) => push_help(
+        [word, ..] if is_reserved(word.text) => push_help(
             alloc,
             hints,
-            &[word, b" has a meaning of its own; choose another name"],
+            &[word.text, b" has a meaning of its own; choose another name"],
         ),
         _ => push_formatted(
             alloc,
@@ -254,10 +276,9 @@ fn bad_name(alloc: Global, hints: &mut Vec<Hint>, rest: &[&[u8]]) -> Result<(), 
 }
 
 /// Whether some words begin with `=`, `:=`, EQU or `: EQU`.
-fn is_assignment(words: &[&[u8]]) -> bool {
+fn is_assignment(words: &[Word<'_>]) -> bool {
     match words {
-        [b":", equ, ..] => is_one_of(equ, &["=", "EQU"]),
-        [equ, ..] => is_one_of(equ, &["=", "EQU"]),
+        [Word { text: b":", .. }, equ, ..] | [equ, ..] => is_one_of(equ.text, &["=", "EQU"]),
         [] => false,
     }
 }
@@ -267,9 +288,9 @@ fn defined_twice(
     alloc: Global,
     hints: &mut Vec<Hint>,
     known: &Known,
-    rest: &[&[u8]],
+    rest: &[Word<'_>],
 ) -> Result<(), AllocError> {
-    let Some(name) = rest.first() else {
+    let Some(Word { text: name, .. }) = rest.first() else {
         return Ok(());
     };
     match known.line_of(name) {
@@ -278,15 +299,14 @@ fn defined_twice(
     }
 }
 
-/// Help with a name without a value; `rest` are the words from it on.
+/// Help with a name without a value.
 fn undefined_name(
     alloc: Global,
     hints: &mut Vec<Hint>,
     known: &Known,
-    number: usize,
-    rest: &[&[u8]],
+    faulty: FaultyLine<'_>,
 ) -> Result<(), AllocError> {
-    let Some(name) = rest.first() else {
+    let Some(Word { text: name, .. }) = faulty.rest.first() else {
         return Ok(());
     };
     match (known.line_of(name), known.lost_line_of(name)) {
@@ -298,7 +318,7 @@ fn undefined_name(
             line,
             "; ORG, DS and EQU see earlier lines",
         ),
-        (_, Some(line)) if line != number => push_line_note(
+        (_, Some(line)) if line != faulty.line.number() => push_line_note(
             alloc,
             hints,
             name,
@@ -306,7 +326,7 @@ fn undefined_name(
             line,
             ", which has a fault of its own",
         ),
-        _ => unknown_name(alloc, hints, known, name, rest),
+        _ => unknown_name(alloc, hints, known, name, faulty.rest),
     }
 }
 
@@ -329,7 +349,7 @@ fn unknown_name(
     hints: &mut Vec<Hint>,
     known: &Known,
     name: &[u8],
-    rest: &[&[u8]],
+    rest: &[Word<'_>],
 ) -> Result<(), AllocError> {
     if let Some(near) = known.near_name(name) {
         push_help(alloc, hints, &[b"did you mean ", near, b"?"])
@@ -355,17 +375,21 @@ fn unknown_name(
 }
 
 /// Help with a directive that this assembler doesn't have.
-fn not_in_profile(alloc: Global, hints: &mut Vec<Hint>, rest: &[&[u8]]) -> Result<(), AllocError> {
+fn not_in_profile(
+    alloc: Global,
+    hints: &mut Vec<Hint>,
+    rest: &[Word<'_>],
+) -> Result<(), AllocError> {
     let Some((word, more)) = rest.split_first() else {
         return Ok(());
     };
-    if *word == b"INCLUDE".as_slice() {
+    if word.text == b"INCLUDE".as_slice() {
         push_help(
             alloc,
             hints,
             &[b"a source is one file; copy the other one's lines into it"],
         )
     } else {
-        push_forms(alloc, hints, word, more)
+        push_forms(alloc, hints, word.text, more)
     }
 }

@@ -1,6 +1,6 @@
 //! The faults of a source, and its warnings, as compilers print them and as JSON.
 
-ghost use Rattle.std.specs.Prelude.{◌≡◌, ◌≤◌, ◌++◌, ℕ, List, [], IfOk, OnOk, IsTrue, length};
+ghost use Rattle.std.specs.Prelude.{◌≡◌, ◌++◌, ℕ, List, [], IfOk, OnOk};
 ghost use Rattle.chip_asm.specs.Program.{fault_at, symbols_of};
 ghost use Rattle.chip_check.specs.Check.{AreReports, IsCheck, IsChecked, IsCheckedIn, report_of};
 ghost use Rattle.chip_check.specs.Json.{AreObjects, IsCheckJson, unopened_object};
@@ -128,12 +128,11 @@ fn push_fault(
         ++ report_of (print_in style.entry.form style.entry.name.now) source.now.lines
         line.now.number line.now.text (fault_at source.now.lines line.now.number) hints)) }
 {
-    let (number, shown) = (line.number(), line.text());
-    let Some(fault) = source.fault(number) else {
+    let Some(fault) = source.fault(line.number()) else {
         return Ok(());
     };
-    let finding = Finding::of_fault(alloc, source, known, number, shown, fault)?;
-    push_finding(alloc, text, style, number, shown, &finding)
+    let finding = Finding::of_fault(alloc, source, known, line, fault)?;
+    push_finding(alloc, text, style, line.number(), line.text(), &finding)
 }
 
 /// Adds what is printed of the warnings that lie in the source.

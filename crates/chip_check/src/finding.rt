@@ -8,12 +8,12 @@ ghost use Rattle.chip_check.specs.Json.{unopened_code, unopened_sentence};
 ghost use Rattle.chip_check.specs.Place.{place_in};
 ghost use Rattle.chip_check.specs.inner.Known.{Agree, listed};
 
-use crate::advice::push_advice;
+use crate::advice::advice_on;
 use crate::hint::{Hint, push_help};
 use crate::known::Known;
 use crate::place::place_in;
-use chip_asm::{OpenError, Source};
-use chip_lang::{Fault, Span, mnemonic_of};
+use chip_asm::{LineView, OpenError, Source};
+use chip_lang::{Fault, Span};
 use chip_warnings::Warning;
 use std::alloc::{AllocError, Global};
 
@@ -30,27 +30,26 @@ pub(crate) struct Finding {
 }
 
 impl Finding {
-    /// What is said of the fault of the line of a number.
+    /// What is said of the fault of a line.
     pub(crate) fn of_fault(
         alloc: Global,
         source: &Source,
         known: &Known,
-        number: usize,
-        line: &[u8],
+        line: &LineView<'_>,
         fault: Fault,
     ) -> Result<Finding, AllocError>
         requires { Agree (listed known.now.symbols.entries) (symbols_of source.now.lines) }
-        ensures span { IfOk result (λ finding.
-            finding.span ≡ place_in fault source.now.lines number line.now) }
+        ensures span { IfOk result (λ finding. finding.span
+            ≡ place_in fault source.now.lines line.now.number line.now.text) }
         ensures code { IfOk result (λ finding. finding.code.items ≡ code_of fault) }
         ensures sentence { IfOk result (λ finding.
-            finding.sentence.items ≡ sentence_with fault (mnemonic_of line.now)) }
+            finding.sentence.items ≡ sentence_with fault (mnemonic_of line.now.text)) }
         ensures rises { IfOk result (λ finding. finding.span.start ≤ finding.span.end) }
-        ensures inside { IfOk result (λ finding. finding.span.end ≤ length line.now) }
+        ensures inside { IfOk result (λ finding. finding.span.end ≤ length line.now.text) }
     {
-        let span = place_in(alloc, source, known, number, line, fault)?;
-        let mut hints = Vec::new(alloc);
-        push_advice(alloc, &mut hints, known, number, line, fault, span.start)?;
+        let tokens = line.tokens(alloc)?;
+        let span = place_in(alloc, source, known, line, &tokens, fault)?;
+        let hints = advice_on(alloc, known, line, &tokens, fault, span.start)?;
         let sentence = sentence_in(alloc, fault, line)?;
         let fault_number = fault.number();
         let code = format!(in alloc; "F{fault_number}")?.into_bytes();
@@ -108,16 +107,19 @@ impl Finding {
 
 /// The sentence of a fault of a line.
 #[tactic(auto, unfolding(crate::specs::Check::sentence_with))]
-fn sentence_in(alloc: Global, fault: Fault, line: &[u8]) -> Result<Vec<u8>, AllocError>
+fn sentence_in(alloc: Global, fault: Fault, line: &LineView<'_>) -> Result<Vec<u8>, AllocError>
     ensures { IfOk result (λ sentence.
-        sentence.items ≡ sentence_with fault (mnemonic_of line.now)) }
+        sentence.items ≡ sentence_with fault (mnemonic_of line.now.text)) }
 {
-    match (fault, mnemonic_of(alloc, line)?) {
-        (Fault::WrongOperands, Some(mnemonic)) => {
-            let mut sentence = Vec::from_slice(alloc, b"the operands fit no form of ")?;
-            sentence.extend_from_slice(mnemonic.get())?;
-            Ok(sentence)
-        }
+    match fault {
+        Fault::WrongOperands => match line.mnemonic(alloc)? {
+            Some(mnemonic) => {
+                let mut sentence = Vec::from_slice(alloc, b"the operands fit no form of ")?;
+                sentence.extend_from_slice(mnemonic.get())?;
+                Ok(sentence)
+            }
+            None => Vec::from_slice(alloc, sentence_of(fault)),
+        },
         _ => Vec::from_slice(alloc, sentence_of(fault)),
     }
 }

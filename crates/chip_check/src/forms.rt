@@ -1,7 +1,7 @@
 //! The forms of instructions and directives, as help shows them.
 
 use crate::hint::{Hint, push_help};
-use crate::words::{is_one_of, is_register, is_special, is_word, split_operand, words_of};
+use crate::words::{Word, is_comma, is_one_of, is_register, is_special};
 use chip_properties::near::{fewest_edits, most_edits};
 use std::alloc::{AllocError, Global};
 
@@ -102,11 +102,10 @@ pub(crate) fn stands_alone(word: &[u8]) -> bool {
 
 /// Whether a word has a meaning of its own, so that it can't be a name.
 pub(crate) fn is_reserved(word: &[u8]) -> bool {
-    is_word(word)
-        && (is_register(word)
-            || is_special(word)
-            || !forms_of(word).is_empty()
-            || is_one_of(word, &["USED", "INCLUDE", "UNDEF"]))
+    is_register(word)
+        || is_special(word)
+        || !forms_of(word).is_empty()
+        || is_one_of(word, &["USED", "INCLUDE", "UNDEF"])
 }
 
 /// The instruction or the directive that a word comes nearest to, if one is near.
@@ -130,7 +129,7 @@ pub(crate) fn push_forms(
     alloc: Global,
     hints: &mut Vec<Hint>,
     word: &[u8],
-    operands: &[&[u8]],
+    operands: &[Word<'_>],
 ) -> Result<(), AllocError> {
     let forms = forms_by_nearness(alloc, word, operands)?;
     push_first_forms(alloc, hints, word, &forms)
@@ -164,16 +163,12 @@ fn push_first_forms(
 fn forms_by_nearness(
     alloc: Global,
     word: &[u8],
-    operands: &[&[u8]],
+    operands: &[Word<'_>],
 ) -> Result<Vec<&'static str>, AllocError> {
-    let mut ranked = Vec::new(alloc);
-    for form in forms_of(word) {
-        ranked.push((nearness(alloc, *form, operands)?, *form))?;
-    }
     let mut forms = Vec::new(alloc);
     for missing in 0..=NEAREST {
-        for (near, form) in &ranked {
-            if *near == NEAREST - missing {
+        for form in forms_of(word) {
+            if nearness(*form, operands) == NEAREST - missing {
                 forms.push(*form)?;
             }
         }
@@ -182,43 +177,42 @@ fn forms_by_nearness(
 }
 
 /// How many operands are what a form wants in their places; the first counts twice.
-fn nearness(alloc: Global, form: &str, operands: &[&[u8]]) -> Result<usize, AllocError> {
-    let words = words_of(alloc, form.as_bytes())?;
-    let mut wanted = words.get(1..);
-    let mut given = Some(operands);
+fn nearness(form: &str, operands: &[Word<'_>]) -> usize {
+    let Some((_, wanted)) = form.split_once(' ') else {
+        return 0;
+    };
     let mut near = 0usize;
-    for weight in &[2usize, 1, 1] {
-        let (Some(wants), Some(gives)) = (wanted, given) else {
-            break;
-        };
-        let (want, more_wanted) = split_operand(wants);
-        let (give, more_given) = split_operand(gives);
-        if fits(want, give) {
-            near = near.saturating_add(*weight);
+    let mut weight = 2;
+    for (wants, given) in wanted.split(", ").zip(operands.split(is_comma)) {
+        if fits(wants.as_bytes(), given) {
+            near = near.saturating_add(weight);
         }
-        wanted = more_wanted;
-        given = more_given;
+        weight = 1;
     }
-    Ok(near)
+    near
 }
 
 /// The words in a form for which an expression stands.
 const VALUES: &[&str] = &["nibble", "byte", "addr", "value"];
 
 /// Whether an operand is what a form wants in its place.
-fn fits(wanted: &[&[u8]], given: &[&[u8]]) -> bool {
-    match (wanted, given) {
-        ([wants], [gives]) => fits_token(wants, gives),
-        ([wants], [_, ..]) => is_one_of(wants, VALUES),
-        _ => wanted == given,
+fn fits(wants: &[u8], given: &[Word<'_>]) -> bool {
+    match given {
+        [] => false,
+        [gives] => fits_word(wants, gives.text),
+        [
+            Word { text: b"[", .. },
+            Word { text: b"I", .. },
+            Word { text: b"]", .. },
+        ] if matches!(wants, b"[I]") => true,
+        _ => is_one_of(wants, VALUES),
     }
 }
 
 /// Whether an operand of one token is what a form wants in its place.
-fn fits_token(wants: &[u8], gives: &[u8]) -> bool {
+fn fits_word(wants: &[u8], gives: &[u8]) -> bool {
     match wants {
         b"Vx" | b"Vy" => is_register(gives),
-        b"name" => is_word(gives) && !is_reserved(gives),
         _ if is_one_of(wants, VALUES) => !is_reserved(gives),
         _ => wants == gives,
     }

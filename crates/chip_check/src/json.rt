@@ -3,7 +3,7 @@
 ghost use Rattle.std.specs.Prelude.{◌≡◌, ◌≤◌, ◌+◌, ◌++◌, OnOk};
 ghost use Rattle.std.specs.List.{flat_map};
 ghost use Rattle.chip_lang.specs.Show.{hex_digit};
-ghost use Rattle.chip_check.specs.Json.{escaped, quoted, hint_prefix, hint_string, hint_strings, further_hint, object};
+ghost use Rattle.chip_check.specs.Json.{escaped, quoted, hint_prefix, hint_string, hint_strings, object};
 ghost use Rattle.chip_check.specs.inner.Printing.{object_start};
 
 use crate::finding::Finding;

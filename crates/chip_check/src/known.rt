@@ -5,9 +5,9 @@ ghost use Rattle.chip_symbols.specs.Names.{lookup_name, values_of};
 ghost use Rattle.chip_asm.specs.Program.{symbols_of};
 ghost use Rattle.chip_check.specs.inner.Known.{Agree, listed};
 
-use crate::words::{is_word, words_of};
-use chip_asm::{NameHasher, Source, Symbol};
-use chip_lang::{Bytes, Names};
+use crate::words::words_of;
+use chip_asm::{LineView, NameHasher, Source, Symbol};
+use chip_lang::{Bytes, Kind, Names};
 use chip_properties::near::{fewest_edits, most_edits};
 use indexmap::IndexMap;
 use std::alloc::{AllocError, Global};
@@ -147,27 +147,27 @@ fn lost_names(alloc: Global, source: &Source) -> Result<Vec<Lost>, AllocError> {
         if let Some(line) = source.line(place + 1)
             && line.fault().is_some()
         {
-            push_front_name(alloc, &mut lost, line.number(), line.text())?;
+            push_front_name(alloc, &mut lost, &line)?;
         }
     }
     Ok(lost)
 }
 
-/// Adds the word that begins the line of a number, or the one after DEFINE.
+/// Adds the word that begins a line, or the one after DEFINE.
 fn push_front_name(
     alloc: Global,
     lost: &mut Vec<Lost>,
-    number: usize,
-    line: &[u8],
+    line: &LineView<'_>,
 ) -> Result<(), AllocError> {
-    let upper = line.to_ascii_uppercase(alloc)?;
-    let words = words_of(alloc, &upper)?;
+    let upper = line.text().to_ascii_uppercase(alloc)?;
+    let words = words_of(alloc, &upper, &line.tokens(alloc)?)?;
     let name = match words.as_slice() {
-        [first, name, ..] if *first == b"DEFINE".as_slice() => *name,
-        [name, ..] if is_word(name) => *name,
+        [first, name, ..] if first.text == b"DEFINE".as_slice() => name.text,
+        [name, ..] if name.kind == Kind::Word => name.text,
         _ => return Ok(()),
     };
     let name = Vec::from_slice(alloc, name)?;
-    lost.push(Lost { name, line: number })?;
+    let line = line.number();
+    lost.push(Lost { name, line })?;
     Ok(())
 }

@@ -3,12 +3,9 @@
 use crate::forms::{is_reserved, push_forms};
 use crate::hint::{Hint, push_formatted, push_help, push_sentence};
 use crate::known::Known;
-use crate::place::{out_operand_of, read};
-use crate::words::{
-    has_twice, is_number, is_one_of, is_register, is_special, is_text, is_word, split_operand,
-    statement_of,
-};
-use chip_lang::{Body, Expr, Line, Operand, Pattern, eval};
+use crate::place::out_operand;
+use crate::words::{Word, has_twice, is_comma, is_one_of, is_register, is_special, statement_of};
+use chip_lang::{Body, Expr, Kind, Line, Operand, Pattern, eval};
 use std::alloc::{AllocError, Global};
 
 /// Help with operands that fit no form: `words` are those of the line, `rest` those from the place
@@ -16,8 +13,8 @@ use std::alloc::{AllocError, Global};
 pub(crate) fn wrong_operands(
     alloc: Global,
     hints: &mut Vec<Hint>,
-    words: &[&[u8]],
-    rest: &[&[u8]],
+    words: &[Word<'_>],
+    rest: &[Word<'_>],
 ) -> Result<(), AllocError> {
     let statement = statement_of(words);
     if rest.len() == statement.len() {
@@ -26,7 +23,7 @@ pub(crate) fn wrong_operands(
     let (heading, operands) = parts_of(statement);
     let sentence = sentence_for(heading, words, rest);
     push_sentence(alloc, hints, sentence)?;
-    if has_like_register(operands) {
+    if operands.iter().any(|word| is_like_register(word.text)) {
         push_help(alloc, hints, &[REGISTERS])
     } else if sentence.is_some() && !rest.is_empty() {
         Ok(())
@@ -36,10 +33,10 @@ pub(crate) fn wrong_operands(
 }
 
 /// The instruction or the directive of a statement, and the words after it.
-fn parts_of<'a, 'b>(statement: &'b [&'a [u8]]) -> (&'a [u8], &'b [&'a [u8]]) {
+fn parts_of<'a>(statement: &'a [Word<'a>]) -> (&'a [u8], &'a [Word<'a>]) {
     match statement {
-        [_, b"EQU" | b"=", operands @ ..] => (b"EQU", operands),
-        [heading, operands @ ..] => (*heading, operands),
+        [_, equ, operands @ ..] if is_one_of(equ.text, &["EQU", "="]) => (b"EQU", operands),
+        [heading, operands @ ..] => (heading.text, operands),
         [] => (b"", statement),
     }
 }
@@ -49,46 +46,40 @@ fn forms_help(
     alloc: Global,
     hints: &mut Vec<Hint>,
     heading: &[u8],
-    operands: &[&[u8]],
+    operands: &[Word<'_>],
 ) -> Result<(), AllocError> {
     push_forms(alloc, hints, heading, operands)?;
-    if heading == b"SUB".as_slice() && has_number(operands) {
+    if heading == b"SUB".as_slice()
+        && operands
+            .iter()
+            .any(|word| matches!(word.kind, Kind::Number(_)))
+    {
         push_help(alloc, hints, &[b"ADD subtracts a number, as in ADD V0, -5"])
     } else {
         Ok(())
     }
 }
 
-/// Whether a number is among some words.
-fn has_number(words: &[&[u8]]) -> bool {
-    for word in words {
-        if is_number(word) {
-            return true;
-        }
-    }
-    false
-}
-
 /// Help with a statement whose first word is at fault.
-fn wrong_front(alloc: Global, hints: &mut Vec<Hint>, rest: &[&[u8]]) -> Result<(), AllocError> {
+fn wrong_front(alloc: Global, hints: &mut Vec<Hint>, rest: &[Word<'_>]) -> Result<(), AllocError> {
     match rest {
-        [b"EQU", ..] => push_help(
+        [Word { text: b"EQU", .. }, ..] => push_help(
             alloc,
             hints,
             &[b"a name stands before EQU, as in SIZE EQU 5"],
         ),
-        [b":", ..] => {
+        [Word { text: b":", .. }, ..] => {
             push_help(
                 alloc,
                 hints,
                 &[b"a colon stands after a label and not before it"],
             )
         }
-        [first, ..] if is_word(first) => push_help(
+        [first, ..] if first.kind == Kind::Word => push_help(
             alloc,
             hints,
             &[
-                first,
+                first.text,
                 b" takes no label; put the label on a line of its own",
             ],
         ),
@@ -107,8 +98,8 @@ const WITHOUT_EXPRESSION: &[&str] = &["ALIGN", "DA", "IFDEF", "IFUND", "ELSE", "
 const OF_ONE_EXPRESSION: &[&str] = &["ORG", "DS", "EQU"];
 
 /// What helps with the operand at fault, which is the first of `rest`.
-fn sentence_for(heading: &[u8], words: &[&[u8]], rest: &[&[u8]]) -> Option<&'static str> {
-    let (operand, _) = split_operand(rest);
+fn sentence_for(heading: &[u8], words: &[Word<'_>], rest: &[Word<'_>]) -> Option<&'static str> {
+    let operand = rest.split(is_comma).next().unwrap_or(rest);
     if has_twice(b"<", words) || has_twice(b">", words) {
         Some("a shift is one sign, `<` or `>`")
     } else if operand.is_empty() {
@@ -123,33 +114,37 @@ fn sentence_for(heading: &[u8], words: &[&[u8]], rest: &[&[u8]]) -> Option<&'sta
 }
 
 /// What helps with an operand that is missing.
-fn sentence_for_missing(words: &[&[u8]], rest: &[&[u8]]) -> &'static str {
+fn sentence_for_missing(words: &[Word<'_>], rest: &[Word<'_>]) -> &'static str {
     if !rest.is_empty() {
         return "an operand is missing before this comma";
     }
     match words {
-        [.., last] if matches!(*last, b",") => "an operand is missing after the last comma",
+        [.., last] if is_comma(last) => "an operand is missing after the last comma",
         _ => "an operand is missing at the end",
     }
 }
 
 /// Whether an operand is a register, another part of the machine or `[I]`.
-fn is_part(operand: &[&[u8]]) -> bool {
+fn is_part(operand: &[Word<'_>]) -> bool {
     match operand {
-        [word] => is_register(word) || is_special(word),
-        [b"[", b"I", _] => true,
+        [word] => is_register(word.text) || is_special(word.text),
+        [Word { text: b"[", .. }, Word { text: b"I", .. }, _] => true,
         _ => false,
     }
 }
 
 /// What helps with an operand by the tokens that it begins with.
-fn sentence_for_front(heading: &[u8], operand: &[&[u8]]) -> Option<&'static str> {
+fn sentence_for_front(heading: &[u8], operand: &[Word<'_>]) -> Option<&'static str> {
     match operand {
-        [first, ..] if is_text(first) && first.len() != 3 => {
+        [first, ..] if first.kind == Kind::Text && first.text.len() != 3 => {
             Some("`DA` takes one text of any length; elsewhere a text has one byte")
         }
-        [_, b":", ..] => Some("a colon stands only after a name that the line defines"),
-        [first, b"=", ..] if is_register(first) => Some("a comma stands between two operands"),
+        [_, Word { text: b":", .. }, ..] => Some(
+            "a colon stands only after a name that the line defines",
+        ),
+        [first, Word { text: b"=", .. }, ..] if is_register(first.text) => Some(
+            "a comma stands between two operands",
+        ),
         [first, second, ..]
             if is_atom(first) && is_atom(second) && !is_one_of(heading, OF_ONE_EXPRESSION) => {
             Some("a comma is missing between two operands")
@@ -159,9 +154,9 @@ fn sentence_for_front(heading: &[u8], operand: &[&[u8]]) -> Option<&'static str>
 }
 
 /// What helps with tokens that are no expression.
-fn sentence_for_expression(operand: &[&[u8]]) -> Option<&'static str> {
+fn sentence_for_expression(operand: &[Word<'_>]) -> Option<&'static str> {
     for word in operand {
-        let sentence = sentence_for_word(word);
+        let sentence = sentence_for_word(word.text);
         if sentence.is_some() {
             return sentence;
         }
@@ -183,10 +178,10 @@ fn sentence_for_word(word: &[u8]) -> Option<&'static str> {
 }
 
 /// What helps with parentheses that don't match.
-fn sentence_for_parentheses(operand: &[&[u8]]) -> Option<&'static str> {
+fn sentence_for_parentheses(operand: &[Word<'_>]) -> Option<&'static str> {
     let mut open = 0usize;
     for word in operand {
-        match *word {
+        match word.text {
             b"(" => open = open.saturating_add(1),
             b")" if open == 0 => return Some("each `)` needs its `(`"),
             b")" => open -= 1,
@@ -197,22 +192,12 @@ fn sentence_for_parentheses(operand: &[&[u8]]) -> Option<&'static str> {
 }
 
 /// Whether a token is a word, a number or a text.
-fn is_atom(token: &[u8]) -> bool {
-    is_word(token) || is_number(token) || is_text(token)
+fn is_atom(word: &Word<'_>) -> bool {
+    matches!(word.kind, Kind::Word | Kind::Number(_) | Kind::Text)
 }
 
 /// Help with a name that looks like a register.
 pub(crate) const REGISTERS: &[u8] = b"the registers are V0 to V9 and VA to VF";
-
-/// Whether a word among some looks like a register.
-fn has_like_register(words: &[&[u8]]) -> bool {
-    for word in words {
-        if is_like_register(word) {
-            return true;
-        }
-    }
-    false
-}
 
 /// Whether a name looks like a register of another machine, or like one too many.
 pub(crate) fn is_like_register(name: &[u8]) -> bool {
@@ -252,19 +237,8 @@ fn bounds_of(pattern: Option<&Pattern>) -> Bounds {
     }
 }
 
-/// Help with a value out of range: what it is, and what it may be.
+/// Help with the first operand of a line whose value is out of range: what it is, and what it may be.
 pub(crate) fn out_of_range(
-    alloc: Global,
-    hints: &mut Vec<Hint>,
-    known: &Known,
-    line: &[u8],
-) -> Result<(), AllocError> {
-    let line = read(alloc, line)?;
-    push_out_of_range(alloc, hints, known, &*line)
-}
-
-/// Help with the first operand of a line whose value is out of range.
-fn push_out_of_range(
     alloc: Global,
     hints: &mut Vec<Hint>,
     known: &Known,
@@ -273,7 +247,7 @@ fn push_out_of_range(
     let Line::Read { body, .. } = line else {
         return Ok(());
     };
-    let index = out_operand_of(line, known);
+    let index = out_operand(line, known);
     match body {
         Body::Ds(_) => push_help(alloc, hints, &[b"DS takes 0 or more"]),
         Body::Db(values) => push_bounds(alloc, hints, known, values.get(index), BYTE),

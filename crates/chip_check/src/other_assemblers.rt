@@ -1,6 +1,6 @@
 //! What other assemblers write.
 
-use crate::words::is_one_of;
+use crate::words::{Word, is_one_of};
 
 /// How a number is written.
 pub(crate) struct Radix {
@@ -55,10 +55,12 @@ const NOTATIONS: &[(&str, &str, &Radix)] = &[
 
 /// The number that another assembler would write by the first of some words, in upper case: its
 /// radix and its digits.
-pub(crate) fn other_number<'a>(words: &[&'a [u8]]) -> Option<(&'static Radix, &'a [u8])> {
+pub(crate) fn other_number<'a>(words: &[Word<'a>]) -> Option<(&'static Radix, &'a [u8])> {
     match words {
-        [b"%", digits, ..] => BINARY.has(digits).then_some((&BINARY, *digits)),
-        [word, ..] => other_digits(word),
+        [Word { text: b"%", .. }, digits, ..] => {
+            BINARY.has(digits.text).then_some((&BINARY, digits.text))
+        }
+        [word, ..] => other_digits(word.text),
         [] => None,
     }
 }

@@ -4,89 +4,68 @@ ghost use Rattle.std.specs.Prelude.{◌≡◌, ◌≤◌, ◌<◌, IfOk, IfSome,
 ghost use Rattle.std.specs.Option.{option_copied};
 ghost use Rattle.chip_lang.specs.Code.{datum_of};
 ghost use Rattle.chip_lang.specs.Encoding.{field_of};
-ghost use Rattle.chip_lang.specs.Line.{reading_of};
 ghost use Rattle.chip_lang.specs.Operand.{operand_of};
 ghost use Rattle.chip_lang.specs.SeenLine.{seen_line};
 ghost use Rattle.chip_lang.specs.Scan.{AreTokens};
 ghost use Rattle.chip_lang.specs.Tree.{tree_of};
+ghost use Rattle.chip_lang.specs.computed.Tokens.{tokens_of};
 ghost use Rattle.chip_symbols.specs.Names.{values_of};
 ghost use Rattle.chip_asm.specs.Program.{symbols_of};
 ghost use Rattle.chip_check.specs.inner.Known.{Agree, listed};
-ghost use Rattle.chip_check.specs.Place.{sees_earlier, last_seen, is_unknown_name, is_unknown, first_unknown, undefined_place, is_out, number_in, first_data_out, first_out, out_operand, tokens_after, is_comma, operand_end, operand_span, out_of_range_place, place_in};
+ghost use Rattle.chip_check.specs.Place.{last_seen, is_unknown_name, is_unknown, first_unknown, undefined_place, is_out, number_in, first_data_out, first_out, out_operand, tokens_after, is_comma, operand_end, operand_span, out_of_range_place, place_in};
 
 use crate::known::Known;
-use chip_asm::Source;
+use chip_asm::{LineView, Source};
 use chip_lang::short_bytes::ShortBytes;
 use chip_lang::{
-    Body, Bytes, Expr, Fault, Kind, Line, Meter, Operand, Pattern, Span, Token, eval, fault_span,
-    name_of_token, read_line, tokens,
+    Body, Bytes, Expr, Fault, Kind, Line, Operand, Pattern, Span, Token, eval, name_of_token,
 };
 use std::alloc::{AllocError, Global};
 
-/// Where a fault of the line of a number lies: for F9 the first name without a value, for F10 the
-/// first operand whose value is out of range, else what `fault_span` says.
+/// Where a fault of a line of these tokens lies: for F9 the first name without a value, for F10 the
+/// first operand whose value is out of range, else what the line's `span_of` says.
 pub(crate) fn place_in(
     alloc: Global,
     source: &Source,
     known: &Known,
-    number: usize,
-    line: &[u8],
+    line: &LineView<'_>,
+    tokens: &[Token],
     fault: Fault,
 ) -> Result<Span, AllocError>
-    requires { Agree (listed known.now.symbols.entries) (symbols_of source.now.lines) }
-    ensures span { IfOk result (λ span. span ≡ place_in fault source.now.lines number line.now) }
+    requires known { Agree (listed known.now.symbols.entries) (symbols_of source.now.lines) }
+    requires tokens { tokens.now ≡ tokens_of line.now.text }
+    ensures span { IfOk result (λ span. span
+        ≡ place_in fault source.now.lines line.now.number line.now.text) }
     ensures rises { IfOk result (λ span. span.start ≤ span.end) }
-    ensures inside { IfOk result (λ span. span.end ≤ length line.now) }
+    ensures inside { IfOk result (λ span. span.end ≤ length line.now.text) }
 {
-    let span = fault_span(alloc, line, fault)?;
+    let span = line.span_of(alloc, fault)?;
     match fault {
-        Fault::UndefinedName => undefined_place(alloc, source, known, number, line, span),
-        Fault::OutOfRange => out_of_range_place(alloc, known, line, span),
+        Fault::UndefinedName => undefined_place(alloc, source, known, line, tokens, span),
+        Fault::OutOfRange => Ok(out_of_range_place(known, line, tokens, span)),
         _ => Ok(span),
     }
 }
 
 /// The first operand whose value is out of range, or else the span.
-fn out_of_range_place(
-    alloc: Global,
-    known: &Known,
-    line: &[u8],
-    span: Span,
-) -> Result<Span, AllocError>
+fn out_of_range_place(known: &Known, line: &LineView<'_>, tokens: &[Token], span: Span) -> Span
+    requires tokens { tokens.now ≡ tokens_of line.now.text }
     requires rises { span.start ≤ span.end }
-    requires inside { span.end ≤ length line.now }
-    ensures span { IfOk result (λ found.
-        found ≡ out_of_range_place (values_of (listed known.now.symbols.entries)) line.now span) }
-    ensures rises { IfOk result (λ found. found.start ≤ found.end) }
-    ensures inside { IfOk result (λ found. found.end ≤ length line.now) }
+    requires inside { span.end ≤ length line.now.text }
+    ensures span { result ≡ out_of_range_place (values_of (listed known.now.symbols.entries))
+        line.now.text span }
+    ensures rises { result.start ≤ result.end }
+    ensures inside { result.end ≤ length line.now.text }
 {
-    let index = out_operand(alloc, line, known)?;
-    let tokens = tokens(alloc, line)?;
-    match operand_span(index, tokens_after(span.start, &tokens)) {
-        Some(found) => Ok(found),
-        None => Ok(span),
+    let index = out_operand(line.reading(), known);
+    match operand_span(index, tokens_after(span.start, tokens)) {
+        Some(found) => found,
+        None => span,
     }
 }
 
-/// A line as it is read.
-pub(crate) fn read(alloc: Global, line: &[u8]) -> Result<Box<Line>, AllocError>
-    ensures { IfOk result (λ reading. seen_line reading.value ≡ reading_of line.now) }
-{
-    let mut meter = Meter::new();
-    let reading = read_line(alloc, &mut meter, line)?;
-    Ok(Box::new(alloc, reading)?)
-}
-
 /// How many operands of a line stand before the first whose value is out of its place's range.
-fn out_operand(alloc: Global, line: &[u8], names: &Known) -> Result<usize, AllocError>
-    ensures { IfOk result (λ index. index
-        ≡ out_operand (reading_of line.now) (values_of (listed names.now.symbols.entries))) }
-{
-    let line = read(alloc, line)?;
-    Ok(out_operand_of(&*line, names))
-}
-
-pub(crate) fn out_operand_of(line: &Line, names: &Known) -> usize
+pub(crate) fn out_operand(line: &Line, names: &Known) -> usize
     ensures { result
         ≡ out_operand (seen_line line.now) (values_of (listed names.now.symbols.entries)) }
 {
@@ -182,7 +161,7 @@ fn is_number_out(limit: u16, expr: &Expr, names: &Known) -> bool
 }
 
 /// The tokens that begin at a place or after it.
-fn tokens_after(place: usize, tokens: &[Token]) -> &[Token]
+pub(crate) fn tokens_after(place: usize, tokens: &[Token]) -> &[Token]
     ensures { result.now ≡ tokens_after place tokens.now }
 {
     let mut rest = tokens;
@@ -233,45 +212,36 @@ fn undefined_place(
     alloc: Global,
     source: &Source,
     known: &Known,
-    number: usize,
-    line: &[u8],
+    line: &LineView<'_>,
+    tokens: &[Token],
     span: Span,
 ) -> Result<Span, AllocError>
     requires known { Agree (listed known.now.symbols.entries) (symbols_of source.now.lines) }
+    requires tokens { tokens.now ≡ tokens_of line.now.text }
     requires rises { span.start ≤ span.end }
-    requires inside { span.end ≤ length line.now }
+    requires inside { span.end ≤ length line.now.text }
     ensures span { IfOk result (λ found.
-        found ≡ undefined_place source.now.lines number line.now span) }
+        found ≡ undefined_place source.now.lines line.now.number line.now.text span) }
     ensures rises { IfOk result (λ found. found.start ≤ found.end) }
-    ensures inside { IfOk result (λ found. found.end ≤ length line.now) }
+    ensures inside { IfOk result (λ found. found.end ≤ length line.now.text) }
 {
-    let last = last_seen(alloc, number, source.lines(), line)?;
-    let tokens = tokens(alloc, line)?;
-    match first_unknown(alloc, known, last, line, span.start, &tokens)? {
+    let last = last_seen(line.number(), source.lines(), line.reading());
+    match first_unknown(alloc, known, last, line.text(), span.start, tokens)? {
         Some(found) => Ok(found),
         None => Ok(span),
     }
 }
 
 /// The number of the last line whose names a line sees.
-fn last_seen(alloc: Global, number: usize, count: usize, line: &[u8]) -> Result<usize, AllocError>
-    ensures { IfOk result (λ last. last ≡ last_seen number count (reading_of line.now)) }
-{
-    let line = read(alloc, line)?;
-    if is_of_value(&*line) {
-        Ok(number.saturating_sub(1))
-    } else {
-        Ok(count)
-    }
-}
-
-/// Whether a line is EQU, ORG or DS.
-fn is_of_value(line: &Line) -> bool
-    ensures { result ≡ sees_earlier (seen_line line.now) }
+fn last_seen(number: usize, count: usize, line: &Line) -> usize
+    ensures { result ≡ last_seen number count (seen_line line.now) }
 {
     match line {
-        Line::Read { body, .. } => matches!(body, Body::Equ(_) | Body::Org(_) | Body::Ds(_)),
-        Line::Bad(_) => false,
+        Line::Read {
+            body: Body::Equ(_) | Body::Org(_) | Body::Ds(_),
+            ..
+        } => number.saturating_sub(1),
+        _ => count,
     }
 }
 

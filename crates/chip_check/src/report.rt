@@ -1,11 +1,10 @@
 //! A finding as compilers print it: place, sentence, line and marks, and lines of help, in colours or
 //! without.
 
-ghost use Rattle.std.specs.Prelude.{◌≡◌, ◌≤◌, ◌+◌, ◌-◌, ◌++◌, List, OnOk, drop, length, take};
-ghost use Rattle.std.specs.Fmt.{decimal};
+ghost use Rattle.std.specs.Prelude.{◌≡◌, ◌≤◌, ◌+◌, ◌-◌, ◌++◌, OnOk, length};
 ghost use Rattle.std.specs.List.{flat_map, position_or_len};
 ghost use Rattle.chip_asm.specs.Lines.{is_newline};
-ghost use Rattle.chip_check.specs.Check.{head, blank_of, tildes_of, marks, mark_text, beginning, hint_line, report, painted, opening, closing, code_style, mark_style, hint_style};
+ghost use Rattle.chip_check.specs.Check.{head, blank_of, tildes_of, marks, mark_text, beginning, hint_line, report, painted, opening, closing, code_style, hint_style};
 ghost use Rattle.chip_check.specs.Quoted.{shown_bytes};
 
 use crate::finding::Finding;

@@ -1,40 +1,36 @@
-//! The tokens of a line, and which of them have a meaning of their own. All are in upper case.
+//! The tokens of a line in upper case, and which of them have a meaning of their own.
 
-use chip_lang::tokens;
+use chip_lang::{Kind, Token};
 use std::alloc::{AllocError, Global};
 
-/// The tokens of a line that is given in upper case.
-pub(crate) fn words_of(alloc: Global, line: &[u8]) -> Result<Vec<&[u8]>, AllocError> {
-    let mut words = Vec::new(alloc);
-    for token in &tokens(alloc, line)? {
-        words.push(line.get(token.start..token.end).unwrap_or(&[]))?;
+/// A token of a line.
+#[derive(Clone, Copy)]
+pub(crate) struct Word<'a> {
+    /// What it is.
+    pub(crate) kind: Kind,
+    /// Its bytes, in upper case.
+    pub(crate) text: &'a [u8],
+}
+
+/// Some tokens of a line, which is given in upper case.
+pub(crate) fn words_of<'a>(
+    alloc: Global,
+    upper: &'a [u8],
+    tokens: &[Token],
+) -> Result<Vec<Word<'a>>, AllocError> {
+    let mut words = Vec::with_capacity(alloc, tokens.len())?;
+    for token in tokens {
+        words.push(Word {
+            kind: token.kind,
+            text: upper.get(token.start..token.end).unwrap_or(&[]),
+        })?;
     }
     Ok(words)
 }
 
 /// Whether a word is one of some words.
 pub(crate) fn is_one_of(word: &[u8], words: &[&str]) -> bool {
-    for other in words {
-        if word == other.as_bytes() {
-            return true;
-        }
-    }
-    false
-}
-
-/// Whether a token is a word.
-pub(crate) fn is_word(token: &[u8]) -> bool {
-    matches!(token, [b'A'..=b'Z' | b'_', ..])
-}
-
-/// Whether a token is a number.
-pub(crate) fn is_number(token: &[u8]) -> bool {
-    matches!(token, [b'0'..=b'9' | b'#' | b'@' | b'$', ..])
-}
-
-/// Whether a token is a text.
-pub(crate) fn is_text(token: &[u8]) -> bool {
-    matches!(token, [b'\'' | b'"', ..])
+    words.iter().any(|other| word == other.as_bytes())
 }
 
 /// Whether a word is a register.
@@ -48,34 +44,21 @@ pub(crate) fn is_special(word: &[u8]) -> bool {
 }
 
 /// Whether a sign stands twice, one directly after the other.
-pub(crate) fn has_twice(sign: &[u8], words: &[&[u8]]) -> bool {
-    let mut is_before = false;
-    for word in words {
-        let is_here = *word == sign;
-        if is_here && is_before {
-            return true;
-        }
-        is_before = is_here;
-    }
-    false
+pub(crate) fn has_twice(sign: &[u8], words: &[Word<'_>]) -> bool {
+    words
+        .windows(2)
+        .any(|pair| pair.iter().all(|word| word.text == sign))
 }
 
-/// The words before the first comma, and those after it if there is one.
-pub(crate) fn split_operand<'a, 'b>(
-    words: &'b [&'a [u8]],
-) -> (&'b [&'a [u8]], Option<&'b [&'a [u8]]>) {
-    for (index, word) in words.iter().enumerate() {
-        if matches!(*word, b",") {
-            return (&words[..index], Some(&words[index + 1..]));
-        }
-    }
-    (words, None)
+/// Whether a word is the comma between two operands.
+pub(crate) fn is_comma(word: &Word<'_>) -> bool {
+    matches!(word.text, b",")
 }
 
 /// The words of a line's statement, after a label and its colon.
-pub(crate) fn statement_of<'a, 'b>(words: &'b [&'a [u8]]) -> &'b [&'a [u8]] {
+pub(crate) fn statement_of<'a>(words: &'a [Word<'a>]) -> &'a [Word<'a>] {
     match words {
-        [_, b":", rest @ ..] => rest,
+        [_, Word { text: b":", .. }, rest @ ..] => rest,
         _ => words,
     }
 }
