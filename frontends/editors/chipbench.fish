@@ -47,7 +47,7 @@ complete -c chipbench -n '__fish_seen_subcommand_from explore' -l reach -x -d 'A
 complete -c chipbench -n '__fish_seen_subcommand_from explore' -l never -x -d 'Also looks for a step before which this holds'
 complete -c chipbench -n '__fish_seen_subcommand_from explore' -l always -x -d 'Also looks for a step before which this doesn'\''t hold'
 complete -c chipbench -n '__fish_seen_subcommand_from explore' -l cover -d 'Also prints the listing'
-complete -c chipbench -n '__fish_seen_subcommand_from prove' -l keys-to -d 'PATH'
+complete -c chipbench -n '__fish_seen_subcommand_from prove' -l keys-to -r -d 'Writes the key events of the first script that was found to a file'
 complete -c chipbench -n '__fish_seen_subcommand_from prove' -l only -x -d 'Answers the property of this line alone'
 complete -c chipbench -n '__fish_seen_subcommand_from prove' -l seconds -x -d 'Ends the search after so many seconds'
 complete -c chipbench -n '__fish_seen_subcommand_from explain' -f -a '(chipbench explain 2>/dev/null | cut -d '\'' '\'' -f 1)'

@@ -70,17 +70,14 @@ class Language:
 
 
 class Argument:
-    def __init__(self, body, consts):
-        made = re.search(
-            r'\b(option|place|flag)\(\s*alloc,\s*"([\w-]+)",\s*(?:"([A-Z]+)",\s*)?(?:"((?:[^"\\]|\\.)*)"|([A-Z_]+))', body)
-        kind, name, self.value, text, const = made.groups()
-        self.long, self.help = None if kind == "place" else name, text or consts[const]
+    def __init__(self, kind, name, value, help):
+        self.long, self.value, self.help = None if kind == "place" else name, value or None, help
 
 
 class Command:
     def __init__(self, row, arguments):
         self.name, self.about, self.example, listed = row
-        taken = [arguments[re.sub(r"(?<!^)(?=[A-Z])", "_", name).lower()] for name in re.findall(r"Argument::(\w+)", listed)]
+        taken = [arguments[name] for name in re.findall(r"Argument::(\w+)", listed)]
         self.options = [argument for argument in taken if argument.long]
         self.places = [argument.value for argument in taken if not argument.long]
 
@@ -109,10 +106,10 @@ class Words:
         for name, value in re.findall(r'const (\w+): &str = "((?:[^"\\]|\\.|\\\n)*)";', text):
             consts[name] = re.sub(r"\\\n\s*", "", value)
         functions = dict(re.findall(r"\n(?:pub\(crate\) )?fn (\w+)<'a>\(\s*alloc: Global(.*?)\n}", text, re.S))
-        arguments = {}
-        for name, body in functions.items():
-            if name.endswith("_argument"):
-                arguments[name[: -len("_argument")]] = Argument(body, consts)
+        helps = {name: re.sub(r"\\\n\s*", "", help)
+                 for name, help in re.findall(r'Argument::(\w+) =>\s*"((?:[^"\\]|\\.|\\\n)*)"', text)}
+        made = re.findall(r'Argument::(\w+) => (\w+)\(alloc, "([\w-]+)", (?:"([A-Z]+)", )?help\b', text)
+        arguments = {name: Argument(kind, long, value, helps[name]) for name, kind, long, value in made}
 
         rows = re.findall(
             r'CommandRow \{\s*name: "(\w+)",\s*about: "(.*?)",\s*notes: (?:"Example: (.*?)"|[A-Z_]+),\s*arguments: &\[(.*?)\]',
@@ -132,7 +129,7 @@ def bash(words):
         cases.append(f'        {command.name}) options="{options} --help" ;;')
     names = " ".join(command.name for command in words.commands)
     seen = {option.long: option.value for command in words.commands for option in command.options}
-    untold = " | ".join(f"--{name}" for name, value in seen.items() if value not in (None, "FILE") and name not in CHOICES)
+    untold = " | ".join(f"--{name}" for name, value in seen.items() if value not in (None, "FILE", "PATH") and name not in CHOICES)
     choices = [f'        --{name}) COMPREPLY=($(compgen -W "{words}" -- "$word")); return ;;' for name, words in CHOICES.items()]
     return "\n".join([
         "# Completion of chipbench's words for bash; made by frontends/editors/generate.py.",

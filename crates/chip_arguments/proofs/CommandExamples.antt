@@ -7,11 +7,12 @@ use Rattle.chip_arguments.specs.inner.Built.{command_names}
 use Rattle.clap.specs.declared.error.kind.ErrorKind.TheVariants as kind
 use Rattle.clap.proofs.OnLiterals.{clap_on_literals}
 use Rattle.std.specs.Prelude.{⊤}
-use Rattle.chip_arguments.specs.CommandLine.{against, allow, allowed_keys, always, any_speed, as_image, ascii, asm, check, chipbench, code, color, cover, debug, deep, dis, every, explain, explore, files, from, hash, hex, image, json, keys, keys_to, list, needed_source, never, only, output, pbm, picture, png, profile, progress, prove, quirks, quiet, rate, reach, run, search_steps, seconds, seed, source, sources, states, steps, syms, tap, tape, test, trace, update, want, with_search, with_settings, with_steps}
+use Rattle.chip_arguments.specs.CommandLine.{asm, check, chipbench, debug, dis, explain, explore, list, picture, prove, run, syms, test, trace, with_search, with_settings, with_steps}
+use Rattle.chip_arguments.proofs.ArgumentRules.{argument_rules}
 
 -- what is unfolded to judge arguments that are written out
 unfoldable pub chipbench_on_literals : ⊤
-unfolding clap_on_literals against allow allowed_keys always any_speed as_image ascii asm check chipbench code color cover debug deep dis every explain explore files from hash hex image json keys keys_to list needed_source never only output pbm picture png profile progress prove quirks quiet rate reach run search_steps seconds seed source sources states steps syms tap tape test trace update want with_search with_settings with_steps
+unfolding clap_on_literals argument_rules asm check chipbench debug dis explain explore list picture prove run syms test trace with_search with_settings with_steps
 chipbench_on_literals = tt
 
 pub is_exact : is_simple_and_free chipbench ≡ true

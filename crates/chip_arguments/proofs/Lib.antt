@@ -1,3 +1,4 @@
+pub mod ArgumentRules
 pub mod CommandLemmas
 pub mod CommandExamples
 pub mod FaultLemmas

@@ -1,13 +1,13 @@
 -- Which command arguments that `clap` takes name: one of the program's own, and not `help`, which
 -- `clap` answers by itself.
-use Rattle.std.proofs.Common.{◌≡◌, ◌≢◌, inl, inr, List, [], ◌∷◌, ◌++◌, Bool, true, false, ℕ, Option, Some, None, codes, map, refl, sym, ◌∙◌, ap, subst, fold, ◌||◌, ◌&&◌, if◌then◌else◌, option_map}
+use Rattle.std.proofs.Common.{◌≡◌, inl, inr, List, [], ◌∷◌, ◌++◌, Bool, true, false, ℕ, Option, Some, None, codes, map, refl, sym, ◌∙◌, ap, subst, fold, ◌||◌, ◌&&◌, if◌then◌else◌, option_map}
 use Rattle.std.proofs.lemmas.Slice.Eq.{bytes_eq-Decides}
 use Rattle.std.specs.List.{find, list_all}
 use Rattle.std.specs.Str.{bytes_eq}
 use Rattle.clap.specs.Faults.{other_fault, turn_fault, walk_fault, word_fault}
 use Rattle.clap.specs.Kinds.{Kinds, or_else}
 use Rattle.clap.specs.Simple.{App, Shape, argument_words, built, entered, label_of, names_of, rows_at}
-use Rattle.clap.specs.Walk.{Held, Names, Outcome, Row, Rule, Step, Text, Waiting, Walk, after_flag, after_step, answers_to, arg_by_index, arg_by_long, arg_by_short, bundle, idle, long_met, long_or_other, nothing_held, option, plain_word, stop_after, positional, short_or_plain, subcommand_met, subcommand_or_other, to_positional, walk, walk_from, walked, walked_from, word_met}
+use Rattle.clap.specs.Walk.{Held, Names, Outcome, Row, Rule, Step, Text, Waiting, Walk, after_flag, after_step, answers_to, arg_by_index, arg_by_long, bundle, idle, long_met, long_or_other, nothing_held, option, plain_word, stop_after, positional, short_or_plain, subcommand_met, subcommand_or_other, to_positional, walk_from, walked, walked_from, word_met}
 use Rattle.clap.specs.Walk as walking
 use Rattle.clap.specs.Lexer.{long_of, short_of}
 use Rattle.clap.specs.Words.{fault_of, subcommand_of}
@@ -176,23 +176,6 @@ entered_name a (Some p) name rows plain before e = by_found (find (λ s. answers
         let known = found (λ s. answers_to p.0 (label_of s)) (λ (s : Shape). has_none s.aliases) a.subs s plain is in
         let word = named_so p.0 s known.2 known.1 in
         (subst (λ (n : List ℕ). IsOneOf n (map (λ (s : Shape). s.name) a.subs)) is_name known.0, λ help. before (sym word ∙ is_name ∙ help))
-
-pub debug_is_left : (name : List ℕ) → IsOneOf name command_names → name ≢ codes "asm" → name ≢ codes "list" → name ≢ codes "syms"
-    → name ≢ codes "dis" → name ≢ codes "run" → name ≢ codes "trace" → name ≢ codes "picture" → name ≢ codes "check" → name ≢ codes "test" → name ≢ codes "explore" → name ≢ codes "prove" → name ≢ codes "explain" → name ≡ codes "debug"
-debug_is_left name (inl e) asm list syms dis run trace picture check test explore prove explain = e
-debug_is_left name (inr (inl e)) asm list syms dis run trace picture check test explore prove explain = absurd (asm e)
-debug_is_left name (inr (inr (inl e))) asm list syms dis run trace picture check test explore prove explain = absurd (list e)
-debug_is_left name (inr (inr (inr (inl e)))) asm list syms dis run trace picture check test explore prove explain = absurd (syms e)
-debug_is_left name (inr (inr (inr (inr (inl e))))) asm list syms dis run trace picture check test explore prove explain = absurd (dis e)
-debug_is_left name (inr (inr (inr (inr (inr (inl e)))))) asm list syms dis run trace picture check test explore prove explain = absurd (run e)
-debug_is_left name (inr (inr (inr (inr (inr (inr (inl e))))))) asm list syms dis run trace picture check test explore prove explain = absurd (trace e)
-debug_is_left name (inr (inr (inr (inr (inr (inr (inr (inl e)))))))) asm list syms dis run trace picture check test explore prove explain = absurd (picture e)
-debug_is_left name (inr (inr (inr (inr (inr (inr (inr (inr (inl e))))))))) asm list syms dis run trace picture check test explore prove explain = absurd (check e)
-debug_is_left name (inr (inr (inr (inr (inr (inr (inr (inr (inr (inl e)))))))))) asm list syms dis run trace picture check test explore prove explain = absurd (test e)
-debug_is_left name (inr (inr (inr (inr (inr (inr (inr (inr (inr (inr (inl e))))))))))) asm list syms dis run trace picture check test explore prove explain = absurd (explore e)
-debug_is_left name (inr (inr (inr (inr (inr (inr (inr (inr (inr (inr (inr (inl e)))))))))))) asm list syms dis run trace picture check test explore prove explain = absurd (prove e)
-debug_is_left name (inr (inr (inr (inr (inr (inr (inr (inr (inr (inr (inr (inr (inl e))))))))))))) asm list syms dis run trace picture check test explore prove explain = absurd (explain e)
-debug_is_left name (inr (inr (inr (inr (inr (inr (inr (inr (inr (inr (inr (inr (inr none))))))))))))) asm list syms dis run trace picture check test explore prove explain = absurd none
 
 pub command_is : (arguments : List (List ℕ)) (name : List ℕ) (rows : List Row) → fault_of chipbench arguments ≡ [] → subcommand_of chipbench arguments ≡ Some (name, rows)
     → IsOneOf name command_names

@@ -1,7 +1,5 @@
 -- What the values of a command ask for, from what `clap` reads in them.
 use Rattle.std.proofs.Common.{◌≡◌, inl, inr, ℕ, Bool, Bor, map, true, false, List, [], ◌∷◌, codes, Option, Some, None, Result, Ok, Err, IfOk, option_map, unwrap_or, refl, sym, ◌∙◌, ap, ap₂, subst}
-use Rattle.std.specs.Str.{bytes_eq}
-use Rattle.std.proofs.lemmas.Slice.Eq.{bytes_eq-Decides}
 use Rattle.clap.proofs.WalkLemmas.{both, first_value-rows, one_text-rows}
 use Rattle.clap.specs.Kinds.{FailsBy, HasKind, IsAmong, Kinds, or_else}
 use Rattle.std.specs.Box.{box_value}
@@ -11,41 +9,16 @@ use Rattle.clap.specs.declared.parser.matches.ArgMatches.{ArgMatches}
 use Rattle.clap.specs.declared.parser.matches.ArgMatches.TheViews.{out-ArgMatches, out-SubCommand}
 use Rattle.clap.specs.declared.error.Error.{Error}
 use Rattle.clap.specs.declared.error.kind.ErrorKind.{ErrorKind}
-use Rattle.clap.specs.declared.error.kind.ErrorKind.TheVariants as kind
 use Rattle.clap.specs.declared.parser.matches.Found.{Found}
 use Rattle.chip_arguments.specs.CommandLine.{chipbench}
-use Rattle.chip_arguments.specs.CommandArguments.{Asks, AsksBy, AsksFlag, AsksFor, ReadsNumber, ReadsOr, both_fault, clash_fault, faults_below, value_faults, argument_faults, needed}
+use Rattle.chip_arguments.specs.CommandArguments.{Asks, AsksBy, AsksFlag, AsksFor, faults_below, value_faults, argument_faults}
 use Rattle.chip_arguments.specs.SettingArguments.{default_arguments}
 use Rattle.chip_arguments.specs.inner.Built.{JudgesAsAll}
 use Rattle.chip_arguments.specs.declared.command_line.CommandLine.{CommandLine}
 use Rattle.chip_arguments.specs.declared.command_line.CommandLine.TheVariants as line
 
-pub needed_is : (found : Found) (id text : List ℕ) → text ≡ unwrap_or (first_value found id) [] → text ≡ needed id (rows_of found)
-needed_is found id text e = e ∙ ap (λ (t : Option (List ℕ)). unwrap_or t []) (first_value-rows found id)
-
 pub first_is : (found : Found) (id : List ℕ) (text : Option (List ℕ)) → text ≡ first_value found id → text ≡ first_of id (rows_of found)
 first_is found id text e = e ∙ first_value-rows found id
-
--- a flag and an argument that are read
-pub clash_is : (found : Found) (flag other : List ℕ) (set given : Option (List ℕ)) → set ≡ first_value found flag → given ≡ first_value found other →
-    clash_fault set given ≡ clash_fault (first_of flag (rows_of found)) (first_of other (rows_of found))
-clash_is found flag other set given is_set is_given = ap₂ clash_fault (first_is found flag set is_set) (first_is found other given is_given)
-
--- two arguments that are read
-pub both_is : (found : Found) (one other : List ℕ) (first second : Option (List ℕ)) → first ≡ first_value found one → second ≡ first_value found other →
-    both_fault first second ≡ both_fault (first_of one (rows_of found)) (first_of other (rows_of found))
-both_is found one other first second is_first is_second = ap₂ both_fault (first_is found one first is_first) (first_is found other second is_second)
-
--- a number that is read, or one in its place
-pub reads_first : (found : Found) (bits : ℕ) (id : List ℕ) (text : Option (List ℕ)) (read : Option ℕ) → text ≡ first_value found id →
-    ReadsNumber bits text read → ReadsNumber bits (first_of id (rows_of found)) read
-reads_first found bits id text read is reads =
-    subst (λ (t : Option (List ℕ)). ReadsNumber bits t read) (first_is found id text is) reads
-
-pub reads_or : (found : Found) (id : List ℕ) (text : Option (List ℕ)) (read : Option ℕ) (default number : ℕ) → text ≡ first_value found id →
-    ReadsNumber 32 text read → number ≡ unwrap_or read default → ReadsOr 32 (first_of id (rows_of found)) default number
-reads_or found id text read default number is reads number_is =
-    record { read = read; reads = reads_first found 32 id text read is reads; number_is = number_is }
 
 -- a flag that is read
 pub flag_is : (found : Found) (id : List ℕ) (is_set : Bool) → (one_text found id ≡ Some (codes "true") → is_set ≡ true) →

@@ -1,13 +1,11 @@
 //! What the arguments ask for.
-ghost use Rattle.std.specs.Prelude.{◌≡◌, [], Ok, None, Some, false, IfOk, map, option_copied, codes};
+ghost use Rattle.std.specs.Prelude.{◌≡◌, [], Ok, None, Some, false, IfOk, map, option_copied, unwrap_or, codes};
 ghost use Rattle.std.specs.Char.{is_ascii_digit};
 ghost use Rattle.std.specs.List.{list_all};
-ghost use Rattle.clap.specs.Matches.{found_of};
-ghost use Rattle.clap.specs.Words.{FailsBy, first_of, kind_of, one_of, rows_of};
+ghost use Rattle.clap.specs.Words.{FailsBy, all_of, first_of, kind_of, one_of};
 ghost use Rattle.chip_arguments.specs.SettingArguments.{default_arguments};
-ghost use Rattle.chip_machine.specs.QuirkList.{quirks_asked};
-ghost use Rattle.chip_arguments.specs.CommandArguments.{Asks, AsksFor, AsksQuirks, AsksSettings, ReadsNumber, AsksCheck, color_asked, AsksExplore, AsksPicture, AsksProve, AsksRun, AsksSearch, AsksTest, AsksTrace, both_fault, clash_fault, clash_faults, color_fault, first_value_fault, new_file_fault, new_files, number_fault, numbers, value_faults, argument_faults, needed, quirks_fault};
-ghost use Rattle.chip_arguments.specs.inner.Built.{IsOneOf, command_names};
+ghost use Rattle.chip_arguments.specs.CommandArguments.{Asks, AsksFlag, AsksFor, AsksQuirks, AsksSettings, ReadsNumber, ReadsOr, AsksCheck, color_asked, AsksExplore, AsksPicture, AsksProve, AsksRun, AsksSearch, AsksTest, AsksTrace, both_fault, clash_fault, clash_faults, color_fault, first_value_fault, new_file_fault, number_fault, numbers, value_faults, argument_faults, needed, quirks_fault};
+ghost use Rattle.chip_arguments.specs.inner.Built.{IsOneOf, command_names, rows_in};
 
 use crate::commands::{chipbench, chipbench_for};
 use crate::limits::USUAL_STATES;
@@ -249,6 +247,14 @@ impl<'a> SettingArguments<'a> {
     };
 }
 
+// What a program without a command is asked to do.
+const EMPTY_SESSION: CommandLine<'static> = CommandLine::Debug {
+    source: None,
+    is_image: false,
+    is_quiet: false,
+    settings: SettingArguments::DEFAULT,
+};
+
 /// Reads the arguments after the program's name.
 ///
 /// # Errors
@@ -263,22 +269,12 @@ pub fn parse_arguments<'a, S: AsStr>(
     ensures none { arguments.entry.now ≡ [] → result ≡ Ok (CommandLine.Debug None false false default_arguments) }
 {
     let Some(first) = arguments.first() else {
-        return Ok(CommandLine::Debug {
-            source: None,
-            is_image: false,
-            is_quiet: false,
-            settings: SettingArguments::DEFAULT,
-        });
+        return Ok(EMPTY_SESSION);
     };
     let matches = chipbench_for(alloc, first.as_str())?.try_get_matches_from(arguments)?;
     match matches.subcommand() {
         Some((name, found)) => command_asked(alloc, name, found),
-        None => Ok(CommandLine::Debug {
-            source: None,
-            is_image: false,
-            is_quiet: false,
-            settings: SettingArguments::DEFAULT,
-        }),
+        None => Ok(EMPTY_SESSION),
     }
 }
 
@@ -289,55 +285,55 @@ fn command_asked<'a>(
     found: &ArgMatches<'a>,
 ) -> Result<CommandLine<'a>, Error>
     requires { IsOneOf name.now command_names }
-    ensures asked { IfOk result (Asks name.now (rows_of (found_of found.now))) }
-    ensures fault { FailsBy (value_faults (rows_of (found_of found.now))) result }
+    ensures asked { IfOk result (Asks name.now (rows_in found.now)) }
+    ensures fault { FailsBy (value_faults (rows_in found.now)) result }
 {
     let quirks = judged(alloc, found)?;
-    Ok(match name {
-        "asm" => CommandLine::Asm {
+    match name {
+        "asm" => Ok(CommandLine::Asm {
             source: required_text(found, "source"),
             image: required_text(found, "output"),
-        },
-        "list" => CommandLine::List {
+        }),
+        "list" => Ok(CommandLine::List {
             source: required_text(found, "source"),
-            is_hex: found.get_flag("hex"),
-        },
-        "syms" => CommandLine::Syms {
+            is_hex: is_set(found, "hex"),
+        }),
+        "syms" => Ok(CommandLine::Syms {
             source: required_text(found, "source"),
-            is_hex: found.get_flag("hex"),
-        },
-        "check" => CommandLine::Check(check_arguments(alloc, found, quirks)?),
-        "dis" => CommandLine::Dis {
+            is_hex: is_set(found, "hex"),
+        }),
+        "check" => Ok(CommandLine::Check(check_arguments(alloc, found, quirks)?)),
+        "dis" => Ok(CommandLine::Dis {
             image: required_text(found, "image"),
-        },
-        "run" => CommandLine::Run(run_arguments(found, quirks)),
-        "trace" => CommandLine::Trace(trace_arguments(found, quirks)),
-        "picture" => CommandLine::Picture(picture_arguments(found, quirks)),
-        "test" => CommandLine::Test(test_arguments(alloc, found)?),
-        "explore" => CommandLine::Explore(explore_arguments(found, quirks)),
-        "prove" => CommandLine::Prove(prove_arguments(found, quirks)),
-        "explain" => CommandLine::Explain {
-            code: found.get_str("code"),
-        },
-        _ => CommandLine::Debug {
-            source: found.get_str("source"),
-            is_image: found.get_flag("image"),
-            is_quiet: found.get_flag("quiet"),
+        }),
+        "run" => Ok(CommandLine::Run(run_arguments(found, quirks))),
+        "trace" => Ok(CommandLine::Trace(trace_arguments(found, quirks))),
+        "picture" => Ok(CommandLine::Picture(picture_arguments(found, quirks))),
+        "test" => Ok(CommandLine::Test(test_arguments(alloc, found)?)),
+        "explore" => Ok(CommandLine::Explore(explore_arguments(found, quirks))),
+        "prove" => Ok(CommandLine::Prove(prove_arguments(found, quirks))),
+        "explain" => Ok(CommandLine::Explain {
+            code: value(found, "code"),
+        }),
+        _ => Ok(CommandLine::Debug {
+            source: value(found, "source"),
+            is_image: is_set(found, "image"),
+            is_quiet: is_set(found, "quiet"),
             settings: setting_arguments(found, quirks),
-        },
-    })
+        }),
+    }
 }
 
 // Judges the values that `clap` takes and the program doesn't, and gives the quirks that they name.
 fn judged(alloc: Global, found: &ArgMatches<'_>) -> Result<Quirks, Error>
-    ensures quirks { IfOk result (AsksQuirks (rows_of (found_of found.now))) }
-    ensures fault { FailsBy (value_faults (rows_of (found_of found.now))) result }
+    ensures quirks { IfOk result (AsksQuirks (rows_in found.now)) }
+    ensures fault { FailsBy (value_faults (rows_in found.now)) result }
 {
     check_numbers(alloc, found, &NUMBERS)?;
     check_new_files(alloc, found, &NEW_FILES)?;
     check_clashes(alloc, found)?;
-    check_color(alloc, found.get_str("color"))?;
-    quirks_asked(alloc, found.get_str("profile"), found.get_str("quirks"))
+    check_color(alloc, found)?;
+    quirks_asked(alloc, found)
 }
 
 // `clap` takes a sign before the digits of a number.
@@ -347,10 +343,10 @@ fn check_numbers(
     arguments: &[(&str, &str)],
 ) -> Result<(), Error>
     ensures { FailsBy (first_value_fault number_fault (map (λ argument. argument.0.now) arguments.now)
-        (rows_of (found_of found.now))) result }
+        (rows_in found.now)) result }
 {
     for (id, shown) in arguments {
-        check_number(alloc, found.get_str(id), shown)?;
+        check_number(alloc, found, id, shown)?;
     }
     Ok(())
 }
@@ -362,37 +358,39 @@ fn check_new_files(
     arguments: &[(&str, &str)],
 ) -> Result<(), Error>
     ensures { FailsBy (first_value_fault new_file_fault (map (λ argument. argument.0.now) arguments.now)
-        (rows_of (found_of found.now))) result }
+        (rows_in found.now)) result }
 {
     for (id, shown) in arguments {
-        check_new_file(alloc, found.get_str(id), shown)?;
+        check_new_file(alloc, found, id, shown)?;
     }
     Ok(())
 }
 
 // Arguments that do not go together.
 fn check_clashes(alloc: Global, found: &ArgMatches<'_>) -> Result<(), Error>
-    ensures { FailsBy (clash_faults (rows_of (found_of found.now))) result }
+    ensures { FailsBy (clash_faults (rows_in found.now)) result }
 {
-    let (json, ascii) = (found.get_str("json"), found.get_str("ascii"));
     let message = "the argument '--json' cannot be used with '--against <FILE>'";
-    check_clash(alloc, json, found.get_str("against"), message)?;
+    check_clash(alloc, found, "json", "against", message)?;
     let message = "the argument '--ascii' cannot be used with '--pbm <FILE>'";
-    check_clash(alloc, ascii, found.get_str("pbm"), message)?;
+    check_clash(alloc, found, "ascii", "pbm", message)?;
     let message = "the argument '--ascii' cannot be used with '--png <FILE>'";
-    check_clash(alloc, ascii, found.get_str("png"), message)?;
-    check_both(alloc, found.get_str("never"), found.get_str("always"))
+    check_clash(alloc, found, "ascii", "png", message)?;
+    check_both(alloc, found)
 }
 
+// A flag, and an argument that it does not go with.
 fn check_clash(
     alloc: Global,
-    flag: Option<&str>,
-    other: Option<&str>,
+    found: &ArgMatches<'_>,
+    flag: &str,
+    other: &str,
     message: &str,
 ) -> Result<(), Error>
-    ensures { FailsBy (clash_fault (option_copied flag.entry) (option_copied other.entry)) result }
+    ensures { FailsBy (clash_fault (first_of flag.now (rows_in found.now))
+        (first_of other.now (rows_in found.now))) result }
 {
-    match (flag, other) {
+    match (value(found, flag), value(found, other)) {
         (Some("true"), Some(_)) => {
             Err(usage_error(alloc, ErrorKind::ArgumentConflict, message)?)
         }
@@ -401,10 +399,11 @@ fn check_clash(
 }
 
 // Two properties, of which a search takes one.
-fn check_both(alloc: Global, never: Option<&str>, always: Option<&str>) -> Result<(), Error>
-    ensures { FailsBy (both_fault (option_copied never.entry) (option_copied always.entry)) result }
+fn check_both(alloc: Global, found: &ArgMatches<'_>) -> Result<(), Error>
+    ensures { FailsBy (both_fault (first_of (codes "never") (rows_in found.now))
+        (first_of (codes "always") (rows_in found.now))) result }
 {
-    match (never, always) {
+    match (value(found, "never"), value(found, "always")) {
         (Some(_), Some(_)) => {
             let message = "the argument '--never <TEXT>' cannot be used with '--always <TEXT>'";
             Err(usage_error(alloc, ErrorKind::ArgumentConflict, message)?)
@@ -413,56 +412,44 @@ fn check_both(alloc: Global, never: Option<&str>, always: Option<&str>) -> Resul
     }
 }
 
-fn check_number(alloc: Global, text: Option<&str>, shown: &str) -> Result<(), Error>
-    ensures { FailsBy (number_fault (option_copied text.entry)) result }
+fn check_number(alloc: Global, found: &ArgMatches<'_>, id: &str, shown: &str) -> Result<(), Error>
+    ensures { FailsBy (number_fault (first_of id.now (rows_in found.now))) result }
 {
-    match text {
-        Some(text) if !is_decimal(text) => Err(no_number(alloc, text, shown)?),
+    match value(found, id) {
+        Some(text) if !is_decimal(text) => {
+            let message = format!(in alloc;
+                "invalid value '{text}' for '{shown}': invalid digit found in string"
+            )?;
+            Err(usage_error(alloc, ErrorKind::ValueValidation, message.as_str())?)
+        }
         _ => Ok(()),
     }
 }
 
-fn check_new_file(alloc: Global, name: Option<&str>, shown: &str) -> Result<(), Error>
-    ensures { FailsBy (new_file_fault (option_copied name.entry)) result }
+fn check_new_file(alloc: Global, found: &ArgMatches<'_>, id: &str, shown: &str) -> Result<(), Error>
+    ensures { FailsBy (new_file_fault (first_of id.now (rows_in found.now))) result }
 {
-    match name {
-        Some("-") => Err(no_new_file(alloc, shown)?),
+    match value(found, id) {
+        Some("-") => {
+            let message = format!(in alloc; "{shown} can't be standard output")?;
+            Err(usage_error(alloc, ErrorKind::InvalidValue, message.as_str())?)
+        }
         _ => Ok(()),
     }
 }
 
-fn check_color(alloc: Global, word: Option<&str>) -> Result<(), Error>
-    ensures { FailsBy (color_fault (option_copied word.entry)) result }
+fn check_color(alloc: Global, found: &ArgMatches<'_>) -> Result<(), Error>
+    ensures { FailsBy (color_fault (first_of (codes "color") (rows_in found.now))) result }
 {
-    match word {
+    match value(found, "color") {
         None | Some("auto" | "always" | "never") => Ok(()),
-        Some(word) => Err(no_such_color(alloc, word)?),
+        Some(word) => {
+            let message = format!(in alloc;
+                "invalid value '{word}' for '--color <WHEN>'\n  [possible values: auto, always, never]"
+            )?;
+            Err(usage_error(alloc, ErrorKind::InvalidValue, message.as_str())?)
+        }
     }
-}
-
-fn no_such_color(alloc: Global, word: &str) -> Result<Error, AllocError>
-    ensures { IfOk result (λ error. kind_of error ≡ ErrorKind.InvalidValue) }
-{
-    let message = format!(in alloc;
-        "invalid value '{word}' for '--color <WHEN>'\n  [possible values: auto, always, never]"
-    )?;
-    usage_error(alloc, ErrorKind::InvalidValue, message.as_str())
-}
-
-fn no_number(alloc: Global, text: &str, shown: &str) -> Result<Error, AllocError>
-    ensures { IfOk result (λ error. kind_of error ≡ ErrorKind.ValueValidation) }
-{
-    let message = format!(in alloc;
-        "invalid value '{text}' for '{shown}': invalid digit found in string"
-    )?;
-    usage_error(alloc, ErrorKind::ValueValidation, message.as_str())
-}
-
-fn no_new_file(alloc: Global, shown: &str) -> Result<Error, AllocError>
-    ensures { IfOk result (λ error. kind_of error ≡ ErrorKind.InvalidValue) }
-{
-    let message = format!(in alloc; "{shown} can't be standard output")?;
-    usage_error(alloc, ErrorKind::InvalidValue, message.as_str())
 }
 
 // Whether a text has decimal digits alone.
@@ -491,46 +478,71 @@ fn usage_error(alloc: Global, kind: ErrorKind, message: &str) -> Result<Error, A
 }
 
 // The quirks of a profile, which is SUPER-CHIP where there is no name, but for those of a list.
-fn quirks_asked(alloc: Global, name: Option<&str>, list: Option<&str>) -> Result<Quirks, Error>
-    ensures asked { IfOk result (λ quirks.
-        quirks_asked (option_copied name.entry) (option_copied list.entry) ≡ Some quirks) }
-    ensures fault { FailsBy (quirks_fault (option_copied name.entry) (option_copied list.entry))
-        result }
+fn quirks_asked(alloc: Global, found: &ArgMatches<'_>) -> Result<Quirks, Error>
+    ensures asked { IfOk result (AsksQuirks (rows_in found.now)) }
+    ensures fault { FailsBy (quirks_fault (first_of (codes "profile") (rows_in found.now))
+        (first_of (codes "quirks") (rows_in found.now))) result }
 {
+    let (name, list) = (value(found, "profile"), value(found, "quirks"));
     let Some(profile) = Profile::asked(name) else {
-        return Err(no_such_profile(alloc, name.unwrap_or(""))?);
+        let name = name.unwrap_or("");
+        let names = PROFILES.join(alloc, ", ")?;
+        let message = format!(in alloc;
+            "invalid value '{name}' for '--profile <NAME>'\n  [possible values: {names}]"
+        )?;
+        return Err(usage_error(alloc, ErrorKind::InvalidValue, message.as_str())?);
     };
-    match profile.quirks().asked(list) {
-        Some(quirks) => Ok(quirks),
-        None => Err(no_such_quirks(alloc, list.unwrap_or(""))?),
-    }
+    let Some(quirks) = profile.quirks().asked(list) else {
+        let list = list.unwrap_or("");
+        let choices = QUIRKS.join(alloc, ", ")?;
+        let message = format!(in alloc;
+            "invalid value '{list}' for '--quirks <LIST>'\n  [each quirk once at most: {choices}]"
+        )?;
+        return Err(usage_error(alloc, ErrorKind::InvalidValue, message.as_str())?);
+    };
+    Ok(quirks)
 }
 
-fn no_such_profile(alloc: Global, name: &str) -> Result<Error, AllocError>
-    ensures { IfOk result (λ error. kind_of error ≡ ErrorKind.InvalidValue) }
+// The first value of an argument.
+#[tactic(auto, using(crate::proofs::WordLemmas::first_is))]
+fn value<'a>(found: &ArgMatches<'a>, id: &str) -> Option<&'a str>
+    ensures { option_copied result ≡ first_of id.now (rows_in found.now) }
 {
-    let names = PROFILES.join(alloc, ", ")?;
-    let message = format!(in alloc;
-        "invalid value '{name}' for '--profile <NAME>'\n  [possible values: {names}]"
-    )?;
-    usage_error(alloc, ErrorKind::InvalidValue, message.as_str())
-}
-
-fn no_such_quirks(alloc: Global, list: &str) -> Result<Error, AllocError>
-    ensures { IfOk result (λ error. kind_of error ≡ ErrorKind.InvalidValue) }
-{
-    let choices = QUIRKS.join(alloc, ", ")?;
-    let message = format!(in alloc;
-        "invalid value '{list}' for '--quirks <LIST>'\n  [each quirk once at most: {choices}]"
-    )?;
-    usage_error(alloc, ErrorKind::InvalidValue, message.as_str())
+    found.get_str(id)
 }
 
 // The text of an argument without which `clap` refuses the arguments.
 fn required_text<'a>(found: &ArgMatches<'a>, id: &str) -> &'a str
-    ensures { result.now ≡ needed id.now (rows_of (found_of found.now)) }
+    ensures { result.now ≡ needed id.now (rows_in found.now) }
 {
-    found.get_str(id).unwrap_or("")
+    value(found, id).unwrap_or("")
+}
+
+// All values of an argument.
+fn texts<'a>(alloc: Global, found: &ArgMatches<'a>, id: &str) -> Result<Vec<&'a str>, AllocError>
+    ensures { IfOk result (λ texts. map (λ text. text.now) texts.items
+        ≡ unwrap_or (all_of id.now (rows_in found.now)) []) }
+{
+    Vec::from_slice(alloc, found.get_strs(id).unwrap_or(&[]))
+}
+
+#[tactic(auto, using(crate::proofs::WordLemmas::flag_is))]
+fn is_set(found: &ArgMatches<'_>, id: &str) -> bool
+    ensures { AsksFlag (one_of id.now (rows_in found.now)) result }
+{
+    found.get_flag(id)
+}
+
+fn number_of(found: &ArgMatches<'_>, id: &str) -> Option<u32>
+    ensures { ReadsNumber 32 (first_of id.now (rows_in found.now)) result }
+{
+    number(value(found, id))
+}
+
+fn number_or(found: &ArgMatches<'_>, id: &str, default: u32) -> u32
+    ensures { ReadsOr 32 (first_of id.now (rows_in found.now)) default result }
+{
+    number_of(found, id).unwrap_or(default)
 }
 
 /// The number that a text of decimal digits stands for, where it fits.
@@ -558,14 +570,13 @@ pub fn seed(text: Option<&str>) -> Option<u64>
 }
 
 fn run_arguments<'a>(found: &ArgMatches<'a>, quirks: Quirks) -> RunArguments<'a>
-    ensures { AsksQuirks (rows_of (found_of found.now)) quirks
-        → AsksRun (rows_of (found_of found.now)) result }
+    ensures { AsksQuirks (rows_in found.now) quirks → AsksRun (rows_in found.now) result }
 {
     RunArguments {
         source: required_text(found, "source"),
-        is_image: found.get_flag("image"),
-        steps: number(found.get_str("steps")).unwrap_or(0),
-        keys: found.get_str("keys"),
+        is_image: is_set(found, "image"),
+        steps: number_or(found, "steps", 0),
+        keys: value(found, "keys"),
         settings: setting_arguments(found, quirks),
     }
 }
@@ -575,16 +586,15 @@ fn check_arguments<'a>(
     found: &ArgMatches<'a>,
     quirks: Quirks,
 ) -> Result<CheckArguments<'a>, AllocError>
-    ensures { AsksQuirks (rows_of (found_of found.now)) quirks
-        → IfOk result (AsksCheck (rows_of (found_of found.now))) }
+    ensures { AsksQuirks (rows_in found.now) quirks → IfOk result (AsksCheck (rows_in found.now)) }
 {
     Ok(CheckArguments {
-        sources: Vec::from_slice(alloc, found.get_strs("sources").unwrap_or(&[]))?,
-        is_json: found.get_flag("json"),
-        allowed: found.get_str("allow"),
-        color: color_asked(found.get_str("color")),
+        sources: texts(alloc, found, "sources")?,
+        is_json: is_set(found, "json"),
+        allowed: value(found, "allow"),
+        color: color_asked(value(found, "color")),
         quirks,
-        is_covering: found.get_flag("cover"),
+        is_covering: is_set(found, "cover"),
     })
 }
 
@@ -600,27 +610,25 @@ fn color_asked(word: Option<&str>) -> ColorChoice
 }
 
 fn trace_arguments<'a>(found: &ArgMatches<'a>, quirks: Quirks) -> TraceArguments<'a>
-    ensures { AsksQuirks (rows_of (found_of found.now)) quirks
-        → AsksTrace (rows_of (found_of found.now)) result }
+    ensures { AsksQuirks (rows_in found.now) quirks → AsksTrace (rows_in found.now) result }
 {
     TraceArguments {
         run: run_arguments(found, quirks),
-        from: number(found.get_str("from")).unwrap_or(0),
-        sums: found.get_flag("hash"),
-        is_json: found.get_flag("json"),
-        against: found.get_str("against"),
+        from: number_or(found, "from", 0),
+        sums: is_set(found, "hash"),
+        is_json: is_set(found, "json"),
+        against: value(found, "against"),
     }
 }
 
 fn picture_arguments<'a>(found: &ArgMatches<'a>, quirks: Quirks) -> PictureArguments<'a>
-    ensures { AsksQuirks (rows_of (found_of found.now)) quirks
-        → AsksPicture (rows_of (found_of found.now)) result }
+    ensures { AsksQuirks (rows_in found.now) quirks → AsksPicture (rows_in found.now) result }
 {
     PictureArguments {
         run: run_arguments(found, quirks),
-        ascii: found.get_flag("ascii"),
-        bitmap: found.get_str("pbm"),
-        png: found.get_str("png"),
+        ascii: is_set(found, "ascii"),
+        bitmap: value(found, "pbm"),
+        png: value(found, "png"),
     }
 }
 
@@ -628,68 +636,64 @@ fn test_arguments<'a>(
     alloc: Global,
     found: &ArgMatches<'a>,
 ) -> Result<TestArguments<'a>, AllocError>
-    ensures { IfOk result (AsksTest (rows_of (found_of found.now))) }
+    ensures { IfOk result (AsksTest (rows_in found.now)) }
 {
     Ok(TestArguments {
-        files: Vec::from_slice(alloc, found.get_strs("files").unwrap_or(&[]))?,
-        is_update: found.get_flag("update"),
-        is_tap: found.get_flag("tap"),
+        files: texts(alloc, found, "files")?,
+        is_update: is_set(found, "update"),
+        is_tap: is_set(found, "tap"),
     })
 }
 
 fn search_arguments<'a>(found: &ArgMatches<'a>, quirks: Quirks) -> SearchArguments<'a>
-    ensures { AsksQuirks (rows_of (found_of found.now)) quirks
-        → AsksSearch (rows_of (found_of found.now)) result }
+    ensures { AsksQuirks (rows_in found.now) quirks → AsksSearch (rows_in found.now) result }
 {
     SearchArguments {
         source: required_text(found, "source"),
-        steps: number(found.get_str("steps")),
-        states: number(found.get_str("states")).unwrap_or(USUAL_STATES),
-        is_deep: found.get_flag("deep"),
-        is_any_speed: found.get_flag("any-speed"),
-        allowed_keys: found.get_str("keys-allowed"),
-        keys_to: found.get_str("keys-to"),
-        is_progress_shown: found.get_flag("progress"),
+        steps: number_of(found, "steps"),
+        states: number_or(found, "states", USUAL_STATES),
+        is_deep: is_set(found, "deep"),
+        is_any_speed: is_set(found, "any-speed"),
+        allowed_keys: value(found, "keys-allowed"),
+        keys_to: value(found, "keys-to"),
+        is_progress_shown: is_set(found, "progress"),
         settings: setting_arguments(found, quirks),
     }
 }
 
 fn explore_arguments<'a>(found: &ArgMatches<'a>, quirks: Quirks) -> ExploreArguments<'a>
-    ensures { AsksQuirks (rows_of (found_of found.now)) quirks
-        → AsksExplore (rows_of (found_of found.now)) result }
+    ensures { AsksQuirks (rows_in found.now) quirks → AsksExplore (rows_in found.now) result }
 {
     ExploreArguments {
         search: search_arguments(found, quirks),
-        is_image: found.get_flag("image"),
-        causes: found.get_str("want"),
-        place: found.get_str("reach"),
-        never: found.get_str("never"),
-        always: found.get_str("always"),
-        is_covering: found.get_flag("cover"),
+        is_image: is_set(found, "image"),
+        causes: value(found, "want"),
+        place: value(found, "reach"),
+        never: value(found, "never"),
+        always: value(found, "always"),
+        is_covering: is_set(found, "cover"),
     }
 }
 
 fn prove_arguments<'a>(found: &ArgMatches<'a>, quirks: Quirks) -> ProveArguments<'a>
-    ensures { AsksQuirks (rows_of (found_of found.now)) quirks
-        → AsksProve (rows_of (found_of found.now)) result }
+    ensures { AsksQuirks (rows_in found.now) quirks → AsksProve (rows_in found.now) result }
 {
     ProveArguments {
         search: search_arguments(found, quirks),
-        only: number(found.get_str("only")),
-        seconds: number(found.get_str("seconds")),
-        is_json: found.get_flag("json"),
+        only: number_of(found, "only"),
+        seconds: number_of(found, "seconds"),
+        is_json: is_set(found, "json"),
     }
 }
 
 fn setting_arguments<'a>(found: &ArgMatches<'a>, quirks: Quirks) -> SettingArguments<'a>
-    ensures { AsksQuirks (rows_of (found_of found.now)) quirks
-        → AsksSettings (rows_of (found_of found.now)) result }
+    ensures { AsksQuirks (rows_in found.now) quirks → AsksSettings (rows_in found.now) result }
 {
     SettingArguments {
-        rate: number(found.get_str("rate")).unwrap_or(DEFAULT_RATE),
-        tape: found.get_str("tape"),
-        seed: seed(found.get_str("seed")),
+        rate: number_or(found, "rate", DEFAULT_RATE),
+        tape: value(found, "tape"),
+        seed: seed(value(found, "seed")),
         quirks,
-        spacing: number(found.get_str("every")).unwrap_or(LEAST_SPACING),
+        spacing: number_or(found, "every", LEAST_SPACING),
     }
 }

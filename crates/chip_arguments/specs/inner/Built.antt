@@ -1,12 +1,13 @@
--- What is built of a command (own).
+-- What is built of a command, and what was found of its arguments (own).
 use Rattle.std.specs.Prelude.{◌≡◌, ◌⊎◌, ℕ, List, [], ◌∷◌, codes, false, true}
 use Rattle.std.specs.List.{Contains}
-use Rattle.clap.specs.Words.{App, Rule, app_of, fault_of, is_simple_and_free, new_app, subcommand_of, with_rule}
+use Rattle.clap.specs.Words.{App, Row, Rule, app_of, fault_of, found_of, is_simple_and_free, new_app, rows_of, subcommand_of, with_rule}
 use Rattle.chip_arguments.specs.CommandLine as line
 use Rattle.chip_arguments.specs.declared.arguments.Argument.{Argument}
 use Rattle.chip_arguments.specs.declared.arguments.Argument.TheVariants as argument
 use Rattle.chip_arguments.specs.declared.commands.CommandRow.{CommandRow}
 use Rattle.clap.specs.declared.builder.command.Command.{Command}
+use Rattle.clap.specs.declared.parser.matches.ArgMatches.{ArgMatches}
 use Rattle.clap.specs.declared.builder.command.Command.TheViews.{out-Command as fields_of}
 
 -- the names of the program's commands
@@ -15,6 +16,10 @@ command_names =
     codes "debug" ∷ codes "asm" ∷ codes "list" ∷ codes "syms" ∷ codes "dis" ∷ codes "run"
     ∷ codes "trace" ∷ codes "picture" ∷ codes "check" ∷ codes "test" ∷ codes "explore"
     ∷ codes "prove" ∷ codes "explain" ∷ []
+
+-- what `clap` found of the arguments of a command
+abbrev pub rows_in : ArgMatches → List Row
+rows_in found = rows_of (found_of found)
 
 -- a name is one of these
 abbrev pub IsOneOf : List ℕ → List (List ℕ) → Type 0
