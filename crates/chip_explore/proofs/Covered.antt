@@ -24,6 +24,7 @@ use Rattle.chip_explore.specs.declared.setting.Setting.{Setting}
 use Rattle.chip_explore.specs.inner.Cover.{meets_goals, phase, tick_at, View, IsFine, forgotten_at, Joins, SafeFor, Safe, GoesBy, GoesTo, IsTaken}
 use Rattle.chip_explore.specs.inner.Delays.{AlikeTicks, bound_after, delay_register, read_as, register_read, timed_register, with_delay}
 use Rattle.chip_explore.specs.inner.Known.{are_goals_known}
+use Rattle.chip_explore.specs.inner.Told.{Covers}
 
 -- no choice of no keys has a key
 no_choice : (one : ℕ) → IsChoice 0 one → one ≡ 0
@@ -320,17 +321,20 @@ module _ (alike : AlikeSteps) (grow : DrawsGrow) where
 
     module _ (n : ℕ) (within_limit : n < v.limit) (taken : (j : ℕ) → j < length v.steps → slice_index v.steps j < n → IsTaken p v j)
         (start : State) (proper : IsProper start) (fresh : start.core.draws ≡ 0) (begun : Safe p v 0 start 0) (below_end : n < 2 ^ 64 - 1) where
-      pub covered : Avoids p.rate p.allowed p.target start n
+      covered : Avoids p.rate p.allowed p.target start n
       covered held script t within_n =
           ap (met_in p.target) (ticking_run p.rate held start t)
           ∙ avoided (ticks p.rate) (λ at_rate t. refl) n within_limit taken start 0 proper begun below_end start fresh held script refl t (omega arith) within_n
 
-      pub among : StaysAmong p.rate p.allowed v.executed start n
+      among : StaysAmong p.rate p.allowed v.executed start n
       among held script t within_n =
           ap (is_at_one v.executed) (ticking_run p.rate held start t)
           ∙ noted (ticks p.rate) (λ at_rate t. refl) n within_limit taken start 0 proper begun below_end start fresh held script refl t (omega arith) within_n
 
       -- where the ticks are free, whenever the timers tick
-      pub at_any_speed : p.free ≡ true → AvoidsAtAnySpeed p.allowed p.target start n
+      at_any_speed : p.free ≡ true → AvoidsAtAnySpeed p.allowed p.target start n
       at_any_speed free ticking held script t within_n =
           avoided ticking (λ at_rate. absurd (cc)) n within_limit taken start 0 proper begun below_end start fresh held script refl t (omega arith) within_n
+
+      pub all_covered : Covers p v.executed start n × (p.free ≡ true → AvoidsAtAnySpeed p.allowed p.target start n)
+      all_covered = (record { avoids = covered; stays = among }, at_any_speed)

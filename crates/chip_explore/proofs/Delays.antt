@@ -10,7 +10,7 @@ use Rattle.chip_machine.specs.declared.limits.TheConstants.{LAST_WORD}
 use Rattle.chip_machine.specs.declared.stop.Stop.{Stop}
 use Rattle.chip_machine.specs.declared.stop.Stop.TheVariants as cause
 use Rattle.chip_machine.specs.Forgotten.{AreKept, IsForgottenAfter, IsUnneeded, is_in_row, loaded, next_instr, stored as written}
-use Rattle.chip_machine.specs.Relevant.{Alike}
+use Rattle.chip_machine.specs.Relevant.{Alike, others}
 use Rattle.chip_machine.specs.Scroll.{scrolled_down, scrolled_right, scrolled_left}
 use Rattle.chip_machine.specs.Sprite.{sprite_bytes}
 use Rattle.chip_machine.specs.State.{Core, State, overwrite}
@@ -291,11 +291,11 @@ ticked_step s keys tick = step_ticked (is_some s.core.stopped) tick s keys
 
 -- ---- states that are alike, with other timers
 
-pub alike_silent : (f delay sound : ℕ) (a b : State) → Alike f (with_timers delay sound a) b → Alike f (with_delay delay a) b
-alike_silent f delay sound a b h =
+alike_timers : (f d e x y : ℕ) (a b : State) → Alike f a b → others (with_timers d x a).core ≡ others (with_timers e y b).core → Alike f (with_timers d x a) (with_timers e y b)
+alike_timers f d e x y a b h same =
     record {
       proper = record { memory_size = h.proper.memory_size };
-      others = h.others;
+      others = same;
       size = h.size;
       draws = h.draws;
       count = h.count;
@@ -306,20 +306,11 @@ alike_silent f delay sound a b h =
       memory = h.memory;
     }
 
+pub alike_silent : (f delay sound : ℕ) (a b : State) → Alike f (with_timers delay sound a) b → Alike f (with_delay delay a) b
+alike_silent f delay sound a b h = alike_timers f delay b.core.delay a.core.sound b.core.sound (with_timers delay sound a) b h h.others
+
 pub alike_delayed : (f d : ℕ) (a b : State) → Alike f a b → Alike f (with_delay d a) (with_delay d b)
-alike_delayed f d a b h =
-    record {
-      proper = record { memory_size = h.proper.memory_size };
-      others = ap (λ (o : Core). record o { delay = d }) h.others;
-      size = h.size;
-      draws = h.draws;
-      count = h.count;
-      registers = h.registers;
-      index = h.index;
-      near = h.near;
-      screen = h.screen;
-      memory = h.memory;
-    }
+alike_delayed f d a b h = alike_timers f d d a.core.sound b.core.sound a b h (ap (λ (o : Core). record o { delay = d }) h.others)
 
 pub within_bound : (value bound : ℕ) → value ≤ bound → value ≤ bound_after value bound
 within_bound value bound low = by_test (value == 0) refl

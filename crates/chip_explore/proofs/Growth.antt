@@ -18,7 +18,7 @@ use Rattle.chip_explore.specs.declared.setting.Setting.{Setting}
 use Rattle.chip_explore.specs.declared.ways.Reading.{Reading}
 use Rattle.chip_explore.specs.Executed.{is_among, is_at_one}
 use Rattle.chip_explore.specs.inner.Kept.{state_at}
-use Rattle.chip_explore.specs.inner.Cover.{phase, tick_at, View, Grows, IsFine, Moves, forgotten_at, Joins, SafeFor, Safe, IsTaken, Extends, GoesTo, GoesOn, GoesBy, HasChoices, HasValues, Holds, IsAt, Goes, Leads, LeadsAs, Ends, view_of}
+use Rattle.chip_explore.specs.inner.Cover.{Adds, GoesUpTo, phase, tick_at, View, Grows, IsFine, Moves, forgotten_at, Joins, SafeFor, Safe, IsTaken, Extends, GoesTo, GoesOn, GoesBy, HasChoices, HasValues, Holds, IsAt, Goes, Leads, LeadsAs, Ends, view_of}
 use Rattle.chip_explore.specs.inner.Delays.{read_as, timed_register}
 use Rattle.chip_explore.specs.inner.Known.{are_goals_known}
 use Rattle.chip_explore.proofs.Alike.{alike_through, alike_within, within_both}
@@ -186,6 +186,7 @@ goes p m n holds start more states forgotten closed same =
       start = start;
       extends = more;
       holds = record {
+        rate = holds.rate;
         states = states;
         forgotten = forgotten;
         closed = closed;
@@ -279,6 +280,12 @@ ends_erased p m n more f g s erased t fine within same ends =
 
 pub goes_more : (p : Setting) (l m n : Members) → Goes p l m → Goes p m n → Goes p l n
 goes_more p l m n one two = record { start = two.start ∙ one.start; extends = extends_more p (view_of l) (view_of m) (view_of n) one.extends two.extends; holds = two.holds }
+
+pub goes_up_to : (p : Setting) (l m n : Members) (most : ℕ) → Goes p l m → Goes p m n → length n.steps.items ≤ most → GoesUpTo p l n most
+goes_up_to p l m n most one two few = record { goes = goes_more p l m n one two; few = few }
+
+pub adds_more : (p : Setting) (l m n : Members) (a b : ℕ) → Adds p l m a → Adds p m n b → Adds p l n (a + b)
+adds_more p l m n a b one two = goes_up_to p l m n _ one.goes two.goes (omega arith)
 
 -- a kept state stays in its place
 pub same_member : (p : Setting) (m n : Members) → Goes p m n → (place : ℕ) → place < length m.steps.items → (view_of n).member place ≡ (view_of m).member place

@@ -216,6 +216,6 @@ pub always_as : (p other : Setting) (m : Members) (start : State) (n : ℕ) → 
     → AlwaysCan p.rate p.allowed p.goals.now start n
 always_as p other m start n like always_there =
     subst (λ (s : State). AlwaysCan p.rate p.allowed p.goals.now s n) like.searched.begins
-    (subst (λ (rate : ℕ). AlwaysCan rate p.allowed p.goals.now m.start n) like.rate
-    (subst (λ (allowed : ℕ). AlwaysCan other.rate allowed p.goals.now m.start n) like.allowed
-    (subst (λ (goals : List Property). AlwaysCan other.rate other.allowed goals m.start n) (ap (λ (goals : Bor (List Property)). goals.now) like.goals) always_there)))
+    (subst (λ (rate : ℕ). AlwaysCan rate p.allowed p.goals.now m.start n) like.same.rate
+    (subst (λ (allowed : ℕ). AlwaysCan other.rate allowed p.goals.now m.start n) like.same.allowed
+    (subst (λ (goals : List Property). AlwaysCan other.rate other.allowed goals m.start n) (ap (λ (goals : Bor (List Property)). goals.now) like.same.goals) always_there)))

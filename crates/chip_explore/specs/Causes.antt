@@ -2,13 +2,12 @@
 -- Source: own.
 --     is_wanted       whether a cause is among some, Sk at bit k
 --     with_number     some causes and the one of a number, if a cause has it
-use Rattle.std.specs.Prelude.{ℕ, ◌^◌, ◌&&◌, Bool, nat_le, Option, Some, None, bit_or, if◌then◌else◌}
+use Rattle.std.specs.Prelude.{ℕ, ◌^◌, ◌/◌, ◌%◌, ◌==◌, ◌&&◌, Bool, nat_le, Option, Some, None, bit_or, if◌then◌else◌}
 use Rattle.chip_machine.specs.declared.stop.Stop.{Stop}
 use Rattle.chip_machine.specs.Numbers.{stop_number}
-use Rattle.chip_machine.specs.Step.{is_key_down}
 
 abbrev pub is_wanted : ℕ → Stop → Bool
-is_wanted causes cause = is_key_down causes (stop_number cause)
+is_wanted causes cause = causes / 2 ^ stop_number cause % 2 == 1
 
 abbrev pub with_number : ℕ → ℕ → Option ℕ
 with_number causes k =

@@ -1,6 +1,6 @@
 //! Some steps in a row with no keys down, up to a state that meets the goals.
 
-ghost use Rattle.std.specs.Prelude.{◌≡◌, ◌<◌, ◌≤◌, ◌-◌, ◌^◌, ℕ, List, IfSome, IsNone};
+ghost use Rattle.std.specs.Prelude.{◌≡◌, ◌<◌, ◌-◌, ◌^◌, ℕ, List, IfSome, IsNone};
 ghost use Rattle.chip_explore.specs.inner.Cover.{View};
 ghost use Rattle.chip_explore.specs.inner.Ranks.{Arrives, Climbs, IsOpen, IsWay};
 

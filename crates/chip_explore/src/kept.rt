@@ -1,8 +1,8 @@
 //! A state as what it has beside a base.
 
-ghost use Rattle.std.specs.Prelude.{◌≡◌, ◌<◌, ◌≤◌, ◌+◌, ◌*◌, ◌^◌, fold, Some, IfOk, IsTrue, OnOk};
+ghost use Rattle.std.specs.Prelude.{◌≡◌, ◌<◌, ◌≤◌, ◌+◌, Some, IfOk, IsTrue};
 ghost use Rattle.chip_machine.specs.Relevant.{Alike};
-ghost use Rattle.chip_explore.specs.inner.Kept.{parts_of, parts_read, state_of, with_byte, with_row};
+ghost use Rattle.chip_explore.specs.inner.Kept.{parts_of, parts_read, state_of};
 ghost use Rattle.chip_explore.specs.inner.Delays.{delay_register, read_as};
 
 use crate::backdrop::{Backdrop, Backdrops};

@@ -1,7 +1,7 @@
 //! Some steps in a row that tell neither keys nor values of the delay timer apart, and need nothing
 //! that is forgotten, nor do the properties that are asked of the states on the way.
 
-ghost use Rattle.std.specs.Prelude.{◌≡◌, ◌<◌, ◌≤◌, ◌-◌, ◌^◌, length, IfOk, IfSome, IsNone};
+ghost use Rattle.std.specs.Prelude.{◌≡◌, ◌<◌, ◌-◌, length, IfOk, IfSome, IsNone};
 ghost use Rattle.chip_machine.specs.Relevant.{Alike};
 ghost use Rattle.chip_explore.specs.inner.Cover.{Ends, Grows, IsEnd, Moves, Safe, View};
 

@@ -1,11 +1,11 @@
 //! The states that a search keeps.
 
-ghost use Rattle.std.specs.Prelude.{◌≡◌, ◌<◌, ◌≤◌, ◌+◌, ◌-◌, ◌^◌, [], ℕ, length, slice_index, slice_index_or, Some, IfOk, IsTrue, true, false, is_some};
+ghost use Rattle.std.specs.Prelude.{◌≡◌, ◌<◌, ◌≤◌, ◌+◌, ◌-◌, ◌^◌, [], ℕ, length, slice_index, slice_index_or, Some, IfOk, IsTrue, true, false};
 ghost use Rattle.chip_machine.specs.State.{IsProper};
 ghost use Rattle.chip_explore.specs.Executed.{is_at_one};
 ghost use Rattle.chip_explore.specs.inner.Kept.{state_at};
 ghost use Rattle.chip_explore.specs.inner.Delays.{delay_register, read_as};
-ghost use Rattle.chip_explore.specs.inner.Cover.{phase, view_of, Holds, Goes, IsAt, IsTaken, IsWhole, Joins};
+ghost use Rattle.chip_explore.specs.inner.Cover.{phase, view_of, Adds, Goes, HasPlace, Holds, IsAt, IsTaken, IsWhole, Joins};
 
 use crate::executed::Executed;
 use crate::kept::{Base, Kept};
@@ -136,7 +136,6 @@ impl Members {
         step: u64,
         probe: &mut Base,
     ) -> Result<bool, AllocError>
-        requires rate { 0 < setting.now.rate }
         requires holds { Holds setting.now self.now }
         ensures { IfOk result (λ answer. IsTrue answer
             → IsAt setting.now self.now place forgotten machine.now step) }
@@ -166,10 +165,9 @@ impl Members {
         probe: &mut Base,
     ) -> Result<bool, AllocError>
         requires { Holds setting.now self.old }
-        ensures goes { Goes setting.now self.old self.new }
+        ensures adds { Adds setting.now self.old self.new 1 }
         ensures joins { IfOk result (λ answer. IsTrue answer
             → Joins setting.now (view_of self.new) parts machine.now step) }
-        ensures few { length self.new.steps.items ≤ length self.old.steps.items + 1 }
     {
         let is_same = kept.is_of(&self.base, machine, probe)?;
         if !is_same {
@@ -188,8 +186,7 @@ impl Members {
 
     /// Notes that a state was reached at an earlier step, so that it is to be taken up again.
     pub(crate) fn lower(&mut self, setting: &Setting<'_>, place: usize, step: u64)
-        requires holds { Holds setting.now self.old }
-        requires kept { place < length self.old.steps.items }
+        requires there { HasPlace setting.now self.old place }
         requires early { step ≤ slice_index self.old.steps.items place }
         requires phased { phase setting.now (slice_index self.old.steps.items place)
             ≡ phase setting.now step }
@@ -203,8 +200,7 @@ impl Members {
 
     /// Notes that a state was taken up.
     pub(crate) fn close(&mut self, setting: &Setting<'_>, place: usize)
-        requires holds { Holds setting.now self.old }
-        requires kept { place < length self.old.steps.items }
+        requires there { HasPlace setting.now self.old place }
         requires taken { IsTaken setting.now (view_of self.old) place }
         ensures goes { Goes setting.now self.old self.new }
         ensures count { length self.new.steps.items ≡ length self.old.steps.items }

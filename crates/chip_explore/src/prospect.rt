@@ -9,7 +9,7 @@ ghost use Rattle.chip_explore.specs.Scripts.{IsScript};
 ghost use Rattle.chip_explore.specs.inner.Cover.{IsSearched, IsWhole};
 
 use crate::causes::Causes;
-use crate::confirm::{keys_of, machine_under};
+use crate::confirm::machine_under;
 use crate::executed::Executed;
 use crate::limits::{END, FAR};
 use crate::property::Property;
@@ -24,7 +24,7 @@ use crate::watcher::Watcher;
 use crate::ways_back::{Loss, WaysBack};
 use chip_machine::Machine;
 use chip_machine::laws::alike_steps;
-use chip_replay::{KeyFault, LAST_STEP};
+use chip_replay::LAST_STEP;
 use std::alloc::{AllocError, Global};
 
 /// Whether from each state that a player can reach some way of playing leads to some goals.
@@ -214,7 +214,6 @@ fn always_can(
     setting: &Setting<'_>,
     ways: &WaysBack,
 ) -> Result<bool, AllocError>
-    requires rate { 0 < setting.now.rate }
     requires fresh { search.old.members.start.core.draws ≡ 0 }
     requires searched { IsSearched setting.now search.old.members search.old.members.start 0 }
     requires whole { IsWhole setting.now search.old.members }
@@ -299,12 +298,7 @@ fn judge<W: Watcher>(
         → IsDeadEnd setting.now.rate setting.now.allowed setting.now.goals.now start.now
         way.now.events.items way.now.step n) }
 {
-    let keys = match keys_of(alloc, &way.events) {
-        Ok(keys) => keys,
-        Err(KeyFault::OutOfMemory) => return Err(AllocError),
-        Err(_) => return Ok(Verdict::at_once(false)),
-    };
-    let Some(machine) = machine_under(start, setting, &keys, way.step)? else {
+    let Some(machine) = machine_under(alloc, start, setting, &way.events, way.step)? else {
         return Ok(Verdict::at_once(false));
     };
     if machine.stopped().is_some() {

@@ -1,18 +1,13 @@
 //! A question about all key scripts, and its answer.
 
-ghost use Rattle.std.specs.Prelude.{◌≡◌, ◌<◌, ◌≤◌, ◌+◌, ◌-◌, ◌*◌, [], length, min, None, IfOk, IfSome, IsSome, true, false};
-ghost use Rattle.chip_machine.specs.State.{IsProper};
-ghost use Rattle.chip_explore.specs.Answers.{Answers, AreExecuted, EndsBy, IsFirst, most_ways};
-ghost use Rattle.chip_explore.specs.Executed.{StaysAmong, is_at_one};
-ghost use Rattle.chip_explore.specs.inner.Deep.{later_of};
+ghost use Rattle.std.specs.Prelude.{◌≡◌, ◌<◌, ◌≤◌, ◌+◌, ◌-◌, ◌*◌, [], length, min, IfOk, IfSome, IsSome, true, false};
+ghost use Rattle.chip_explore.specs.Answers.{Answers, AreExecuted, EndsBy, IsFirst, Meets, most_ways};
 ghost use Rattle.chip_explore.specs.declared.question.Outcome.TheVariants.{Within};
-ghost use Rattle.chip_explore.specs.inner.Cover.{view_of, Confirms, Goes, Holds, Safe};
-ghost use Rattle.chip_explore.specs.Scripts.{Avoids};
-ghost use Rattle.chip_explore.specs.Scripts as spec;
+ghost use Rattle.chip_explore.specs.inner.Cover.{IsSearched};
+ghost use Rattle.chip_explore.specs.inner.Told.{Begins, Covers, Says, Tells, later_of};
 ghost use Rattle.chip_explore.specs.Speeds.{AvoidsAtAnySpeed, NeverAtAnySpeed};
-ghost use Rattle.chip_explore.specs.Target.{met_in};
 
-use crate::confirm::{keys_of, met_under};
+use crate::confirm::machine_under;
 use crate::executed::Executed;
 use crate::finder::{Finder, Order};
 use crate::guesses::Guesses;
@@ -27,7 +22,7 @@ use crate::target::{Met, Target};
 use crate::watcher::Watcher;
 use chip_machine::Machine;
 use chip_machine::laws::alike_steps;
-use chip_replay::{KeyFault, LAST_STEP};
+use chip_replay::LAST_STEP;
 use std::alloc::{AllocError, Global};
 
 /// Whether any player can make a machine meet a target.
@@ -342,19 +337,8 @@ fn search_by_step<W: Watcher>(
     bounds: &Bounds,
     watcher: &mut W,
 ) -> Result<Explored, AllocError>
-    requires rate { 0 < setting.now.rate }
-    requires fresh { start.now.core.draws ≡ 0 }
-    requires going { met_in setting.now.target start.now ≡ None }
-    ensures answers { IfOk result (λ explored. Answers setting.now.rate setting.now.allowed
-        setting.now.target start.now explored.outcome) }
-    ensures executed { IfOk result (λ explored. AreExecuted setting.now.rate setting.now.allowed
-        explored.executed start.now explored.outcome) }
-    ensures first { IfOk result (λ explored. bounds.now.is_deep ≡ false
-        → IsFirst explored.outcome) }
-    ensures ends { IfOk result (λ explored. EndsBy (bounds.now.steps - 1) explored.outcome) }
-    ensures few { IfOk result (λ explored. explored.states ≤ bounds.now.states + most_ways) }
-    ensures any_speed { IfOk result (λ explored. explored.is_at_any_speed ≡ true
-        → NeverAtAnySpeed setting.now.allowed setting.now.target start.now) }
+    requires { Begins setting.now start.now }
+    ensures { IfOk result (λ explored. Tells setting.now bounds.now start.now explored) }
 {
     let order = Order::LeastStep;
     let free = search(alloc, start, setting, bounds, watcher, order, Seen::none())?;
@@ -375,27 +359,9 @@ fn rated<W: Watcher>(
     watcher: &mut W,
     free: Explored,
 ) -> Explored
-    requires rate { 0 < setting.now.rate }
-    requires fresh { start.now.core.draws ≡ 0 }
-    requires going { met_in setting.now.target start.now ≡ None }
-    requires answers { Answers setting.now.rate setting.now.allowed setting.now.target start.now
-        free.outcome }
-    requires executed { AreExecuted setting.now.rate setting.now.allowed free.executed start.now
-        free.outcome }
-    requires first { bounds.now.is_deep ≡ false → IsFirst free.outcome }
-    requires ends { EndsBy (bounds.now.steps - 1) free.outcome }
-    requires few { free.states ≤ bounds.now.states + most_ways }
-    requires any_speed { free.is_at_any_speed ≡ true
-        → NeverAtAnySpeed setting.now.allowed setting.now.target start.now }
-    ensures answers { Answers setting.now.rate setting.now.allowed setting.now.target start.now
-        result.outcome }
-    ensures executed { AreExecuted setting.now.rate setting.now.allowed result.executed start.now
-        result.outcome }
-    ensures first { bounds.now.is_deep ≡ false → IsFirst result.outcome }
-    ensures ends { EndsBy (bounds.now.steps - 1) result.outcome }
-    ensures few { result.states ≤ bounds.now.states + most_ways }
-    ensures any_speed { result.is_at_any_speed ≡ true
-        → NeverAtAnySpeed setting.now.allowed setting.now.target start.now }
+    requires begins { Begins setting.now start.now }
+    requires free { Tells setting.now bounds.now start.now free }
+    ensures { Tells setting.now bounds.now start.now result }
 {
     let known = setting.with_ticks(false, setting.is_strict, free.awaited(bounds));
     let order = Order::LeastStep;
@@ -430,20 +396,12 @@ fn deepened<W: Watcher>(
     first: Explored,
     covered: u64,
 ) -> Explored
-    requires rate { 0 < setting.now.rate }
-    requires fresh { start.now.core.draws ≡ 0 }
-    requires going { met_in setting.now.target start.now ≡ None }
-    requires avoids { Avoids setting.now.rate setting.now.allowed setting.now.target start.now
-        covered }
-    requires stays { StaysAmong setting.now.rate setting.now.allowed first.executed start.now
-        covered }
+    requires begins { Begins setting.now start.now }
+    requires covers { Covers setting.now first.executed start.now covered }
     requires short { covered ≤ bounds.now.steps - 1 }
     requires few { first.states ≤ bounds.now.states + most_ways }
-    ensures answers { Answers setting.now.rate setting.now.allowed setting.now.target start.now
-        result.outcome }
-    ensures executed { AreExecuted setting.now.rate setting.now.allowed result.executed start.now
-        result.outcome }
-    ensures ends { EndsBy (bounds.now.steps - 1) result.outcome }
+    requires deep { bounds.now.is_deep ≡ true }
+    ensures says { Says setting.now bounds.now result.executed start.now result.outcome }
     ensures few { result.states ≤ 2 * (bounds.now.states + most_ways) }
     ensures speed { result.is_at_any_speed ≡ false }
 {
@@ -472,19 +430,8 @@ fn search<W: Watcher>(
     order: Order,
     seen: Seen,
 ) -> Result<Explored, AllocError>
-    requires rate { 0 < setting.now.rate }
-    requires fresh { start.now.core.draws ≡ 0 }
-    requires going { met_in setting.now.target start.now ≡ None }
-    ensures answers { IfOk result (λ explored. Answers setting.now.rate setting.now.allowed
-        setting.now.target start.now explored.outcome) }
-    ensures executed { IfOk result (λ explored. AreExecuted setting.now.rate setting.now.allowed
-        explored.executed start.now explored.outcome) }
-    ensures first { IfOk result (λ explored. bounds.now.is_deep ≡ false
-        → IsFirst explored.outcome) }
-    ensures ends { IfOk result (λ explored. EndsBy (bounds.now.steps - 1) explored.outcome) }
-    ensures few { IfOk result (λ explored. explored.states ≤ bounds.now.states + most_ways) }
-    ensures any_speed { IfOk result (λ explored. explored.is_at_any_speed ≡ true
-        → NeverAtAnySpeed setting.now.allowed setting.now.target start.now) }
+    requires { Begins setting.now start.now }
+    ensures { IfOk result (λ explored. Tells setting.now bounds.now start.now explored) }
 {
     let guesses = Guesses::new(alloc, start, setting.allowed)?;
     let mut last = search_once(alloc, start, setting, bounds, watcher, order, seen, guesses)?;
@@ -519,20 +466,8 @@ fn search_once<W: Watcher>(
     seen: Seen,
     guesses: Guesses,
 ) -> Result<Attempt, AllocError>
-    requires rate { 0 < setting.now.rate }
-    requires fresh { start.now.core.draws ≡ 0 }
-    requires going { met_in setting.now.target start.now ≡ None }
-    ensures answers { IfOk result (λ attempt. Answers setting.now.rate setting.now.allowed
-        setting.now.target start.now attempt.explored.outcome) }
-    ensures executed { IfOk result (λ attempt. AreExecuted setting.now.rate setting.now.allowed
-        attempt.explored.executed start.now attempt.explored.outcome) }
-    ensures first { IfOk result (λ attempt. bounds.now.is_deep ≡ false
-        → IsFirst attempt.explored.outcome) }
-    ensures ends { IfOk result (λ attempt. EndsBy (bounds.now.steps - 1)
-        attempt.explored.outcome) }
-    ensures few { IfOk result (λ attempt. attempt.explored.states ≤ bounds.now.states + most_ways) }
-    ensures any_speed { IfOk result (λ attempt. attempt.explored.is_at_any_speed ≡ true
-        → NeverAtAnySpeed setting.now.allowed setting.now.target start.now) }
+    requires { Begins setting.now start.now }
+    ensures { IfOk result (λ attempt. Tells setting.now bounds.now start.now attempt.explored) }
 {
     let finder = Finder::new(alloc, order, seen, guesses);
     let beginning = Beginning {
@@ -556,14 +491,9 @@ fn search_once<W: Watcher>(
 fn covered_by(setting: &Setting<'_>, members: &Members) -> u64
     requires positive { 0 < members.now.limit }
     requires fresh { members.now.start.core.draws ≡ 0 }
-    requires holds { Holds setting.now members.now }
-    requires begun { Safe setting.now (view_of members.now) 0 members.now.start 0 }
-    requires proper { IsProper members.now.start }
+    requires searched { IsSearched setting.now members.now members.now.start 0 }
     ensures below { result < members.now.limit }
-    ensures avoids { Avoids setting.now.rate setting.now.allowed setting.now.target
-        members.now.start result }
-    ensures stays { StaysAmong setting.now.rate setting.now.allowed members.now.executed
-        members.now.start result }
+    ensures covers { Covers setting.now members.now.executed members.now.start result }
     ensures any_speed { setting.now.free ≡ true → AvoidsAtAnySpeed setting.now.allowed
         setting.now.target members.now.start result }
 {
@@ -575,16 +505,10 @@ fn covered_by(setting: &Setting<'_>, members: &Members) -> u64
 /// that one, or the last one that is asked for.
 fn told_up_to(setting: &Setting<'_>, members: &Members, covered: u64, last: u64) -> u64
     requires below { covered < members.now.limit }
-    requires avoids { Avoids setting.now.rate setting.now.allowed setting.now.target
-        members.now.start covered }
-    requires stays { StaysAmong setting.now.rate setting.now.allowed members.now.executed
-        members.now.start covered }
+    requires covers { Covers setting.now members.now.executed members.now.start covered }
     ensures below { result < members.now.limit }
     ensures short { result ≤ last }
-    ensures avoids { Avoids setting.now.rate setting.now.allowed setting.now.target
-        members.now.start result }
-    ensures stays { StaysAmong setting.now.rate setting.now.allowed members.now.executed
-        members.now.start result }
+    ensures covers { Covers setting.now members.now.executed members.now.start result }
 {
     covered.min(last)
 }
@@ -597,19 +521,10 @@ fn explored_by(
     bounds: &Bounds,
     is_short: bool,
 ) -> Explored
-    requires rate { 0 < setting.now.rate }
-    requires fresh { search.now.members.start.core.draws ≡ 0 }
-    requires going { met_in setting.now.target search.now.members.start ≡ None }
-    requires noted { is_at_one search.now.members.executed search.now.members.start ≡ true }
-    requires holds { Holds setting.now search.now.members }
-    requires begun { Safe setting.now (view_of search.now.members) 0 search.now.members.start 0 }
-    requires proper { IsProper search.now.members.start }
-    ensures answers { Answers setting.now.rate setting.now.allowed setting.now.target
-        search.now.members.start result.outcome }
-    ensures executed { AreExecuted setting.now.rate setting.now.allowed result.executed
-        search.now.members.start result.outcome }
-    ensures first { bounds.now.is_deep ≡ false → IsFirst result.outcome }
-    ensures ends { EndsBy (bounds.now.steps - 1) result.outcome }
+    requires begins { Begins setting.now search.now.members.start }
+    requires searched { IsSearched setting.now search.now.members search.now.members.start 0 }
+    ensures says { Says setting.now bounds.now result.executed search.now.members.start
+        result.outcome }
     ensures states { result.states ≡ length search.now.members.steps.items }
     ensures any_speed { result.is_at_any_speed ≡ true → NeverAtAnySpeed setting.now.allowed
         setting.now.target search.now.members.start }
@@ -646,17 +561,9 @@ fn found_after(
     requires rate { 0 < setting.now.rate }
     requires below { covered < members.now.limit }
     requires short { covered ≤ bounds.now.steps - 1 }
-    requires avoids { Avoids setting.now.rate setting.now.allowed setting.now.target
-        members.now.start covered }
-    requires stays { StaysAmong setting.now.rate setting.now.allowed members.now.executed
-        members.now.start covered }
-    ensures answers { IfOk result (λ answer. IfSome answer (λ outcome. Answers setting.now.rate
-        setting.now.allowed setting.now.target members.now.start outcome)) }
-    ensures executed { IfOk result (λ answer. IfSome answer (λ outcome. AreExecuted
-        setting.now.rate setting.now.allowed members.now.executed members.now.start outcome)) }
-    ensures first { IfOk result (λ answer. IfSome answer (λ outcome. bounds.now.is_deep ≡ false
-        → IsFirst outcome)) }
-    ensures ends { IfOk result (λ answer. IfSome answer (EndsBy (bounds.now.steps - 1))) }
+    requires covers { Covers setting.now members.now.executed members.now.start covered }
+    ensures { IfOk result (λ answer. IfSome answer (λ outcome. Says setting.now bounds.now
+        members.now.executed members.now.start outcome)) }
 {
     if let Some(origin) = finder.hit
         && members.limit <= bounds.last().min(u64::from(LAST_STEP))
@@ -689,12 +596,11 @@ fn met_by(
     step: u32,
 ) -> Result<Option<Met>, AllocError>
     requires { 0 < setting.now.rate }
-    ensures { IfOk result (λ answer. IfSome answer (λ met. Confirms setting.now
-        members.now.start (spec.keys_of events.now) step met)) }
+    ensures { IfOk result (λ answer. IfSome answer (λ met. Meets setting.now.rate
+        setting.now.allowed setting.now.target members.now.start events.now step met)) }
 {
-    match keys_of(alloc, events) {
-        Ok(keys) => met_under(&members.start, setting, &keys, step),
-        Err(KeyFault::OutOfMemory) => Err(AllocError),
-        Err(_) => Ok(None),
+    match machine_under(alloc, &members.start, setting, events, step)? {
+        Some(machine) => Ok(setting.target.met_in(&machine)),
+        None => Ok(None),
     }
 }

@@ -1,7 +1,7 @@
 //! Ranks of the states that are kept, by which goals are reached from each.
 
 ghost use Rattle.std.specs.Prelude.{◌≡◌, ◌<◌, ◌+◌, ◌-◌, ◌^◌, ℕ, List, length, slice_index, IfOk, IfSome, IsTrue};
-ghost use Rattle.chip_explore.specs.inner.Cover.{forgotten_at, view_of, Holds, IsAt};
+ghost use Rattle.chip_explore.specs.inner.Cover.{forgotten_at, view_of, HasPlace, Holds, IsAt};
 ghost use Rattle.chip_explore.specs.inner.Ranks.{Climbs, IsAtGoals, IsRanked};
 
 use crate::climb::Way;
@@ -18,8 +18,7 @@ impl Search {
         setting: &Setting<'_>,
         place: usize,
     ) -> Result<bool, AllocError>
-        requires holds { Holds setting.now self.old.members }
-        requires kept { place < length self.old.members.steps.items }
+        requires { HasPlace setting.now self.old.members place }
         ensures same { self.new.members ≡ self.old.members }
         ensures met { IfOk result (λ answer. IsTrue answer → IsAtGoals setting.now
             (forgotten_at (view_of self.old.members) place)
@@ -48,9 +47,7 @@ impl Search {
         place: usize,
         keys: u16,
     ) -> Result<bool, AllocError>
-        requires rate { 0 < setting.now.rate }
-        requires holds { Holds setting.now self.old.members }
-        requires kept { place < length self.old.members.steps.items }
+        requires { HasPlace setting.now self.old.members place }
         ensures same { self.new.members ≡ self.old.members }
         ensures below { IfOk result (λ answer. IsTrue answer
             → slice_index self.old.members.steps.items place < 2 ^ 64 - 1) }
@@ -95,7 +92,6 @@ impl Search {
         setting: &Setting<'_>,
         step: u64,
     ) -> Result<Option<usize>, AllocError>
-        requires rate { 0 < setting.now.rate }
         requires holds { Holds setting.now self.old.members }
         ensures same { self.new.members ≡ self.old.members }
         ensures place { IfOk result (λ answer. IfSome answer (λ place. IsAt setting.now
@@ -130,9 +126,7 @@ impl Search {
         place: usize,
         keys: u16,
     ) -> Result<bool, AllocError>
-        requires rate { 0 < setting.now.rate }
-        requires holds { Holds setting.now self.old.members }
-        requires kept { place < length self.old.members.steps.items }
+        requires { HasPlace setting.now self.old.members place }
         ensures same { self.new.members ≡ self.old.members }
         ensures ranked { IfOk result (λ answer. IsTrue answer
             → IsRanked setting.now (view_of self.old.members) ranks.now place) }
@@ -170,7 +164,6 @@ impl Search {
         ranks: &[u32],
         keys: &[u16],
     ) -> Result<bool, AllocError>
-        requires rate { 0 < setting.now.rate }
         requires holds { Holds setting.now self.old.members }
         ensures same { self.new.members ≡ self.old.members }
         ensures ranked { IfOk result (λ answer. IsTrue answer

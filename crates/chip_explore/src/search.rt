@@ -1,10 +1,9 @@
 //! The search.
 
 ghost use Rattle.std.specs.Prelude.{◌≡◌, ◌<◌, ◌≤◌, ◌+◌, ◌-◌, ◌^◌, ◌⊎◌, ℕ, length, IfOk, IfSome, OnOk, IsTrue, true};
-ghost use Rattle.chip_machine.specs.Step.{step_of};
 ghost use Rattle.chip_machine.specs.Step as spec;
 ghost use Rattle.chip_explore.specs.Answers.{most_ways};
-ghost use Rattle.chip_explore.specs.inner.Cover.{forgotten_at, view_of, Ends, Holds, HasChoices, Goes, HasValues, HasWays, IsFine, Joins, Leads, LeadsAs, Safe};
+ghost use Rattle.chip_explore.specs.inner.Cover.{forgotten_at, view_of, Adds, Ends, GoesUpTo, HasChoices, HasPlace, HasStep, HasValues, HasWays, Holds, IsFine, Joins, Leads, LeadsAs, Safe};
 
 use crate::backdrop::Backdrops;
 use crate::finder::{Finder, Origin, Turn};
@@ -37,15 +36,12 @@ pub(crate) struct Search {
 impl Search {
     /// Keeps the state that the runner has at a step, unless one like it is kept.
     fn join(&mut self, setting: &Setting<'_>, step: u64, origin: Origin) -> Result<(), AllocError>
-        requires rate { 0 < setting.now.rate }
         requires holds { Holds setting.now self.old.members }
         requires fine { IsFine setting.now self.old.members.executed self.old.runner.forgotten
             self.old.runner.machine }
-        ensures goes { Goes setting.now self.old.members self.new.members }
+        ensures adds { Adds setting.now self.old.members self.new.members 1 }
         ensures ends { OnOk result (Ends setting.now (view_of self.new.members)
             self.old.runner.forgotten self.old.runner.machine step) }
-        ensures few { length self.new.members.steps.items
-            ≤ length self.old.members.steps.items + 1 }
     {
         let forgotten = self.runner.forgotten;
         let parts = self.finder.parts_to_forget(setting, &self.runner);
@@ -73,13 +69,10 @@ impl Search {
         step: u64,
         origin: Origin,
     ) -> Result<(), AllocError>
-        requires rate { 0 < setting.now.rate }
         requires holds { Holds setting.now self.old.members }
-        ensures goes { Goes setting.now self.old.members self.new.members }
+        ensures adds { Adds setting.now self.old.members self.new.members 1 }
         ensures joins { OnOk result ((self.new.members.limit ≤ step)
             ⊎ Joins setting.now (view_of self.new.members) parts self.old.runner.machine step) }
-        ensures few { length self.new.members.steps.items
-            ≤ length self.old.members.steps.items + 1 }
     {
         let machine = &self.runner.machine;
         let sums = Sums::of(machine, parts, setting.phase(step));
@@ -123,13 +116,10 @@ impl Search {
         from: u64,
         origin: Origin,
     ) -> Result<(), AllocError>
-        requires rate { 0 < setting.now.rate }
         requires holds { Holds setting.now self.old.members }
-        ensures goes { Goes setting.now self.old.members self.new.members }
+        ensures adds { Adds setting.now self.old.members self.new.members 1 }
         ensures safe { Safe setting.now (view_of self.new.members) self.old.runner.forgotten
             self.old.runner.machine from }
-        ensures few { length self.new.members.steps.items
-            ≤ length self.old.members.steps.items + 1 }
     {
         let members = &mut self.members;
         let limit = members.limit.min(self.end);
@@ -178,15 +168,10 @@ impl Search {
         step: u64,
         keys: u16,
     ) -> Result<bool, AllocError>
-        requires rate { 0 < setting.now.rate }
-        requires holds { Holds setting.now self.old.members }
-        requires kept { place < length self.old.members.steps.items }
-        requires in_range { step < 2 ^ 64 - 1 }
-        ensures goes { Goes setting.now self.old.members self.new.members }
+        requires { HasStep setting.now self.old.members place step }
+        ensures adds { Adds setting.now self.old.members self.new.members 1 }
         ensures leads { IfOk result (λ answer. IsTrue answer
             → Leads setting.now self.old.members self.new.members place step keys) }
-        ensures few { length self.new.members.steps.items
-            ≤ length self.old.members.steps.items + 1 }
     {
         let runner = &mut self.runner;
         let origin = self.finder.origin(place, step, keys);
@@ -226,17 +211,12 @@ impl Search {
         read: Reading,
         value: u8,
     ) -> Result<bool, AllocError>
-        requires rate { 0 < setting.now.rate }
-        requires holds { Holds setting.now self.old.members }
-        requires kept { place < length self.old.members.steps.items }
-        requires in_range { step < 2 ^ 64 - 1 }
+        requires there { HasStep setting.now self.old.members place step }
         requires reads { HasValues setting.now (forgotten_at (view_of self.old.members) place)
             ((view_of self.old.members).member place) read }
-        ensures goes { Goes setting.now self.old.members self.new.members }
+        ensures adds { Adds setting.now self.old.members self.new.members 1 }
         ensures leads { IfOk result (λ answer. IsTrue answer
             → LeadsAs setting.now self.old.members self.new.members place step value) }
-        ensures few { length self.new.members.steps.items
-            ≤ length self.old.members.steps.items + 1 }
     {
         let runner = &mut self.runner;
         let origin = self.finder.origin_by(place, step, value);
@@ -265,18 +245,14 @@ impl Search {
         read: Reading,
         most_states: usize,
     ) -> Result<bool, AllocError>
-        requires rate { 0 < setting.now.rate }
-        requires holds { Holds setting.now self.old.members }
-        requires kept { place < length self.old.members.steps.items }
-        requires in_range { step < 2 ^ 64 - 1 }
+        requires there { HasStep setting.now self.old.members place step }
         requires reads { HasValues setting.now (forgotten_at (view_of self.old.members) place)
             ((view_of self.old.members).member place) read }
         requires few { length self.old.members.steps.items ≤ most_states }
-        ensures goes { Goes setting.now self.old.members self.new.members }
+        ensures grows { GoesUpTo setting.now self.old.members self.new.members (most_states + 1) }
         ensures leads { IfOk result (λ answer. IsTrue answer
             → (value : ℕ) → value ≤ read.bound
             → LeadsAs setting.now self.old.members self.new.members place step value) }
-        ensures few { length self.new.members.steps.items ≤ most_states + 1 }
     {
         for value in 0..u16::from(read.bound) + 1 {
             if self.members.steps.len() > most_states {
@@ -299,16 +275,11 @@ impl Search {
         step: u64,
         choices: u16,
     ) -> Result<bool, AllocError>
-        requires rate { 0 < setting.now.rate }
-        requires holds { Holds setting.now self.old.members }
-        requires kept { place < length self.old.members.steps.items }
-        requires in_range { step < 2 ^ 64 - 1 }
-        ensures goes { Goes setting.now self.old.members self.new.members }
+        requires { HasStep setting.now self.old.members place step }
+        ensures adds { Adds setting.now self.old.members self.new.members 16 }
         ensures leads { IfOk result (λ answer. IsTrue answer
             → (key : ℕ) → key < 16 → spec.is_key_down choices key ≡ true
             → Leads setting.now self.old.members self.new.members place step (2 ^ key)) }
-        ensures few { length self.new.members.steps.items
-            ≤ length self.old.members.steps.items + 16 }
     {
         for key in 0..16u32 {
             if is_down(choices, key) && !self.follow(setting, place, step, alone(key))? {
@@ -326,9 +297,7 @@ impl Search {
         place: usize,
         step: u64,
     ) -> Result<Option<Ways>, AllocError>
-        requires rate { 0 < setting.now.rate }
-        requires holds { Holds setting.now self.old.members }
-        requires kept { place < length self.old.members.steps.items }
+        requires { HasPlace setting.now self.old.members place }
         ensures same { self.new.members ≡ self.old.members }
         ensures ways { IfOk result (λ answer. IfSome answer
             (λ ways. HasWays setting.now (forgotten_at (view_of self.old.members) place)
@@ -374,15 +343,10 @@ impl Search {
         step: u64,
         choices: u16,
     ) -> Result<(), AllocError>
-        requires rate { 0 < setting.now.rate }
-        requires holds { Holds setting.now self.old.members }
-        requires kept { place < length self.old.members.steps.items }
-        requires in_range { step < 2 ^ 64 - 1 }
+        requires there { HasStep setting.now self.old.members place step }
         requires choices { HasChoices setting.now (forgotten_at (view_of self.old.members) place)
             ((view_of self.old.members).member place) choices }
-        ensures goes { Goes setting.now self.old.members self.new.members }
-        ensures few { length self.new.members.steps.items
-            ≤ length self.old.members.steps.items + most_ways }
+        ensures { Adds setting.now self.old.members self.new.members most_ways }
     {
         if !self.follow(setting, place, step, 0)? {
             return Ok(());
@@ -405,15 +369,11 @@ impl Search {
         read: Reading,
         most_states: usize,
     ) -> Result<(), AllocError>
-        requires rate { 0 < setting.now.rate }
-        requires holds { Holds setting.now self.old.members }
-        requires kept { place < length self.old.members.steps.items }
-        requires in_range { step < 2 ^ 64 - 1 }
+        requires there { HasStep setting.now self.old.members place step }
         requires reads { HasValues setting.now (forgotten_at (view_of self.old.members) place)
             ((view_of self.old.members).member place) read }
         requires few { length self.old.members.steps.items ≤ most_states }
-        ensures goes { Goes setting.now self.old.members self.new.members }
-        ensures few { length self.new.members.steps.items ≤ most_states + 1 }
+        ensures { GoesUpTo setting.now self.old.members self.new.members (most_states + 1) }
     {
         if !self.follow_values(setting, place, step, read, most_states)? {
             return Ok(());
@@ -431,12 +391,9 @@ impl Search {
         place: usize,
         most_states: usize,
     ) -> Result<(), AllocError>
-        requires rate { 0 < setting.now.rate }
-        requires holds { Holds setting.now self.old.members }
-        requires kept { place < length self.old.members.steps.items }
+        requires there { HasPlace setting.now self.old.members place }
         requires few { length self.old.members.steps.items ≤ most_states }
-        ensures goes { Goes setting.now self.old.members self.new.members }
-        ensures few { length self.new.members.steps.items ≤ most_states + most_ways }
+        ensures { GoesUpTo setting.now self.old.members self.new.members (most_states + most_ways) }
     {
         let step = self.members.step(place);
         if step >= self.members.limit {
@@ -461,11 +418,9 @@ impl Search {
         turn: Turn,
         most_states: usize,
     ) -> Result<(), AllocError>
-        requires rate { 0 < setting.now.rate }
         requires holds { Holds setting.now self.old.members }
         requires few { length self.old.members.steps.items ≤ most_states }
-        ensures goes { Goes setting.now self.old.members self.new.members }
-        ensures few { length self.new.members.steps.items ≤ most_states + most_ways }
+        ensures { GoesUpTo setting.now self.old.members self.new.members (most_states + most_ways) }
     {
         if !self.members.is_open(turn.place, turn.step) {
             return Ok(());
@@ -487,11 +442,9 @@ impl Search {
         most_states: usize,
         watcher: &mut W,
     ) -> Result<(), AllocError>
-        requires rate { 0 < setting.now.rate }
         requires holds { Holds setting.now self.old.members }
         requires begun { length self.old.members.steps.items ≤ 1 }
-        ensures goes { Goes setting.now self.old.members self.new.members }
-        ensures few { length self.new.members.steps.items ≤ most_states + most_ways }
+        ensures { GoesUpTo setting.now self.old.members self.new.members (most_states + most_ways) }
     {
         let mut told = 0;
         for turns in 0..u64::MAX {

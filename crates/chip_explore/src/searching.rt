@@ -2,7 +2,7 @@
 
 ghost use Rattle.std.specs.Prelude.{◌≡◌, ◌<◌, ◌≤◌, ◌+◌, ◌-◌, [], length, IfOk};
 ghost use Rattle.chip_explore.specs.Answers.{most_ways};
-ghost use Rattle.chip_explore.specs.inner.Cover.{view_of, Goes, Holds, IsSearched, IsSearchedAs, Safe};
+ghost use Rattle.chip_explore.specs.inner.Cover.{view_of, GoesUpTo, Holds, IsSearched, IsSearchedAs, Safe};
 
 use crate::backdrop::Backdrops;
 use crate::executed::Executed;
@@ -103,13 +103,12 @@ fn search_all<W: Watcher>(
     bounds: &Bounds,
     watcher: &mut W,
 ) -> Result<(), AllocError>
-    requires rate { 0 < setting.now.rate }
     requires holds { Holds setting.now search.old.members }
     requires none { search.old.members.steps.items ≡ [] }
-    ensures goes { Goes setting.now search.old.members search.new.members }
+    ensures grows { GoesUpTo setting.now search.old.members search.new.members
+        (bounds.now.states + most_ways) }
     ensures begun { Safe setting.now (view_of search.new.members) search.old.runner.forgotten
         search.old.runner.machine from }
-    ensures few { length search.new.members.steps.items ≤ bounds.now.states + most_ways }
 {
     search.run_on(setting, from, Origin::START)?;
     search.run(setting, bounds.states, watcher)

@@ -1,7 +1,7 @@
 //! What a search is about.
 
 ghost use Rattle.std.specs.Prelude.{◌≡◌, ◌<◌, ◌-◌, ◌^◌, None, IfSome};
-ghost use Rattle.chip_explore.specs.inner.Cover.{meets_goals, phase, tick_at};
+ghost use Rattle.chip_explore.specs.inner.Cover.{meets_goals, phase, tick_at, AsksSame};
 ghost use Rattle.chip_explore.specs.inner.Delays.{timed_register};
 ghost use Rattle.chip_explore.specs.inner.Known.{are_goals_known, are_known};
 
@@ -37,10 +37,7 @@ pub(crate) struct Setting<'a> {
 impl<'a> Setting<'a> {
     /// The same question with other ticks, and other causes that are awaited.
     pub(crate) fn with_ticks(&self, free: bool, is_strict: bool, awaited: Seen) -> Setting<'a>
-        ensures rate { result.rate ≡ self.now.rate }
-        ensures allowed { result.allowed ≡ self.now.allowed }
-        ensures target { result.target ≡ self.now.target }
-        ensures goals { result.goals ≡ self.now.goals }
+        ensures same { AsksSame self.now result }
         ensures free { result.free ≡ free }
     {
         Setting {

@@ -1,7 +1,7 @@
 //! Which guesses a step refuted: what it needed may come of other parts, on the way from the states
 //! that are kept. Nothing is claimed of it.
 
-ghost use Rattle.std.specs.Prelude.{◌≡◌, ◌<◌, length};
+ghost use Rattle.std.specs.Prelude.{◌≡◌, ◌<◌};
 
 use crate::executed::Executed;
 use crate::finder::Origin;

@@ -1,8 +1,8 @@
 //! Ways back from the goals, over the steps that can tell keys apart. Nothing is claimed of them: the ranks that they
 //! give are checked.
 
-ghost use Rattle.std.specs.Prelude.{◌≡◌, ◌<◌, length};
-ghost use Rattle.chip_explore.specs.inner.Cover.{Holds};
+ghost use Rattle.std.specs.Prelude.{◌≡◌};
+ghost use Rattle.chip_explore.specs.inner.Cover.{HasPlace, Holds};
 
 use crate::climb::Way;
 use crate::finder::Origin;
@@ -69,8 +69,7 @@ impl WaysBack {
         search: &mut Search,
         setting: &Setting<'_>,
     ) -> Result<WaysBack, AllocError>
-        requires rate { 0 < setting.now.rate }
-        requires holds { Holds setting.now search.old.members }
+        requires { Holds setting.now search.old.members }
         ensures { search.new.members ≡ search.old.members }
     {
         let states = search.members.steps.len();
@@ -124,9 +123,7 @@ impl WaysBack {
         setting: &Setting<'_>,
         place: usize,
     ) -> Result<(), AllocError>
-        requires rate { 0 < setting.now.rate }
-        requires holds { Holds setting.now search.old.members }
-        requires kept { place < length search.old.members.steps.items }
+        requires { HasPlace setting.now search.old.members place }
         ensures { search.new.members ≡ search.old.members }
     {
         if search.is_at_goals(setting, place)? {
@@ -150,9 +147,7 @@ impl WaysBack {
         place: usize,
         keys: u16,
     ) -> Result<(), AllocError>
-        requires rate { 0 < setting.now.rate }
-        requires holds { Holds setting.now search.old.members }
-        requires kept { place < length search.old.members.steps.items }
+        requires { HasPlace setting.now search.old.members place }
         ensures { search.new.members ≡ search.old.members }
     {
         let step = search.members.step(place);
@@ -202,8 +197,7 @@ impl WaysBack {
         search: &mut Search,
         setting: &Setting<'_>,
     ) -> Result<Option<Loss>, AllocError>
-        requires rate { 0 < setting.now.rate }
-        requires holds { Holds setting.now search.old.members }
+        requires { Holds setting.now search.old.members }
         ensures { search.new.members ≡ search.old.members }
     {
         search.runner = Runner::new(alloc, &search.members.start)?;
@@ -228,9 +222,7 @@ impl WaysBack {
         place: usize,
         first: &mut Option<Loss>,
     ) -> Result<(), AllocError>
-        requires rate { 0 < setting.now.rate }
-        requires holds { Holds setting.now search.old.members }
-        requires kept { place < length search.old.members.steps.items }
+        requires { HasPlace setting.now search.old.members place }
         ensures { search.new.members ≡ search.old.members }
     {
         let step = search.members.step(place);
@@ -259,8 +251,7 @@ impl WaysBack {
         setting: &Setting<'_>,
         from: u64,
     ) -> Result<Option<u64>, AllocError>
-        requires rate { 0 < setting.now.rate }
-        requires holds { Holds setting.now search.old.members }
+        requires { Holds setting.now search.old.members }
         ensures { search.new.members ≡ search.old.members }
     {
         let mut lost = from;

@@ -17,7 +17,7 @@
 --                     state that meets the target, and at no address that isn't noted
 --     IsTaken         so does each step from a state that is kept
 --     Extends         a view knows more than another
---     Holds           all is safe from each state that is closed on
+--     Holds           all is safe from each state that is closed on, with a rate of 1 at least
 --     Goes            a call keeps that, and its view extends the one before
 use Rattle.std.specs.Prelude.{◌≡◌, ℕ, zero, suc, ◌+◌, ◌-◌, ◌%◌, ◌^◌, ◌<◌, ◌≤◌, ◌⊎◌, Bool, true, false, Option, Some, None, List, length, is_some, slice_index, slice_index_or, if◌then◌else◌}
 use Rattle.chip_machine.specs.Block.{ticks}
@@ -42,7 +42,6 @@ use Rattle.chip_explore.specs.declared.setting.Setting.{Setting}
 use Rattle.chip_explore.specs.declared.ways.Reading.{Reading}
 use Rattle.chip_explore.specs.declared.ways.Ways.{Ways}
 use Rattle.chip_explore.specs.declared.ways.Ways.TheVariants.{Keys, Values}
-use Rattle.chip_explore.specs.declared.target.Met.{Met}
 
 abbrev pub phase : Setting → ℕ → ℕ
 phase p t = if p.free then 0 else t % p.rate
@@ -149,6 +148,7 @@ view_of m =
     }
 
 pub record Holds (p : Setting) (m : Members) : Type 0 where
+  pub rate : 0 < p.rate
   pub states : length m.states.items ≡ length m.steps.items
   pub forgotten : length m.forgotten.items ≡ length m.steps.items
   pub closed : length m.closed.items ≡ length m.steps.items
@@ -160,6 +160,25 @@ pub record Goes (p : Setting) (m n : Members) : Type 0 where
   pub start : n.start ≡ m.start
   pub extends : Extends p (view_of m) (view_of n)
 
+-- likewise with no more than so many states, or so many more
+pub record GoesUpTo (p : Setting) (m n : Members) (most : ℕ) : Type 0 where
+  pub goes : Goes p m n
+  pub few : length n.steps.items ≤ most
+
+abbrev pub Adds : Setting → (m n : Members) → ℕ → Type 0
+Adds p m n count = GoesUpTo p m n (length m.steps.items + count)
+
+-- the place of a state that is kept
+pub record HasPlace (p : Setting) (m : Members) (place : ℕ) : Type 0 where
+  pub holds : Holds p m
+  pub kept : place < length m.steps.items
+
+-- likewise, with a step after which there is another one
+pub record HasStep (p : Setting) (m : Members) (place step : ℕ) : Type 0 where
+  pub holds : Holds p m
+  pub kept : place < length m.steps.items
+  pub in_range : step < 2 ^ 64 - 1
+
 -- what a search from a state at a step on keeps
 pub record IsSearched (p : Setting) (m : Members) (start : State) (from : ℕ) : Type 0 where
   pub holds : Holds p m
@@ -168,12 +187,16 @@ pub record IsSearched (p : Setting) (m : Members) (start : State) (from : ℕ) :
   pub noted : is_at_one m.executed m.start ≡ true
   pub begun : Safe p (view_of m) 0 m.start from
 
--- likewise with other ticks
-pub record IsSearchedAs (p other : Setting) (m : Members) (start : State) (from : ℕ) : Type 0 where
+-- the same is asked, maybe with other ticks
+pub record AsksSame (p other : Setting) : Type 0 where
   pub rate : other.rate ≡ p.rate
   pub allowed : other.allowed ≡ p.allowed
   pub target : other.target ≡ p.target
   pub goals : other.goals ≡ p.goals
+
+-- likewise with other ticks
+pub record IsSearchedAs (p other : Setting) (m : Members) (start : State) (from : ℕ) : Type 0 where
+  pub same : AsksSame p other
   pub searched : IsSearched other m start from
 
 -- it speaks of each step below the end, and each state was taken up
@@ -238,9 +261,4 @@ IsEnd p executed limit forgotten s t Read = Unit {0}
 -- the state of a run under some events
 pub record IsUnder (p : Setting) (start : State) (keys : Events) (step : ℕ) (s : State) : Type 0 where
   pub reached : s ≡ run step_of p.rate (held keys) start step
-  pub allowed_only : (t : ℕ) → t < step → IsWithin p.allowed (held keys t)
-
--- what a run under some events shows
-pub record Confirms (p : Setting) (start : State) (keys : Events) (step : ℕ) (met : Met) : Type 0 where
-  pub meets : met_in p.target (run step_of p.rate (held keys) start step) ≡ Some met
   pub allowed_only : (t : ℕ) → t < step → IsWithin p.allowed (held keys t)

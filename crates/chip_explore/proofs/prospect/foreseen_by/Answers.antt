@@ -1,16 +1,9 @@
-use Rattle.std.proofs.Common.{rules, refl, sym, subst}
+use Rattle.std.proofs.Common.{rules, sym, subst}
 use Rattle.chip_explore.specs.Prospects.{AlwaysCan, Foresees}
 use Rattle.chip_explore.specs.declared.prospect.Prospect.{Prospect}
 use Rattle.chip_explore.specs.declared.members.Members.{Members}
-use Rattle.chip_explore.specs.inner.Cover.{IsSearched}
 use Rattle.chip_explore.proofs.Reached.{always_as}
 use Rattle.chip_explore.proofs.prospect.foreseen_by.Goals as goal
-
-pub always_can-requires-clause-searched : goal.always_can-requires-clause-searched
-always_can-requires-clause-searched g c =
-    let searched = c.in_ok-searched.ensures.searched in
-    subst (λ (m : Members). IsSearched c.in_ok-searched.searched.setting m m.start 0) (sym c.of.ensures)
-    (record { holds = searched.holds; begins = refl; proper = searched.proper; noted = searched.noted; begun = searched.begun })
 
 pub returns-then-branch : goal.returns-then-branch
 returns-then-branch g c =

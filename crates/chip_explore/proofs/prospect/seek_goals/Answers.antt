@@ -18,13 +18,13 @@ returns g c = λ yes start keys fresh script there t after below.
     let base = c.args.beginning.now.machine.now in
     let first = c.args.beginning.now.step in
     let sought = c.for_goals-sought.ensures in
-    let rate : q.rate ≡ p.rate = like.rate ∙ sought.rate in
-    let allowed : q.allowed ≡ p.allowed = like.allowed ∙ sought.allowed in
-    let properties : q.target.properties.now ≡ p.goals.now = ap (λ (t : Target). t.properties.now) like.target ∙ sought.target in
+    let rate : q.rate ≡ p.rate = like.same.rate ∙ sought.rate in
+    let allowed : q.allowed ≡ p.allowed = like.same.allowed ∙ sought.allowed in
+    let properties : q.target.properties.now ≡ p.goals.now = ap (λ (t : Target). t.properties.now) like.same.target ∙ sought.target in
     let some : q.target.properties.now ≢ [] = λ none. let empty : p.goals.now ≡ [] = sym properties ∙ none in let yes : c.is_empty.result ≡ true = c.is_empty.ensures ∙ ap (λ (goals : List Property). length goals == 0) empty in let no = c.if-is_empty.false in absurd (cc) in
     ap (λ (r : ℕ). are_met p.goals.now (run step_of r keys start t)) (sym rate)
     ∙ ap (λ (goals : List Property). are_met goals (run step_of q.rate keys start t)) (sym properties)
     ∙ lost_from law.alike law.draws q m base first like.searched (c.is_whole.ensures yes) c.requires.going
-    (ap (λ (t : Target). t.address) like.target ∙ sought.address) some start keys fresh
+    (ap (λ (t : Target). t.address) like.same.target ∙ sought.address) some start keys fresh
     (subst (λ (a : ℕ). IsScript a keys) (sym allowed) script)
     (ap (λ (r : ℕ). run step_of r keys start first) rate ∙ there) t after below

@@ -9,16 +9,16 @@ pub returns-clause-searched : goal.returns-clause-searched
 returns-clause-searched g c =
     let p = c.args.setting.now in
     let n = c.search_all.new.search.members in
-    let start = c.search_all.ensures.goes.start ∙ c.in_ok-new.ensures.start in
+    let start = c.search_all.ensures.grows.goes.start ∙ c.in_ok-new.ensures.start in
     let runner = c.in_ok-new-2.field-0 in
     let from = c.args.beginning.now.step in
     record {
-      holds = c.search_all.ensures.goes.holds;
+      holds = c.search_all.ensures.grows.goes.holds;
       begins = start;
-      proper = subst (λ (s : State). IsProper s) (sym c.search_all.ensures.goes.start) c.in_ok-new.ensures.proper;
+      proper = subst (λ (s : State). IsProper s) (sym c.search_all.ensures.grows.goes.start) c.in_ok-new.ensures.proper;
       noted =
           subst (λ (s : State). is_at_one n.executed s ≡ true) (sym start)
-          (still_noted c.in_ok-new.field-0.executed n.executed c.search_all.ensures.goes.extends.executed c.args.beginning.now.machine.now c.in_ok-new.ensures.noted);
+          (still_noted c.in_ok-new.field-0.executed n.executed c.search_all.ensures.grows.goes.extends.executed c.args.beginning.now.machine.now c.in_ok-new.ensures.noted);
       begun =
           subst (λ (s : State). Safe p (view_of n) 0 s from) (c.in_ok-new-2.ensures.machine ∙ sym start)
           (subst (λ (f : ℕ). Safe p (view_of n) f runner.machine from) c.in_ok-new-2.ensures.nothing c.search_all.ensures.begun);

@@ -20,8 +20,8 @@ pushed done now room was x items succeeds same =
 inside : (closed : List Bool) (j : ℕ) → get_or closed j false ≡ true → {n : ℕ} → length closed ≡ n → j < n
 inside closed j up e = let within = closed_inside closed j up in omega arith
 
-pub returns-clause-goes : goal.returns-clause-goes
-returns-clause-goes c =
+pub returns : goal.returns
+returns c =
     let m = c.args.self.now in
     let p = c.args.setting.now in
     let kept = c.args.kept in
@@ -42,36 +42,6 @@ returns-clause-goes c =
     let counted = c.requires.closed in
     let same : (j : ℕ) → j < length m.steps.items → get_or c.push-4.new.self.items j 0 ≡ get_or m.steps.items j 0 =
     λ j l. ap (λ (xs : List ℕ). get_or xs j 0) steps ∙ get_or_append_left m.steps.items (c.args.step ∷ []) 0 j l in
-    goes p m _ c.requires refl
-    (record {
-      limit = omega arith;
-      count = omega arith;
-      member = λ j l. ap (λ (xs : List Kept). state_at m.base xs j) states ∙ state_before m.base m.states.items (kept ∷ []) j (omega arith);
-      forgotten = λ j l. ap (λ (xs : List ℕ). get_or xs j 0) forgotten ∙ get_or_append_left m.forgotten.items (c.args.parts ∷ []) 0 j (omega arith);
-      early = λ j l. let is = same j l in omega arith;
-      phased = λ j l. ap (phase p) (same j l);
-      executed = λ pc h. h;
-    })
-    (omega arith)
-    (omega arith)
-    (omega arith)
-    (λ j h.
-    let was : get_or m.closed.items j false ≡ true = closed_pushed m.closed.items j (ap (λ (xs : List Bool). get_or xs j false) (sym closed) ∙ h) in
-    inr (was, same j (inside m.closed.items j was counted)))
-
-pub returns-clause-joins : goal.returns-clause-joins
-returns-clause-joins c =
-    let m = c.args.self.now in
-    let p = c.args.setting.now in
-    let kept = c.args.kept in
-    let states : c.push.new.self.items ≡ m.states.items ++ kept ∷ [] =
-    pushed _ _ _ _ _ c.push.ensures.items (c.push.ensures.succeeds (omega (arith, c.in_ok-reserve.ensures.ok))) c.reserve.ensures.items in
-    let forgotten : c.push-2.new.self.items ≡ m.forgotten.items ++ c.args.parts ∷ [] =
-    pushed _ _ _ _ _ c.push-2.ensures.items (c.push-2.ensures.succeeds (omega (arith, c.in_ok-reserve-2.ensures.ok))) c.reserve-2.ensures.items in
-    let steps : c.push-4.new.self.items ≡ m.steps.items ++ c.args.step ∷ [] =
-    pushed _ _ _ _ _ c.push-4.ensures.items (c.push-4.ensures.succeeds (omega (arith, c.in_ok-reserve-4.ensures.ok))) c.reserve-4.ensures.items in
-    let count = c.requires.states in
-    let parts_count = c.requires.forgotten in
     let parts : get_or c.push-2.new.self.items (length m.steps.items) 0 ≡ c.args.parts =
     ap (λ (xs : List ℕ). get_or xs (length m.steps.items) 0) forgotten
     ∙ ap (λ (i : ℕ). get_or (m.forgotten.items ++ c.args.parts ∷ []) i 0) (sym parts_count)
@@ -80,26 +50,38 @@ returns-clause-joins c =
     ap (λ (xs : List Kept). state_at m.base xs (length m.steps.items)) states
     ∙ ap (λ (i : ℕ). state_at m.base (m.states.items ++ kept ∷ []) i) (sym count)
     ∙ state_last m.base m.states.items kept in
-    let more_steps = ap (length {A = ℕ}) steps ∙ length-append m.steps.items (c.args.step ∷ []) in
     let last : get_or c.push-4.new.self.items (length m.steps.items) 0 ≡ c.args.step =
     ap (λ (xs : List ℕ). get_or xs (length m.steps.items) 0) steps ∙ get_or-append_seam m.steps.items c.args.step [] 0 in
-    λ _.
     record {
-      place = length m.steps.items;
-      kept = omega arith;
-      early = omega arith;
-      phased = ap (phase p) last;
-      within = subst (λ (f : ℕ). AreWithin c.args.parts f) (sym parts) (record { parts = λ part h. h; bytes = λ at h. h });
-      alike =
-          subst (λ (f : ℕ). Alike f (state_at m.base c.push.new.self.items (length m.steps.items)) c.args.machine.now) (sym parts)
-          (subst (λ (s : State). Alike c.args.parts s c.args.machine.now) (sym member)
-          (alike_within 0 _ _ (c.in_ok-is_same.ensures (search rules)) c.args.parts (all_within c.args.parts)));
+      adds = record {
+        goes = goes p m _ c.requires refl
+            (record {
+              limit = omega arith;
+              count = omega arith;
+              member = λ j l. ap (λ (xs : List Kept). state_at m.base xs j) states ∙ state_before m.base m.states.items (kept ∷ []) j (omega arith);
+              forgotten = λ j l. ap (λ (xs : List ℕ). get_or xs j 0) forgotten ∙ get_or_append_left m.forgotten.items (c.args.parts ∷ []) 0 j (omega arith);
+              early = λ j l. let is = same j l in omega arith;
+              phased = λ j l. ap (phase p) (same j l);
+              executed = λ pc h. h;
+            })
+            (omega arith)
+            (omega arith)
+            (omega arith)
+            (λ j h.
+            let was : get_or m.closed.items j false ≡ true = closed_pushed m.closed.items j (ap (λ (xs : List Bool). get_or xs j false) (sym closed) ∙ h) in
+            inr (was, same j (inside m.closed.items j was counted)));
+        few = omega arith;
+      };
+      joins = λ _.
+          record {
+            place = length m.steps.items;
+            kept = omega arith;
+            early = omega arith;
+            phased = ap (phase p) last;
+            within = subst (λ (f : ℕ). AreWithin c.args.parts f) (sym parts) (record { parts = λ part h. h; bytes = λ at h. h });
+            alike =
+                subst (λ (f : ℕ). Alike f (state_at m.base c.push.new.self.items (length m.steps.items)) c.args.machine.now) (sym parts)
+                (subst (λ (s : State). Alike c.args.parts s c.args.machine.now) (sym member)
+                (alike_within 0 _ _ (c.in_ok-is_same.ensures (search rules)) c.args.parts (all_within c.args.parts)));
+          };
     }
-
-pub returns-clause-few : goal.returns-clause-few
-returns-clause-few c =
-    let m = c.args.self.now in
-    let steps : c.push-4.new.self.items ≡ m.steps.items ++ c.args.step ∷ [] =
-    pushed _ _ _ _ _ c.push-4.ensures.items (c.push-4.ensures.succeeds (omega (arith, c.in_ok-reserve-4.ensures.ok))) c.reserve-4.ensures.items in
-    let more_steps = ap (length {A = ℕ}) steps ∙ length-append m.steps.items (c.args.step ∷ []) in
-    omega arith

@@ -9,12 +9,12 @@ returns-clause-goes c =
     let m = c.args.self.now in
     let p = c.args.setting.now in
     let place = c.args.place in
-    let kept = c.requires.kept in
-    let count = c.requires.holds.closed in
+    let kept = c.requires.there.kept in
+    let count = c.requires.there.holds.closed in
     let inside : place < length m.closed.items = omega arith in
-    goes p m _ c.requires.holds refl (extends_same p (view_of m))
-    c.requires.holds.states
-    c.requires.holds.forgotten
+    goes p m _ c.requires.there.holds refl (extends_same p (view_of m))
+    c.requires.there.holds.states
+    c.requires.there.holds.forgotten
     (length-set m.closed.items place true ∙ count)
     (λ j h.
     ⊎_elim

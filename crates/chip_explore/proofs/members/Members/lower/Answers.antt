@@ -9,10 +9,10 @@ returns-clause-goes c =
     let p = c.args.setting.now in
     let place = c.args.place in
     let step = c.args.step in
-    let kept = c.requires.kept in
-    let count = c.requires.holds.closed in
+    let kept = c.requires.there.kept in
+    let count = c.requires.there.holds.closed in
     let inside : place < length m.closed.items = omega arith in
-    goes p m _ c.requires.holds refl
+    goes p m _ c.requires.there.holds refl
     (record {
       limit = omega arith;
       count = omega (arith, length-set m.steps.items place step);
@@ -22,8 +22,8 @@ returns-clause-goes c =
       phased = λ j l. set_phased p m.steps.items place step j kept c.requires.phased;
       executed = λ pc h. h;
     })
-    (c.requires.holds.states ∙ omega (arith, length-set m.steps.items place step))
-    (c.requires.holds.forgotten ∙ omega (arith, length-set m.steps.items place step))
+    (c.requires.there.holds.states ∙ omega (arith, length-set m.steps.items place step))
+    (c.requires.there.holds.forgotten ∙ omega (arith, length-set m.steps.items place step))
     (length-set m.closed.items place false ∙ count ∙ omega (arith, length-set m.steps.items place step))
     (λ j h.
     inr (⊎_elim

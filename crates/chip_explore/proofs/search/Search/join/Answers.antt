@@ -10,6 +10,6 @@ pub returns-clause-ends : goal.returns-clause-ends
 returns-clause-ends c =
     let runner = c.args.self.now.runner in
     on_ok c.join_erased-joined.result
-    (ends_erased c.args.setting.now c.args.self.now.members c.join_erased-joined.new.self.members c.join_erased-joined.ensures.goes runner.forgotten c.parts_to_forget-parts.result runner.machine
+    (ends_erased c.args.setting.now c.args.self.now.members c.join_erased-joined.new.self.members c.join_erased-joined.ensures.adds.goes runner.forgotten c.parts_to_forget-parts.result runner.machine
     c.erase.new.self.machine c.args.step c.requires.fine (c.is_within.ensures (search rules)) c.erase.ensures.alike)
     c.join_erased-joined.ensures.joins

@@ -1,7 +1,7 @@
 use Rattle.std.proofs.Common.{rules, ◌≡◌, Result, Ok, Err, OnOk, ap, arith, inr, subst}
 use Rattle.chip_explore.specs.declared.members.Members.{Members}
-use Rattle.chip_explore.specs.inner.Cover.{Goes}
-use Rattle.chip_explore.proofs.Growth.{goes_more, joins_at, joins_lowered}
+use Rattle.chip_explore.specs.inner.Cover.{Adds}
+use Rattle.chip_explore.proofs.Growth.{goes_up_to, joins_at, joins_lowered}
 use Rattle.chip_explore.proofs.search.Search.join_erased.Goals as goal
 use Rattle.chip_explore.proofs.search.Search.join_erased.Goals.{in_default-via-in-None-1, in_default-via-in-Some+in_ok-is_at+else-branch}
 
@@ -22,8 +22,8 @@ returns-clause-joins c =
 pub returns-2-clause-joins : goal.returns-2-clause-joins
 returns-2-clause-joins c = whatever c.note.result (inr (c.in_ok-add.ensures.joins (search rules)))
 
-pub returns-then-not-branch-clause-goes : goal.returns-then-not-branch-clause-goes
-returns-then-not-branch-clause-goes c =
+pub returns-then-not-branch-clause-adds : goal.returns-then-not-branch-clause-adds
+returns-then-not-branch-clause-adds c =
     let p = c.args.setting.now in
     let m = c.args.self.now.members in
     let same : c.in_default.self.1.0 ≡ m =
@@ -31,5 +31,5 @@ returns-then-not-branch-clause-goes c =
       | in_default-via-in-None-1 w ↦ ap (λ there. there.1.0) w.self-is
       | in_default-via-in-Some+in_ok-is_at+else-branch w ↦ ap (λ there. there.1.0) w.self-is
     ] in
-    let goes : Goes p m c.add.new.self = subst (λ (m : Members). Goes p m c.add.new.self) same c.in_ok-add.ensures.goes in
-    goes_more p m c.add.new.self _ goes c.lower_limit.ensures.goes
+    let adds : Adds p m c.add.new.self 1 = subst (λ (m : Members). Adds p m c.add.new.self 1) same c.in_ok-add.ensures.adds in
+    goes_up_to p m c.add.new.self _ _ adds.goes c.lower_limit.ensures.goes (omega arith)
