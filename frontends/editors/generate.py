@@ -63,7 +63,7 @@ class Language:
             texts[name] = re.findall(r'codes "(\w+)"', table)
         self.directives = texts["directives"]
         self.parts = texts["specials"]
-        self.mnemonics = in_order(re.findall(r'name: "(\w+)"', read("chip_lang/src/form.rt")))
+        self.mnemonics = in_order(re.findall(r'form!\("(\w+)"', read("chip_lang/src/form.rt")))
         options = read("chip_lang/src/statement.rt")
         options = re.search(r"fn is_known_option.*?\n}", options, re.S).group(0)
         self.switches = in_order(re.findall(r'b"(\w+)"', options)) + ["ON", "OFF"]

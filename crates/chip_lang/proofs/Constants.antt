@@ -8,7 +8,7 @@ use Rattle.chip_lang.specs.declared.fault.Fault.{Fault}
 use Rattle.chip_lang.specs.Tree.{Tree, number, name, unary, binary}
 use Rattle.chip_lang.specs.Uses.{constant, if_nameless, names_in}
 use Rattle.chip_lang.specs.Value.{Symbols, apply, apply_prefix, no_names, ◌>>=◌, value, value_of_name}
-use Rattle.chip_lang.proofs.KeptValue.{kept-value}
+use Rattle.chip_lang.proofs.KeptValue.{kept_value}
 
 pub no_value : (n : List ℕ) → value_of_name no_names n ≡ None
 no_value n = get-empty (slice_cmp nat_cmp) n
@@ -38,7 +38,7 @@ constant-value (binary sign a b) =
     after_operands (names_in a) (names_in b) (value a no_names) (value b no_names) (apply sign) (constant-value a) (constant-value b)
 
 pub kept_from_none : (e : Tree) (symbols : Symbols) (v : ℤ) → value e no_names ≡ Ok v → value e symbols ≡ Ok v
-kept_from_none e symbols v h = kept-value e no_names symbols v (λ n w is. absurd (some_none w (sym is ∙ no_value n))) h
+kept_from_none e symbols v h = kept_value e no_names symbols v (λ n w is. absurd (some_none w (sym is ∙ no_value n))) h
   where
     some_none : (w : ℤ) → Some w ≡ None → ⊥
     some_none w e = cc

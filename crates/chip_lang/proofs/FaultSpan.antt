@@ -50,3 +50,12 @@ before line place (u ∷ v ∷ ts) (suc i) t a h = before line u.end (v ∷ ts) 
 pub starts_before : (line : List ℕ) (place : ℕ) (ts : List Token) (i : ℕ) (t : Token) → AreTokens line place ts → slice_get ts i ≡ Some t →
     t.start ≤ end_of (slice_get ts (length ts - 1))
 starts_before line place ts i t a h = subst (λ o. t.start ≤ end_of o) (sym (last_is ts)) (before line place ts i t a h)
+
+-- a token begins before it ends, and ends in the line
+pub rises : (line : List ℕ) (place : ℕ) (ts : List Token) (i : ℕ) (t : Token) → AreTokens line place ts → slice_get ts i ≡ Some t → t.start ≤ t.end
+rises line place ts i t a h = omega (arith, (lies line place ts i t a h).rises)
+
+pub stays_inside : (line : List ℕ) (place : ℕ) (ts : List Token) (i : ℕ) (t : Token) → AreTokens line place ts → slice_get ts i ≡ Some t → t.end ≤ length line
+stays_inside line place ts i t a h = (lies line place ts i t a h).inside
+
+pub ruleset span_steps = (starts_before, ends_inside, rises, stays_inside)

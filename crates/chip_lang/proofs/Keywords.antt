@@ -1,21 +1,21 @@
 -- The rows of reserved words mean what the tables of the language say.
-use Rattle.std.proofs.Common.{◌≡◌, ℕ, ◌-◌, ◌<◌, ◌≤◌, Bor, Bool, true, false, if◌then◌else◌, List, [], ◌∷◌, length, map, arith, refl, sym, ap, ◌∙◌, Option, Some, None, get_or}
+use Rattle.std.proofs.Common.{◌≡◌, ℕ, ◌-◌, Bool, true, false, if◌then◌else◌, not, ◌==◌, List, [], ◌∷◌, length, map, arith, refl, sym, ap, ◌∙◌, Option, Some, None, inl, inr}
 use Rattle.std.specs.List.{list_any, list_all, slice_get}
 use Rattle.std.specs.Prelude.{slice_index, is_some}
 use Rattle.std.specs.Option.{unwrap_or, option_map}
 use Rattle.std.proofs.lemmas.Option.{slice_get-map, slice_get-get_or, slice_get_past, get_or_from_slice_get}
 use Rattle.std.specs.Str.{bytes_eq}
-use Rattle.std.proofs.lemmas.Bool.{and_parts}
+use Rattle.std.proofs.lemmas.Bool.{and_parts, cases_Bool}
 use Rattle.std.proofs.lemmas.Slice.Eq.{bytes_eq-Decides}
 use Rattle.chip_lang.specs.declared.keyword.Keyword.{Keyword}
 use Rattle.chip_lang.specs.declared.keyword.Keyword.TheVariants.{Instruction, Directive, Special}
-use Rattle.chip_lang.specs.declared.keyword.Named.{Named}
 use Rattle.chip_lang.specs.Table.{Row, forms}
 use Rattle.chip_lang.specs.Named.{find_word}
 use Rattle.chip_lang.specs.Keyword.{directives, specials, directive_of, special_of, register_of}
 use Rattle.chip_lang.specs.Reserved.{is_reserved}
-use Rattle.chip_lang.specs.inner.Keywords.{Meaning, meaning, meaning_of, meaning_in, row_of, row, words, rows_ending_in}
+use Rattle.chip_lang.specs.inner.Keywords.{Meaning, meaning, meaning_of, meaning_in, row, words, rows_ending_in}
 use Rattle.chip_lang.specs.inner.NamedForms.{named_forms, forms_of}
+use Rattle.chip_lang.proofs.NamedForms.{is_there}
 
 -- the words that end in a byte
 abbrev words_ending_in : ℕ → List (List ℕ)
@@ -30,26 +30,17 @@ is_known w = list_any (λ t. bytes_eq t w) (beside w)
 
 -- ---- a word of the rows
 
-found_by : (t : List ℕ) (ts : List (List ℕ)) (w : List ℕ) (b : Bool) → bytes_eq t w ≡ b
-    → find_word (map row ts) w ≡ (if list_any (λ t. bytes_eq t w) ts then Some (meaning w) else None)
-    → find_word (map row (t ∷ ts)) w ≡ (if list_any (λ t. bytes_eq t w) (t ∷ ts) then Some (meaning w) else None)
-found_by t ts w true e rest = rw e (ap (λ w. Some (meaning w)) ((bytes_eq-Decides t w).0 e))
-found_by t ts w false e rest = rw e rest
-
 found : (ts : List (List ℕ)) (w : List ℕ) → find_word (map row ts) w ≡ (if list_any (λ t. bytes_eq t w) ts then Some (meaning w) else None)
 found [] w = refl
-found (t ∷ ts) w = found_by t ts w (bytes_eq t w) refl (found ts w)
+found (t ∷ ts) w =
+    elim (cases_Bool (bytes_eq t w)) [
+      | inl e ↦ rw e (ap (λ w. Some (meaning w)) ((bytes_eq-Decides t w).0 e))
+      | inr e ↦ rw e (found ts w)
+    ]
 
 -- ---- the rows at a place
 
-pub rows_at : (groups : List (Bor (List Named))) (i : ℕ) (d : Bor (List Named)) → i < length groups
-    → map row_of (get_or groups i d).now ≡ unwrap_or (slice_get (map (λ ws. map row_of ws.now) groups) i) []
-rows_at groups i d inside =
-    ap (λ o. unwrap_or o []) (sym (ap (λ o. option_map (λ ws. map row_of ws.now) o) (slice_get-get_or groups i d inside)) ∙ sym (slice_get-map (λ ws. map row_of ws.now) groups i))
-
-pub rows_past : (groups : List (Bor (List Named))) (i : ℕ) → length groups ≤ i → [] ≡ unwrap_or (slice_get (map (λ ws. map row_of ws.now) groups) i) []
-rows_past groups i past =
-    ap (λ o. unwrap_or o []) (sym (ap (λ o. option_map (λ ws. map row_of ws.now) o) (slice_get_past groups i past)) ∙ sym (slice_get-map (λ ws. map row_of ws.now) groups i))
+pub ruleset rows_at = (slice_get-map)
 
 rows_in : (found : Option (List (List ℕ))) → unwrap_or (option_map (map row) found) [] ≡ map row (unwrap_or found [])
 rows_in None = refl
@@ -60,14 +51,12 @@ rows_beside last = ap (λ o. unwrap_or o []) (slice_get-map (map row) words (las
 
 -- ---- any other word
 
-other_by : (name w : List ℕ) (b : Bool) → bytes_eq name w ≡ b → is_known name ≡ true → is_known w ≡ false → bytes_eq name w ≡ false
-other_by name w true e known unknown =
-    let same : name ≡ w = (bytes_eq-Decides name w).0 e in
-    absurd (let no : true ≡ false = sym known ∙ ap is_known same ∙ unknown in cc)
-other_by name w false e known unknown = e
-
 other : (name w : List ℕ) → is_known name ≡ true → is_known w ≡ false → bytes_eq name w ≡ false
-other name w known unknown = other_by name w (bytes_eq name w) refl known unknown
+other name w known unknown =
+    elim (cases_Bool (bytes_eq name w)) [
+      | inl e ↦ absurd (let no : true ≡ false = sym known ∙ ap is_known ((bytes_eq-Decides name w).0 e) ∙ unknown in cc)
+      | inr e ↦ e
+    ]
 
 no_word : {A : Type 0} (rows : List (List ℕ × A)) (w : List ℕ) → list_all (λ r. is_known r.0) rows ≡ true → is_known w ≡ false → find_word rows w ≡ None
 no_word [] w h unknown = refl
@@ -81,11 +70,8 @@ no_form (r ∷ rows) w h unknown =
     let parts = and_parts (is_known r.name) (list_all (λ r. is_known r.name) rows) h in
     rw (other r.name w parts.0 unknown) (no_form rows w parts.1 unknown)
 
-no_name : (rows : List Row) (w : List ℕ) → list_all (λ r. is_known r.name) rows ≡ true → is_known w ≡ false → list_any (λ r. bytes_eq r.name w) rows ≡ false
-no_name [] w h unknown = refl
-no_name (r ∷ rows) w h unknown =
-    let parts = and_parts (is_known r.name) (list_all (λ r. is_known r.name) rows) h in
-    rw (other r.name w parts.0 unknown) (no_name rows w parts.1 unknown)
+no_name : (w : List ℕ) → is_known w ≡ false → list_any (λ r. bytes_eq r.name w) forms ≡ false
+no_name w unknown = is_there w forms ∙ ap (λ rows. not (length rows == 0)) (no_form forms w refl unknown)
 
 no_directive : (w : List ℕ) → is_known w ≡ false → directive_of w ≡ None
 unfolding directive_of
@@ -103,15 +89,11 @@ abbrev nothing : Meaning
 nothing = record { directive = None; special = None; forms = []; is_instruction = false }
 
 no_meaning : (w : List ℕ) → is_known w ≡ false → nothing ≡ meaning w
-no_meaning w unknown = rw (no_directive w unknown, no_special w unknown, no_forms w unknown, no_name forms w refl unknown) refl
-
-means_by : (w : List ℕ) (b : Bool) → is_known w ≡ b → unwrap_or (if b then Some (meaning w) else None) nothing ≡ meaning w
-means_by w true known = refl
-means_by w false unknown = no_meaning w unknown
+no_meaning w unknown = rw (no_directive w unknown, no_special w unknown, no_forms w unknown, no_name w unknown) refl
 
 -- what a word means is what stands beside it in the rows of its last byte
 means : (w : List ℕ) → unwrap_or (find_word (map row (beside w)) w) nothing ≡ meaning w
-means w = rw (found (beside w) w) (means_by w (is_known w) refl)
+means w = elim (cases_Bool (is_known w)) [ inl known ↦ rw (found (beside w) w, known) refl | inr unknown ↦ rw (found (beside w) w, unknown) (no_meaning w unknown) ]
 
 as_option : (k : Option Keyword) → meaning_in k ≡ unwrap_or (option_map meaning_of k) nothing
 as_option None = refl

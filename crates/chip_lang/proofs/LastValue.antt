@@ -28,16 +28,14 @@ two_taken (Err f) b sign go = refl
 after_item : (symbols : Symbols) (stack : List Tree) (i : Item) (go : List ℤ → Outcome) →
     with_values symbols (pushed stack i) go ≡ with_values symbols stack (λ vs. value_put symbols i vs >>= λ v. go (v ∷ values_left i vs))
 after_item symbols stack (Operand leaf) go = refl
-after_item symbols [] (Unary sign) go = refl
 after_item symbols (a ∷ stack) (Unary sign) go =
     ap (with_values symbols stack) (λ i vs. one_taken (value a symbols) (apply_prefix sign) (λ v. go (v ∷ vs)) i)
-after_item symbols [] (Binary sign) go = refl
 after_item symbols (b ∷ []) (Binary sign) go = one_taken (value b symbols) (apply sign (pos 0)) (λ v. go (v ∷ []))
 after_item symbols (b ∷ a ∷ stack) (Binary sign) go =
     ap (with_values symbols stack) (λ i vs. two_taken (value a symbols) (value b symbols) (apply sign) (λ v. go (v ∷ vs)) i)
-after_item symbols [] (WithOperand sign leaf) go = refl
 after_item symbols (a ∷ stack) (WithOperand sign leaf) go =
     ap (with_values symbols stack) (λ i vs. one_taken (value a symbols) (λ x. value (leaf_tree leaf) symbols >>= apply sign x) (λ v. go (v ∷ vs)) i)
+after_item symbols stack i go = refl
 
 alone : (v : Outcome) → (v >>= λ x. Ok x) ≡ v
 alone (Ok x) = refl
@@ -58,25 +56,19 @@ last_value-whole symbols items h = value_after symbols [] items h
 -- ---- a zero more under the last one changes nothing
 
 put_over_zero : (symbols : Symbols) (i : Item) (stack : List ℤ) → value_put symbols i (stack ++ pos 0 ∷ []) ≡ value_put symbols i stack
-put_over_zero symbols (Operand leaf) stack = refl
 put_over_zero symbols (Unary sign) [] = refl
-put_over_zero symbols (Unary sign) (a ∷ stack) = refl
 put_over_zero symbols (Binary sign) [] = refl
 put_over_zero symbols (Binary sign) (b ∷ []) = refl
-put_over_zero symbols (Binary sign) (b ∷ a ∷ stack) = refl
 put_over_zero symbols (WithOperand sign leaf) [] = refl
-put_over_zero symbols (WithOperand sign leaf) (a ∷ stack) = refl
+put_over_zero symbols i stack = refl
 
 left_over_zero : (i : Item) (stack : List ℤ) →
     (values_left i (stack ++ pos 0 ∷ []) ≡ values_left i stack) ⊎ (values_left i (stack ++ pos 0 ∷ []) ≡ values_left i stack ++ pos 0 ∷ [])
-left_over_zero (Operand leaf) stack = inr refl
 left_over_zero (Unary sign) [] = inl refl
-left_over_zero (Unary sign) (a ∷ stack) = inr refl
 left_over_zero (Binary sign) [] = inl refl
 left_over_zero (Binary sign) (b ∷ []) = inl refl
-left_over_zero (Binary sign) (b ∷ a ∷ stack) = inr refl
 left_over_zero (WithOperand sign leaf) [] = inl refl
-left_over_zero (WithOperand sign leaf) (a ∷ stack) = inr refl
+left_over_zero i stack = inr refl
 
 same_after : (v : Outcome) (f g : ℤ → Outcome) → ((x : ℤ) → f x ≡ g x) → (v >>= f) ≡ (v >>= g)
 same_after (Ok x) f g same = same x

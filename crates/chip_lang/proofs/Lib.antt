@@ -23,6 +23,7 @@ pub mod Sound
 pub mod Steps
 pub mod TokenList
 pub mod NamesUsed
+pub mod ReadBody
 pub mod NamesBound
 pub mod FormedLine
 pub mod Misfit

@@ -1,5 +1,6 @@
 -- How many tokens the pieces between commas have.
-use Rattle.std.proofs.Common.{◌≡◌, ℕ, zero, suc, ◌+◌, ◌<◌, ◌≤◌, ◌⊎◌, inl, inr, List, [], ◌∷◌, length, drop, refl, ap, ◌∙◌, arith, length-drop}
+use Rattle.std.proofs.Common.{◌≡◌, ℕ, zero, suc, ◌+◌, ◌<◌, inl, inr, List, [], ◌∷◌, length, drop, refl, ap, ◌∙◌, arith, length-drop}
+use Rattle.std.proofs.lemmas.Bool.{cases_lt}
 use Rattle.std.proofs.lemmas.List.{length-take-le}
 use Rattle.chip_lang.specs.declared.lexeme.Lexeme.{Lexeme}
 use Rattle.chip_lang.specs.Line.{pieces}
@@ -10,16 +11,11 @@ abbrev pub joined : List (List Lexeme) → ℕ
 joined [] = 0
 joined (p ∷ ps) = length p + 1 + joined ps
 
-below : (m n : ℕ) → (m < n) ⊎ (n ≤ m)
-below m zero = inr (omega arith)
-below zero (suc n) = inl (omega arith)
-below (suc m) (suc n) = elim (below m n) [ inl h ↦ inl (omega arith) | inr h ↦ inr (omega arith) ]
-
 joined_within : (fuel : ℕ) (ts : List Lexeme) → length ts < fuel → joined (pieces ts) ≡ length ts + 1
 joined_within zero ts h = absurd (omega arith)
 joined_within (suc fuel) ts h =
     let n : ℕ = before_comma ts in
-    elim (below n (length ts)) [
+    elim (cases_lt n (length ts)) [
       | inl some ↦
           (let rest = joined_within fuel (drop (n + 1) ts) (omega (arith, length-drop (n + 1) ts)) in
           ap joined (cut_at_comma ts n refl some) ∙ omega (arith, rest, some, length-drop (n + 1) ts, length-take-le n ts (omega arith)))

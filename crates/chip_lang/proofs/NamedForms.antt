@@ -1,8 +1,9 @@
 -- A name's form is found among the forms of that name.
-use Rattle.std.proofs.Common.{◌≡◌, ℕ, ◌==◌, ◌&&◌, ◌≤◌, not, arith, Bool, true, false, List, [], ◌∷◌, map, length, is_none, None, Some, if◌then◌else◌, refl, sym, ap, ◌∙◌}
+use Rattle.std.proofs.Common.{◌≡◌, ℕ, ◌==◌, ◌&&◌, ◌≤◌, not, arith, Bool, true, false, List, [], ◌∷◌, map, length, is_none, None, Some, if◌then◌else◌, refl, sym, ap, ◌∙◌, inl, inr}
 use Rattle.std.proofs.Math.Dec.{eqb-suc-zero}
 use Rattle.std.specs.List.{list_any}
 use Rattle.std.specs.Str.{bytes_eq}
+use Rattle.std.proofs.lemmas.Bool.{cases_Bool}
 use Rattle.std.proofs.lemmas.List.{length-map}
 use Rattle.chip_lang.specs.Table.{Row, forms}
 use Rattle.chip_lang.specs.Operand.{Operand}
@@ -10,29 +11,25 @@ use Rattle.chip_lang.specs.declared.form.Form.{Form}
 use Rattle.chip_lang.specs.Form.{row_of_form, all_match, find_form, form_of}
 use Rattle.chip_lang.specs.Reserved.{is_mnemonic}
 use Rattle.chip_lang.specs.declared.lexeme.Lexeme.{Lexeme}
-use Rattle.chip_lang.specs.declared.lexeme.Lexeme.TheVariants.{Word, Number, Text, Sign, Bad}
+use Rattle.chip_lang.specs.declared.lexeme.Lexeme.TheVariants.{Word}
 use Rattle.chip_lang.specs.Line.{front_directive, begins_with_no_word, begins_with_unknown_word}
 use Rattle.chip_lang.specs.inner.NamedForms.{named_forms, forms_of, front_forms, first_fit}
 
-same_by : (name : List ℕ) (r : Row) (rows : List Row) (operands : List Operand) (b : Bool) → bytes_eq r.name name ≡ b →
-    first_fit (named_forms name rows) operands ≡ find_form rows name operands →
-    first_fit (named_forms name (r ∷ rows)) operands ≡ find_form (r ∷ rows) name operands
-same_by name r rows operands true e rest = rw e (ap (λ found. if all_match r.patterns operands then Some r else found) rest)
-same_by name r rows operands false e rest = rw e rest
-
 same_form : (name : List ℕ) (rows : List Row) (operands : List Operand) → first_fit (named_forms name rows) operands ≡ find_form rows name operands
 same_form name [] operands = refl
-same_form name (r ∷ rows) operands = same_by name r rows operands (bytes_eq r.name name) refl (same_form name rows operands)
+same_form name (r ∷ rows) operands =
+    elim (cases_Bool (bytes_eq r.name name)) [
+      | inl e ↦ rw e (ap (λ found. if all_match r.patterns operands then Some r else found) (same_form name rows operands))
+      | inr e ↦ rw e (same_form name rows operands)
+    ]
 
-there_by : (name : List ℕ) (r : Row) (rows : List Row) (b : Bool) → bytes_eq r.name name ≡ b →
-    list_any (λ r. bytes_eq r.name name) rows ≡ not (length (named_forms name rows) == 0) →
-    list_any (λ r. bytes_eq r.name name) (r ∷ rows) ≡ not (length (named_forms name (r ∷ rows)) == 0)
-there_by name r rows true e rest = rw e (ap not (sym (eqb-suc-zero (length (named_forms name rows)))))
-there_by name r rows false e rest = rw e rest
-
-is_there : (name : List ℕ) (rows : List Row) → list_any (λ r. bytes_eq r.name name) rows ≡ not (length (named_forms name rows) == 0)
+pub is_there : (name : List ℕ) (rows : List Row) → list_any (λ r. bytes_eq r.name name) rows ≡ not (length (named_forms name rows) == 0)
 is_there name [] = refl
-is_there name (r ∷ rows) = there_by name r rows (bytes_eq r.name name) refl (is_there name rows)
+is_there name (r ∷ rows) =
+    elim (cases_Bool (bytes_eq r.name name)) [
+      | inl e ↦ rw e (ap not (sym (eqb-suc-zero (length (named_forms name rows)))))
+      | inr e ↦ rw e (is_there name rows)
+    ]
 
 -- the form of a name and operands
 pub form_among : (fs : List Form) (name : List ℕ) (operands : List Operand) → map row_of_form fs ≡ forms_of name →
@@ -45,9 +42,6 @@ pub some_among : (fs : List Form) (name : List ℕ) → map row_of_form fs ≡ f
 unfolding forms_of
 some_among fs name same =
     ap (λ n. not (n == 0)) (sym (length-map fs row_of_form) ∙ ap length same) ∙ sym (is_there name forms)
-
-true-false : true ≡ false → ⊥
-true-false h = cc
 
 not_not : (b : Bool) → b ≡ not (not b)
 not_not true = refl
@@ -62,7 +56,4 @@ pub unknown_word : (statement : List Lexeme) (fs : List Form) → begins_with_no
     map row_of_form fs ≡ front_forms statement → (length fs == 0) ≡ begins_with_unknown_word statement
 unknown_word [] fs word long unlisted same = absurd (omega (arith, long))
 unknown_word (Word name ∷ rest) fs word long unlisted same = none_among fs name same ∙ ap (λ d. is_none d && not (is_mnemonic name)) unlisted
-unknown_word (Number z ∷ rest) fs word long unlisted same = absurd (true-false word)
-unknown_word (Text bytes ∷ rest) fs word long unlisted same = absurd (true-false word)
-unknown_word (Sign c ∷ rest) fs word long unlisted same = absurd (true-false word)
-unknown_word (Bad f ∷ rest) fs word long unlisted same = absurd (true-false word)
+unknown_word statement fs word long unlisted same = cc

@@ -1,9 +1,9 @@
 -- At most one form fits a name and operands.
-use Rattle.std.proofs.Common.{◌≡◌, ℕ, ◌≤◌, Bool, true, false, not, ◌&&◌, List, [], ◌∷◌, length, map, refl, sym, ◌∙◌, arith}
+use Rattle.std.proofs.Common.{◌≡◌, ℕ, ◌≤◌, Bool, true, false, not, ◌&&◌, List, [], ◌∷◌, length, map, refl, sym, ◌∙◌, arith, inl, inr}
 use Rattle.std.specs.List.{filter, list_all}
 use Rattle.std.specs.Str.{bytes_eq}
 use Rattle.std.proofs.lemmas.Slice.Eq.{bytes_eq-Decides}
-use Rattle.std.proofs.lemmas.Bool.{and_parts, and_from, false≢true}
+use Rattle.std.proofs.lemmas.Bool.{and_parts, and_from, cases_Bool, false≢true}
 use Rattle.chip_lang.specs.declared.form.Pattern.{Pattern}
 use Rattle.chip_lang.specs.declared.form.Pattern.TheVariants.{Vx, Vy, V0, Index, DelayTimer, SoundTimer, Key, SmallDigit, BigDigit, Decimal, Flags, AtIndex, Nibble, Byte, Address}
 use Rattle.chip_lang.specs.declared.form.Special.{Special}
@@ -105,29 +105,21 @@ not_both true h e = false≢true h
 not_both false h e = false≢true e
 
 -- after a form that fits, none that isn't alike fits
-abbrev NoneFits : Row → List Row → List ℕ → List Operand → Type 0
-NoneFits r rs n os = fits r n os ≡ true → list_all (λ s. not (alike r s)) rs ≡ true → filter (λ s. fits s n os) rs ≡ []
-
-none_step : (r s : Row) (rs : List Row) (n : List ℕ) (os : List Operand) (b : Bool) → fits s n os ≡ b → NoneFits r rs n os → NoneFits r (s ∷ rs) n os
-none_step r s rs n os true e again f h = absurd (not_both (alike r s) (and_parts _ _ h).0 (fit_alike r s n os f e))
-none_step r s rs n os false e again f h = rw e (again f (and_parts _ _ h).1)
-
-none_fits : (r : Row) (rs : List Row) (n : List ℕ) (os : List Operand) → NoneFits r rs n os
+none_fits : (r : Row) (rs : List Row) (n : List ℕ) (os : List Operand) → fits r n os ≡ true → list_all (λ s. not (alike r s)) rs ≡ true → filter (λ s. fits s n os) rs ≡ []
 none_fits r [] n os f h = refl
-none_fits r (s ∷ rs) n os f h = none_step r s rs n os (fits s n os) refl (none_fits r rs n os) f h
+none_fits r (s ∷ rs) n os f h =
+    elim (cases_Bool (fits s n os)) [
+      | inl e ↦ absurd (not_both (alike r s) (and_parts _ _ h).0 (fit_alike r s n os f e))
+      | inr e ↦ rw e (none_fits r rs n os f (and_parts _ _ h).1)
+    ]
 
-abbrev AtMostOne : List Row → List ℕ → List Operand → Type 0
-AtMostOne rs n os = apart rs ≡ true → length (filter (λ s. fits s n os) rs) ≤ 1
-
-one_step : (r : Row) (rs : List Row) (n : List ℕ) (os : List Operand) (b : Bool) → fits r n os ≡ b → AtMostOne rs n os → AtMostOne (r ∷ rs) n os
-one_step r rs n os true e again h =
-    let none = none_fits r rs n os e (and_parts _ _ h).0 in
-    rw (e, none) (omega arith)
-one_step r rs n os false e again h = rw e (again (and_parts _ _ h).1)
-
-at_most_one : (rs : List Row) (n : List ℕ) (os : List Operand) → AtMostOne rs n os
+at_most_one : (rs : List Row) (n : List ℕ) (os : List Operand) → apart rs ≡ true → length (filter (λ s. fits s n os) rs) ≤ 1
 at_most_one [] n os h = omega arith
-at_most_one (r ∷ rs) n os h = one_step r rs n os (fits r n os) refl (at_most_one rs n os) h
+at_most_one (r ∷ rs) n os h =
+    elim (cases_Bool (fits r n os)) [
+      | inl e ↦ rw (e, none_fits r rs n os e (and_parts _ _ h).0) (omega arith)
+      | inr e ↦ rw e (at_most_one rs n os (and_parts _ _ h).1)
+    ]
 
 pub one_form : (n : List ℕ) (os : List Operand) → length (filter (λ r. fits r n os) forms) ≤ 1
 one_form n os = at_most_one forms n os forms_apart

@@ -1,12 +1,13 @@
 -- The digits of a form's words: its own, and the word's where an operand takes them.
-use Rattle.std.proofs.Common.{◌≡◌, ℕ, ◌==◌, Bool, true, false, ◌||◌, if◌then◌else◌, List, [], ◌∷◌, map, Some, refl, subst}
-use Rattle.std.specs.List.{list_any, find}
-use Rattle.std.proofs.lemmas.Bool.{and_parts}
+use Rattle.std.proofs.Common.{◌≡◌, ℕ, ◌==◌, Bool, true, false, ◌||◌, if◌then◌else◌, List, map, Some, option_map, refl, sym, ap, ◌∙◌}
+use Rattle.std.specs.List.{list_any, find, slice_get, position_or_len}
+use Rattle.std.proofs.lemmas.Bool.{and_parts, eqb-true}
+use Rattle.std.proofs.lemmas.List.Folds.{find_at}
+use Rattle.std.proofs.lemmas.Option.{same_Some, slice_get-map}
 use Rattle.chip_lang.specs.declared.form.Pattern.{Pattern}
 use Rattle.chip_lang.specs.Table.{Row}
 use Rattle.chip_lang.specs.inner.ByDigits.{digit, takes_top, takes_x, takes_y, takes_n, has_digit}
 use Rattle.chip_lang.proofs.Digits.{HasDigits}
-use Rattle.chip_lang.proofs.Sound.{equal}
 
 -- the form's own digit, or a word's where an operand takes it
 abbrev pub own_digit : (Pattern → Bool) → (bits : ℕ) → Row → ℕ → ℕ
@@ -14,7 +15,7 @@ own_digit takes bits r w = if list_any takes r.patterns then digit bits w else d
 
 own_step : (a : Bool) (d base : ℕ) → (a || d == base) ≡ true → d ≡ (if a then d else base)
 own_step true d base h = refl
-own_step false d base h = equal d base h
+own_step false d base h = eqb-true d base h
 
 is_own : (takes : Pattern → Bool) (bits : ℕ) (r : Row) (w : ℕ) → has_digit takes bits r (digit bits w) ≡ true → digit bits w ≡ own_digit takes bits r w
 is_own takes bits r w h = own_step (list_any takes r.patterns) (digit bits w) (digit bits r.base) h
@@ -35,18 +36,10 @@ own_digits r w digits =
 
 -- ---- what is found in a table
 
-pub same_head : {A : Type 0} {x y : A} {xs ys : List A} → x ∷ xs ≡ y ∷ ys → x ≡ y
-same_head h = cc
-
-pub same_tail : {A : Type 0} {x y : A} {xs ys : List A} → x ∷ xs ≡ y ∷ ys → xs ≡ ys
-same_tail h = cc
-
 -- what two readings of a table have in common, they have in common at the row that is found
 pub found_same : {R A : Type 0} (test : R → Bool) (f g : R → A) (rows : List R) (r : R) → map f rows ≡ map g rows → find test rows ≡ Some r → f r ≡ g r
-found_same test f g [] r e h = cc
-found_same test f g (s ∷ rows) r e h = step test f g s rows r (same_head e) (test s) refl h (found_same test f g rows r (same_tail e))
-  where
-    step : {R A : Type 0} (test : R → Bool) (f g : R → A) (s : R) (rows : List R) (r : R) → f s ≡ g s → (b : Bool) → test s ≡ b → find test (s ∷ rows) ≡ Some r →
-        (find test rows ≡ Some r → f r ≡ g r) → f r ≡ g r
-    step test f g s rows r e true t h again = let same : Some s ≡ Some r = rw t at h in let is : s ≡ r = cc in subst (λ r. f r ≡ g r) is e
-    step test f g s rows r e false t h again = again (rw t at h)
+found_same {R = R} {A = A} test f g rows r e h =
+    let k = position_or_len test rows in
+    let at : slice_get rows k ≡ Some r = sym (find_at test rows) ∙ h in
+    let read : (f : R → A) → slice_get (map f rows) k ≡ Some (f r) = λ f. slice_get-map f rows k ∙ ap (option_map f) at in
+    same_Some (f r) (g r) (sym (read f) ∙ ap (λ rows. slice_get rows k) e ∙ read g)

@@ -5,6 +5,7 @@ use Rattle.std.specs.List.{prefix_len}
 use Rattle.std.proofs.lemmas.List.{append-nil, map-append}
 use Rattle.chip_lang.specs.declared.lexeme.Lexeme.{Lexeme}
 use Rattle.chip_lang.specs.Line.{is_sign_of, pieces, all_some}
+use Rattle.chip_lang.proofs.Scan.{to_end}
 
 -- before the first comma
 abbrev pub before_comma : List Lexeme → ℕ
@@ -48,7 +49,7 @@ whole (t ∷ ts) h = whole_step t ts (is_sign_of 44 t) refl (whole ts) h
 pub no_comma : (ts : List Lexeme) (n : ℕ) → n ≡ before_comma ts → length ts ≤ n → pieces ts ≡ ts ∷ []
 no_comma ts n e h = whole ts (omega arith)
 
-pub ruleset piece_steps = (cut_at_comma, no_comma)
+pub ruleset piece_steps = (cut_at_comma, no_comma, to_end)
 
 module _ {A B : Type 0} where
   -- what was found, and what is left to find

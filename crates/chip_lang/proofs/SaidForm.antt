@@ -4,6 +4,7 @@ use Rattle.std.specs.Prelude.{option_map}
 use Rattle.std.specs.List.{list_all, find}
 use Rattle.std.specs.Str.{bytes_eq}
 use Rattle.std.proofs.lemmas.Bool.{and_parts}
+use Rattle.std.proofs.lemmas.Option.{same_Some}
 use Rattle.std.proofs.lemmas.Slice.Eq.{bytes_eq-Decides}
 use Rattle.chip_lang.specs.Operand.{Operand}
 use Rattle.chip_lang.specs.Decoding.{gives, entry_of, decode_of}
@@ -79,14 +80,11 @@ find_form_is (r ∷ rows) name operands = rw (find_form_is rows name operands) r
 
 -- ---- the instruction that it says
 
-same_some : {A : Type 0} {x y : A} → Some x ≡ Some y → x ≡ y
-same_some h = cc
-
 said_by : (r : Row) (w : ℕ) (o : Option Entry) → entry_of w ≡ o → sign_of o ≡ Some (r.name, r.base) → DecodesTo r w
 unfolding decode_of
 said_by r w None e h = cc
 said_by r w (Some entry) e h =
-    let same = same_some h in
+    let same = same_Some _ _ h in
     record {
       entry = entry;
       found = e;

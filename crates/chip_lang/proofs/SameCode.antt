@@ -8,10 +8,9 @@ use Rattle.std.proofs.lemmas.Bool.Decides.{Decides-int_eq}
 use Rattle.std.proofs.lemmas.List.Folds.{list_all-append}
 use Rattle.chip_lang.specs.declared.fault.Fault.TheVariants.{UndefinedName}
 use Rattle.chip_lang.specs.declared.form.Pattern.{Pattern}
-use Rattle.chip_lang.specs.declared.form.Pattern.TheVariants.{Vx, Nibble, Byte, Address}
-use Rattle.chip_lang.specs.declared.form.Special.{Special}
+use Rattle.chip_lang.specs.declared.form.Pattern.TheVariants.{Vx, Vy, Nibble, Byte, Address}
 use Rattle.chip_lang.specs.Tree.{Tree, number, name, unary, binary}
-use Rattle.chip_lang.specs.Operand.{Operand, register, special, expression}
+use Rattle.chip_lang.specs.Operand.{Operand, register, expression}
 use Rattle.chip_lang.specs.Value.{Symbols, value, value_of_name, or_fault, ◌>>=◌, apply_prefix}
 use Rattle.chip_lang.specs.Encoding.{field_of, fields_of}
 use Rattle.chip_lang.specs.Line.{Body, db, dw, code, Reading, bad, read}
@@ -39,27 +38,14 @@ same_value S T (binary sign a b) h =
     let right = same_value S T b both.1 in
     rw (left, right) refl
 
-same_register : (S T : Symbols) (p : Pattern) (x : ℕ) → field_of p (register x) S ≡ field_of p (register x) T
-unfolding field_of
-same_register S T Vx x = refl
-same_register S T p x = refl
-
-same_special : (S T : Symbols) (p : Pattern) (w : Special) → field_of p (special w) S ≡ field_of p (special w) T
-unfolding field_of
-same_special S T Vx w = refl
-same_special S T p w = refl
-
-same_number : (S T : Symbols) (p : Pattern) (e : Tree) → value e S ≡ value e T → field_of p (expression e) S ≡ field_of p (expression e) T
-unfolding field_of
-same_number S T Nibble e h = rw h refl
-same_number S T Byte e h = rw h refl
-same_number S T Address e h = rw h refl
-same_number S T p e h = refl
-
 same_field : (S T : Symbols) (p : Pattern) (o : Operand) → list_all (has_same_value S T) (names_in_operand o) ≡ true → field_of p o S ≡ field_of p o T
-same_field S T p (register x) h = same_register S T p x
-same_field S T p (special w) h = same_special S T p w
-same_field S T p (expression e) h = same_number S T p e (same_value S T e h)
+unfolding field_of
+same_field S T Vx (register x) h = refl
+same_field S T Vy (register y) h = refl
+same_field S T Nibble (expression e) h = rw (same_value S T e h) refl
+same_field S T Byte (expression e) h = rw (same_value S T e h) refl
+same_field S T Address (expression e) h = rw (same_value S T e h) refl
+same_field S T p o h = refl
 
 same_fields : (S T : Symbols) (ps : List Pattern) (os : List Operand) → list_all (has_same_value S T) (flat_map names_in_operand os) ≡ true → fields_of ps os S ≡ fields_of ps os T
 same_fields S T [] [] h = refl
@@ -89,3 +75,5 @@ same_bytes S T body h = refl
 pub same_code : (r : Reading) (S T : Symbols) → agree_on S T r ≡ true → code_of r S ≡ code_of r T
 same_code (bad fault) S T h = refl
 same_code (read label body) S T h = ap coded (same_bytes S T body h)
+
+pub ruleset same_laws = (same_value, same_code)

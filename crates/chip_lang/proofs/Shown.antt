@@ -1,8 +1,10 @@
 -- The form that a word is shown in, with the operands that are shown, has that word.
-use Rattle.std.proofs.Common.{◌≡◌, ℕ, ◌%◌, Bool, true, false, ltb, List, [], ◌∷◌, map, Option, Some, None, option_map, Ok, refl, sym, ap, ◌∙◌, arith}
-use Rattle.std.specs.List.{find}
-use Rattle.std.proofs.lemmas.Bool.{and_from}
-use Rattle.std.proofs.lemmas.Bool.Decides.{nat_tests}
+use Rattle.std.proofs.Common.{◌≡◌, ℕ, ◌%◌, Bool, true, List, [], ◌∷◌, map, Option, Some, None, option_map, Ok, refl, sym, ap, ◌∙◌, arith}
+use Rattle.std.specs.List.{find, slice_get, position_or_len}
+use Rattle.std.proofs.lemmas.Bool.{and_from, eqb-true, lt-ltb}
+use Rattle.std.proofs.lemmas.List.Folds.{find_at}
+use Rattle.std.proofs.lemmas.List.Sums.{passes_at_first}
+use Rattle.std.proofs.lemmas.Option.{get_or_from_slice_get, slice_get_within}
 use Rattle.std.proofs.lemmas.Slice.Eq.{bytes_eq-Decides}
 use Rattle.chip_lang.specs.declared.form.Pattern.{Pattern}
 use Rattle.chip_lang.specs.declared.form.Pattern.TheVariants.{Vx, Nibble, Byte, Address}
@@ -12,22 +14,12 @@ use Rattle.chip_lang.specs.Form.{is_special, matches, all_match, fits}
 use Rattle.chip_lang.specs.Encoding.{field_of, fields_of, word_of_form}
 use Rattle.chip_lang.specs.Decoding.{part_in, parts_in, gives, entry_of}
 use Rattle.chip_lang.specs.Show.{form_shown, operand_in}
-use Rattle.chip_lang.proofs.Sound.{equal}
-
-below_16 : (n : ℕ) → ltb (n % 16) 16 ≡ true
-below_16 n = grind (arith, nat_tests)
-
-below_256 : (n : ℕ) → ltb (n % 256) 256 ≡ true
-below_256 n = grind (arith, nat_tests)
-
-below_4096 : (n : ℕ) → ltb (n % 4096) 4096 ≡ true
-below_4096 n = grind (arith, nat_tests)
 
 field_shown : (w : ℕ) (p : Pattern) (symbols : Symbols) → field_of p (operand_in w p) symbols ≡ Ok (part_in p w)
 unfolding field_of matches is_special
-field_shown w Nibble symbols = rw (below_16 w) refl
-field_shown w Byte symbols = rw (below_256 w) refl
-field_shown w Address symbols = rw (below_4096 w) refl
+field_shown w Nibble symbols = rw (lt-ltb (w % 16) 16 (omega arith)) refl
+field_shown w Byte symbols = rw (lt-ltb (w % 256) 256 (omega arith)) refl
+field_shown w Address symbols = rw (lt-ltb (w % 4096) 4096 (omega arith)) refl
 field_shown w p symbols = refl
 
 fields_shown : (w : ℕ) (ps : List Pattern) (symbols : Symbols) → fields_of ps (map (operand_in w) ps) symbols ≡ Ok (parts_in ps w)
@@ -47,12 +39,10 @@ operands_fit w [] = refl
 operands_fit w (p ∷ ps) = and_from _ _ (operand_fits w p) (operands_fit w ps)
 
 pub found_passes : {A : Type 0} (test : A → Bool) (xs : List A) (x : A) → find test xs ≡ Some x → test x ≡ true
-found_passes test [] x h = cc
-found_passes test (y ∷ xs) x h = step test y xs x (test y) refl h (found_passes test xs x)
-  where
-    step : {A : Type 0} (test : A → Bool) (y : A) (xs : List A) (x : A) (b : Bool) → test y ≡ b → find test (y ∷ xs) ≡ Some x → (find test xs ≡ Some x → test x ≡ true) → test x ≡ true
-    step test y xs x true e h again = let same : Some y ≡ Some x = rw e at h in let is : y ≡ x = cc in ap test (sym is) ∙ e
-    step test y xs x false e h again = again (rw e at h)
+found_passes test xs x h =
+    let k = position_or_len test xs in
+    let at : slice_get xs k ≡ Some x = sym (find_at test xs) ∙ h in
+    ap test (sym (get_or_from_slice_get xs k x x at)) ∙ passes_at_first test xs x (slice_get_within xs k x at)
 
 -- an entry that a table has for a word gives it
 pub entry_gives : (w : ℕ) (e : Entry) → entry_of w ≡ Some e → gives e.form w ≡ true
@@ -68,7 +58,7 @@ pub word_shown : (w : ℕ) (r : Row) (symbols : Symbols) → form_shown w ≡ So
 word_shown w r symbols h =
     let made = made_of (λ e. e.form) (entry_of w) r h in
     let passes : gives r w ≡ true = ap (λ r. gives r w) (sym made.2) ∙ entry_gives w made.0 made.1 in
-    let whole = equal _ _ passes in
+    let whole = eqb-true _ _ passes in
     let fields = fields_shown w r.patterns symbols in
     rw fields (ap Ok whole)
 

@@ -1,9 +1,8 @@
 -- The source text of a word is text: its bytes are ASCII.
-use Rattle.std.proofs.Common.{◌≡◌, ℕ, ◌+◌, ◌-◌, ◌/◌, ◌%◌, ◌<◌, ltb, Bool, true, false, if◌then◌else◌, List, [], ◌∷◌, ◌++◌, codes, Option, Some, None, option_map, refl, arith}
+use Rattle.std.proofs.Common.{◌≡◌, ℕ, ◌+◌, ◌-◌, ◌/◌, ◌%◌, ◌<◌, ltb, Bool, true, if◌then◌else◌, List, [], ◌∷◌, ◌++◌, codes, Option, Some, None, option_map, refl, arith}
 use Rattle.std.specs.List.{list_all}
 use Rattle.std.specs.Str.{IsAscii, IsUtf8}
-use Rattle.std.proofs.lemmas.Bool.{and_parts}
-use Rattle.std.proofs.lemmas.Bool.Decides.{nat_tests}
+use Rattle.std.proofs.lemmas.Bool.{and_parts, cond_both, ltb-true}
 use Rattle.std.proofs.lemmas.Str.{IsAscii-append, IsUtf8-from_ascii}
 use Rattle.std.proofs.lemmas.Str.Ascii.{IsAscii-nil, IsAscii-cons}
 use Rattle.chip_lang.specs.declared.form.Pattern.{Pattern}
@@ -16,25 +15,14 @@ use Rattle.chip_lang.proofs.OwnDigits.{found_same}
 abbrev is_plain : List ℕ → Bool
 is_plain bs = list_all (λ b. ltb b 128) bs
 
-below : (b : ℕ) → ltb b 128 ≡ true → b < 128
-below b h = grind (arith, nat_tests)
-
 plain : (bs : List ℕ) → is_plain bs ≡ true → IsAscii bs
 plain [] h = IsAscii-nil
 plain (b ∷ bs) h =
     let both = and_parts (ltb b 128) (is_plain bs) h in
-    IsAscii-cons b bs (below b both.0) (plain bs both.1)
-
-small_if : (b : Bool) (x y : ℕ) → x < 128 → y < 128 → (if b then x else y) < 128
-small_if true x y p q = p
-small_if false x y p q = q
-
-plain_if : (b : Bool) (xs ys : List ℕ) → IsAscii xs → IsAscii ys → IsAscii (if b then xs else ys)
-plain_if true xs ys p q = p
-plain_if false xs ys p q = q
+    IsAscii-cons b bs (ltb-true b 128 both.0) (plain bs both.1)
 
 with_digit : (d : ℕ) (bs : List ℕ) → d < 16 → IsAscii bs → IsAscii (hex_digit d ∷ bs)
-with_digit d bs h rest = IsAscii-cons (hex_digit d) bs (small_if (ltb d 10) (48 + d) (87 + d) (omega arith) (omega arith)) rest
+with_digit d bs h rest = IsAscii-cons (hex_digit d) bs (cond_both (ltb d 10) (48 + d) (87 + d) (λ c. c < 128) (λ _. omega arith) (λ _. omega arith)) rest
 
 byte_is : (n : ℕ) → IsAscii (two_hex_digits n)
 byte_is n = with_digit (n / 16 % 16) (hex_digit (n % 16) ∷ []) (omega arith) (with_digit (n % 16) [] (omega arith) IsAscii-nil)
@@ -48,12 +36,12 @@ data_is n = IsAscii-append (codes "DW #") (four_hex_digits n) (plain (codes "DW 
 register_is : (x : ℕ) → x < 16 → IsAscii (register_text x)
 register_is x h =
     let digit = if ltb x 10 then 48 + x else 55 + x in
-    IsAscii-cons 86 (digit ∷ []) (omega arith) (IsAscii-cons digit [] (small_if (ltb x 10) (48 + x) (55 + x) (omega arith) (omega arith)) IsAscii-nil)
+    IsAscii-cons 86 (digit ∷ []) (omega arith) (IsAscii-cons digit [] (cond_both (ltb x 10) (48 + x) (55 + x) (λ c. c < 128) (λ _. omega arith) (λ _. omega arith)) IsAscii-nil)
 
 decimal_is : (n : ℕ) → n < 16 → IsAscii (small_decimal n)
 decimal_is n h =
-    plain_if (ltb n 10) ((48 + n) ∷ []) (49 ∷ (48 + (n - 10)) ∷ []) (IsAscii-cons (48 + n) [] (omega arith) IsAscii-nil)
-    (IsAscii-cons 49 ((48 + (n - 10)) ∷ []) (omega arith) (IsAscii-cons (48 + (n - 10)) [] (omega arith) IsAscii-nil))
+    cond_both (ltb n 10) ((48 + n) ∷ []) (49 ∷ (48 + (n - 10)) ∷ []) IsAscii (λ _. IsAscii-cons (48 + n) [] (omega arith) IsAscii-nil)
+    (λ _. IsAscii-cons 49 ((48 + (n - 10)) ∷ []) (omega arith) (IsAscii-cons (48 + (n - 10)) [] (omega arith) IsAscii-nil))
 
 operand_is : (p : Pattern) (w : ℕ) → IsAscii (operand_text p w)
 operand_is Vx w = register_is (field_in Vx w) (omega arith)

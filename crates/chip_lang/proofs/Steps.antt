@@ -1,17 +1,16 @@
 -- One step of the parser.
-use Rattle.std.proofs.Common.{◌≡◌, ℕ, zero, suc, ◌+◌, ◌*◌, ◌-◌, ◌<◌, ◌≤◌, ◌==◌, Bool, true, false, if◌then◌else◌, List, [], ◌∷◌, length, Option, Some, None, refl, sym, ap, arith, ◌∙◌}
-use Rattle.std.proofs.lemmas.Bool.Decides.{nat_tests}
+use Rattle.std.proofs.Common.{◌≡◌, ℕ, zero, suc, ◌+◌, ◌*◌, ◌-◌, ◌<◌, ◌≤◌, List, [], ◌∷◌, length, Option, Some, None, refl, sym, ap, arith, ◌∙◌}
 use Rattle.chip_lang.specs.declared.lexeme.Lexeme.{Lexeme}
-use Rattle.chip_lang.specs.declared.lexeme.Lexeme.TheVariants.{Word, Number, Text, Sign, Bad}
+use Rattle.chip_lang.specs.declared.lexeme.Lexeme.TheVariants.{Sign}
 use Rattle.chip_lang.specs.declared.expr.Operator.{Operator}
 use Rattle.chip_lang.specs.Tree.{Tree, binary}
-use Rattle.chip_lang.specs.Grammar.{operator_of, level_of}
 use Rattle.std.proofs.Common.{take, drop, Result, Ok, Err}
 use Rattle.std.specs.Borrow.{Bor}
 use Rattle.std.specs.Result.{IfOk}
 use Rattle.chip_lang.specs.inner.Seen.{seen}
 use Rattle.chip_lang.proofs.Scan.{to_end}
-use Rattle.chip_lang.specs.computed.Parse.{Parsed, level_or_8, front_level, if_level, front_prefix, front_operator, after, below, on_found, closed, prefixed, with_right, parse, further}
+use Rattle.chip_lang.proofs.Complete.{no_operator}
+use Rattle.chip_lang.specs.computed.Parse.{Parsed, front_level, front_prefix, front_operator, after, below, on_found, closed, prefixed, with_right, parse, further}
 
 -- a level: what the stronger level finds, and the operators after it
 pub level_step : (n k : ℕ) (ts rest : List Lexeme) (left : Tree) (y : Parsed) → 1 ≤ k → 9 * length ts + suc k < n → length rest < length ts →
@@ -34,9 +33,6 @@ pub prefixed_step : (n : ℕ) (ts : List Lexeme) (y : Parsed) → 9 * length ts 
     ((m : ℕ) → 9 * length ts < m → y ≡ parse m 0 ts) → y ≡ parse n 1 ts
 prefixed_step zero ts y q front found = absurd (omega arith)
 prefixed_step (suc n) ts y q front found = found n (omega arith) ∙ ap (λ o. prefixed (parse n 1) (parse n 0) o ts) front
-
-same_level : (a b : ℕ) → (a == b) ≡ true → a ≡ b
-same_level a b h = grind (arith, nat_tests)
 
 -- parentheses
 pub parentheses_step : (n c : ℕ) (ts : List Lexeme) (p : Parsed) → c ≡ 40 → 9 * suc (length ts) < n →
@@ -64,23 +60,6 @@ further_end (suc n) level left rest h front = ap (λ o. with_right (parse n (bel
 
 -- ---- levels one after another
 
--- the operator at the front is of no level but its own
-other_sign : (o : Option Operator) (level : ℕ) → (level_or_8 o ≡ level → ⊥) → None ≡ if_level o level
-other_sign None level other = refl
-other_sign (Some sign) level other = by (level_of sign == level) refl
-  where
-    by : (b : Bool) → (level_of sign == level) ≡ b → None ≡ (if level_of sign == level then Some sign else None)
-    by true e = absurd (other (same_level (level_of sign) level e))
-    by false e = rw e refl
-
-pub other_level : (ts : List Lexeme) (level : ℕ) → (front_level ts ≡ level → ⊥) → None ≡ front_operator ts level
-other_level [] level other = refl
-other_level (Word w ∷ ts) level other = refl
-other_level (Number z ∷ ts) level other = refl
-other_level (Text bs ∷ ts) level other = refl
-other_level (Bad f ∷ ts) level other = refl
-other_level (Sign c ∷ ts) level other = other_sign (operator_of c) level other
-
 -- what a level finds is what a weaker one finds, where no operator of a level between stands in
 -- front
 pub raised : (d k level : ℕ) (ts rest : List Lexeme) (left : Tree) → d + k ≡ level → 1 ≤ k → length rest < length ts →
@@ -107,7 +86,7 @@ onward done next ts rest left y low less front short found more n b =
     let under : ℕ = next - 1 in
     let is : suc under ≡ next = omega arith in
     level_step n under ts rest left y (omega arith) (omega arith) short
-    (raised (under - done) done under ts rest left (omega arith) low short (λ l p q. other_level rest l (λ e. omega (arith, e, front, p, q))) found)
+    (raised (under - done) done under ts rest left (omega arith) low short (λ l p q. sym (no_operator rest l (λ e. omega (arith, e, front, p, q)))) found)
     (λ m q. more m q ∙ ap (λ l. further m l left rest) (sym is))
     ∙ ap (λ l. parse n l ts) is
 
@@ -117,7 +96,7 @@ pub settled : (done level next : ℕ) (ts rest : List Lexeme) (left : Tree) → 
     ((m : ℕ) → 9 * length ts + done < m → Some (left, rest) ≡ parse m done ts) →
     (n : ℕ) → 9 * length ts + level < n → Some (left, rest) ≡ parse n level ts
 settled done level next ts rest left low high front short stop found =
-    raised (level - done) done level ts rest left (omega arith) low short (λ l p q. other_level rest l (λ e. stop l p q (front ∙ e))) found
+    raised (level - done) done level ts rest left (omega arith) low short (λ l p q. sym (no_operator rest l (λ e. stop l p q (front ∙ e)))) found
 
 -- where a level finds nothing a weaker one finds nothing
 pub sunk : (d k level : ℕ) (ts : List Lexeme) → d + k ≡ level → 1 ≤ k →

@@ -1,7 +1,6 @@
 -- Each line has one token list.
 use Rattle.std.proofs.Common.{◌≡◌, ℕ, zero, suc, ◌+◌, ◌-◌, ◌<◌, ◌≤◌, ◌==◌, Bool, true, false, if◌then◌else◌, List, [], ◌∷◌, length, get_or, take, drop, refl, sym, ap, subst, arith, ◌∙◌, add-one, length-drop, inl, inr}
-use Rattle.std.proofs.lemmas.Bool.{cases_eq, cases_lt}
-use Rattle.chip_lang.proofs.Sound.{equal}
+use Rattle.std.proofs.lemmas.Bool.{cases_eq, cases_lt, eqb-true}
 use Rattle.std.proofs.Math.Seq.{drop-cons}
 use Rattle.std.proofs.lemmas.List.{drop_all}
 use Rattle.std.proofs.lemmas.List.Sums.{prefix_len-le-length}
@@ -32,14 +31,9 @@ text_bounded q bytes =
 kind_bounded : (t1 t2 t3 t4 t5 t6 t7 : Bool) (bytes : List ℕ) (a b c d e h : Kind) (m n : ℕ) (f : Kind × ℕ) (g : Kind) → m ≤ length bytes → n ≤ length bytes → Bounded bytes f →
     Bounded bytes (if t1 then (a, m + 1) else (if t2 then (b, m + 1) else (if t3 then (c, m + 1) else (if t4 then (d, m + 1) else
     (if t5 then (e, n + 1) else (if t6 then f else (if t7 then (g, 1) else (h, 1))))))))
-kind_bounded true t2 t3 t4 t5 t6 t7 bytes a b c d e h m n f g p q r = (omega arith, omega arith)
-kind_bounded false true t3 t4 t5 t6 t7 bytes a b c d e h m n f g p q r = (omega arith, omega arith)
-kind_bounded false false true t4 t5 t6 t7 bytes a b c d e h m n f g p q r = (omega arith, omega arith)
-kind_bounded false false false true t5 t6 t7 bytes a b c d e h m n f g p q r = (omega arith, omega arith)
-kind_bounded false false false false true t6 t7 bytes a b c d e h m n f g p q r = (omega arith, omega arith)
 kind_bounded false false false false false true t7 bytes a b c d e h m n f g p q r = r
 kind_bounded false false false false false false true bytes a b c d e h m n f g p q r = (omega arith, omega arith)
-kind_bounded false false false false false false false bytes a b c d e h m n f g p q r = (omega arith, omega arith)
+kind_bounded t1 t2 t3 t4 t5 t6 t7 bytes a b c d e h m n f g p q r = (omega arith, omega arith)
 
 token_bounded : (b : ℕ) (bytes : List ℕ) → Bounded bytes (token_at b bytes)
 unfolding token_at
@@ -132,8 +126,8 @@ Again n line = (place : ℕ) → place ≤ length line → length line ≤ place
 are_solid : (n : ℕ) (line : List ℕ) (place : ℕ) → Again n line → place < length line → length line ≤ place + suc n → is_blank (get_or line place 0) ≡ false →
     (b : Bool) → (get_or line place 0 == 59) ≡ b → AreTokens line place (tokens_from place 0 (get_or line place 0 ∷ drop (place + 1) line))
 are_solid n line place again h q e true c =
-    subst (AreTokens line place) (sym (comment_front place (get_or line place 0) (drop (place + 1) line) (equal (get_or line place 0) 59 c)))
-    (over_at line place (omega arith) (λ g. equal (get_or line place 0) 59 c))
+    subst (AreTokens line place) (sym (comment_front place (get_or line place 0) (drop (place + 1) line) (eqb-true (get_or line place 0) 59 c)))
+    (over_at line place (omega arith) (λ g. eqb-true (get_or line place 0) 59 c))
 are_solid n line place again h q e false c =
     let r = token_at (get_or line place 0) (drop (place + 1) line) in
     let bounded = token_bounded (get_or line place 0) (drop (place + 1) line) in
@@ -165,6 +159,8 @@ are_from (suc n) line place p q =
 
 pub these_tokens : (line : List ℕ) → AreTokens line 0 (tokens_of line)
 these_tokens line = are_from (length line) line 0 (omega arith) (omega arith)
+
+pub ruleset token_laws = (these_tokens, no_other_tokens)
 
 pub placed : (line : List ℕ) (ts : List Token) → ts ≡ tokens_of line → AreTokens line 0 ts
 placed line ts e = subst (AreTokens line 0) (sym e) (these_tokens line)

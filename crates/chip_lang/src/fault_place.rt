@@ -100,6 +100,7 @@ fn mnemonic_at(alloc: Global, tokens: &[Lexeme]) -> Result<Option<Bytes>, AllocE
 }
 
 /// The bytes of the tokens of a place in their line.
+#[tactic(auto, using(crate::proofs::FaultSpan::span_steps))]
 fn span_of_place(line: &[u8], tokens: &[Token], place: Place) -> Span
     requires { AreTokens line.now 0 tokens.now }
     ensures span { result ≡ span_of_place tokens.now place }
@@ -228,11 +229,8 @@ fn name_at(count: usize, shape: &Shape) -> usize
     ensures { result ≡ name_at count (seen_shape shape.now) }
 {
     match shape {
-        Shape::Definition { .. } | Shape::Statement { label: Some(_), .. } => 0,
-        Shape::Statement {
-            label: None,
-            tokens,
-        } => count.saturating_sub(tokens.len()) + 1,
+        Shape::Statement { label: None, .. } => operands_at(count, shape),
+        _ => 0,
     }
 }
 
@@ -347,6 +345,7 @@ fn misfit_from(first: usize, count: usize, before: usize) -> Place
 
 /// How many tokens stand before the first operand that doesn't fit, with a comma after each
 /// operand.
+#[tactic(auto, using(crate::proofs::Misfit::joined_pieces))]
 fn before_misfit(alloc: Global, values: bool, operands: &[Lexeme]) -> Result<usize, AllocError>
     ensures value { IfOk result (λ before. before ≡ before_misfit values (pieces operands.now)) }
     ensures bound { IfOk result (λ before. before ≤ length operands.now + 1) }

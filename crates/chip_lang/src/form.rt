@@ -93,277 +93,98 @@ pub struct Form {
     pub base: u16,
 }
 
+/// A form by its name, the patterns of its operands, and its word without them.
+macro_rules! form {
+    ($name:literal, [$($pattern:ident),*], $base:literal) => {
+        Form {
+            name: $name,
+            patterns: &[$(Pattern::$pattern),*],
+            base: $base,
+        }
+    };
+}
+
 // The forms of each instruction, in the order of the table.
 
-pub(crate) const SCD: &[Form] = &[Form {
-    name: "SCD",
-    patterns: &[Pattern::Nibble],
-    base: 0x00C0,
-}];
+pub(crate) const SCD: &[Form] = &[form!("SCD", [Nibble], 0x00C0)];
 
-pub(crate) const CLS: &[Form] = &[Form {
-    name: "CLS",
-    patterns: &[],
-    base: 0x00E0,
-}];
+pub(crate) const CLS: &[Form] = &[form!("CLS", [], 0x00E0)];
 
-pub(crate) const RET: &[Form] = &[Form {
-    name: "RET",
-    patterns: &[],
-    base: 0x00EE,
-}];
+pub(crate) const RET: &[Form] = &[form!("RET", [], 0x00EE)];
 
-pub(crate) const SCR: &[Form] = &[Form {
-    name: "SCR",
-    patterns: &[],
-    base: 0x00FB,
-}];
+pub(crate) const SCR: &[Form] = &[form!("SCR", [], 0x00FB)];
 
-pub(crate) const SCL: &[Form] = &[Form {
-    name: "SCL",
-    patterns: &[],
-    base: 0x00FC,
-}];
+pub(crate) const SCL: &[Form] = &[form!("SCL", [], 0x00FC)];
 
-pub(crate) const EXIT: &[Form] = &[Form {
-    name: "EXIT",
-    patterns: &[],
-    base: 0x00FD,
-}];
+pub(crate) const EXIT: &[Form] = &[form!("EXIT", [], 0x00FD)];
 
-pub(crate) const LOW: &[Form] = &[Form {
-    name: "LOW",
-    patterns: &[],
-    base: 0x00FE,
-}];
+pub(crate) const LOW: &[Form] = &[form!("LOW", [], 0x00FE)];
 
-pub(crate) const HIGH: &[Form] = &[Form {
-    name: "HIGH",
-    patterns: &[],
-    base: 0x00FF,
-}];
+pub(crate) const HIGH: &[Form] = &[form!("HIGH", [], 0x00FF)];
 
 pub(crate) const JP: &[Form] = &[
-    Form {
-        name: "JP",
-        patterns: &[Pattern::Address],
-        base: 0x1000,
-    },
-    Form {
-        name: "JP",
-        patterns: &[Pattern::V0, Pattern::Address],
-        base: 0xB000,
-    },
+    form!("JP", [Address], 0x1000),
+    form!("JP", [V0, Address], 0xB000),
 ];
 
-pub(crate) const CALL: &[Form] = &[Form {
-    name: "CALL",
-    patterns: &[Pattern::Address],
-    base: 0x2000,
-}];
+pub(crate) const CALL: &[Form] = &[form!("CALL", [Address], 0x2000)];
 
 pub(crate) const SE: &[Form] = &[
-    Form {
-        name: "SE",
-        patterns: &[Pattern::Vx, Pattern::Byte],
-        base: 0x3000,
-    },
-    Form {
-        name: "SE",
-        patterns: &[Pattern::Vx, Pattern::Vy],
-        base: 0x5000,
-    },
+    form!("SE", [Vx, Byte], 0x3000),
+    form!("SE", [Vx, Vy], 0x5000),
 ];
 
 pub(crate) const SNE: &[Form] = &[
-    Form {
-        name: "SNE",
-        patterns: &[Pattern::Vx, Pattern::Byte],
-        base: 0x4000,
-    },
-    Form {
-        name: "SNE",
-        patterns: &[Pattern::Vx, Pattern::Vy],
-        base: 0x9000,
-    },
+    form!("SNE", [Vx, Byte], 0x4000),
+    form!("SNE", [Vx, Vy], 0x9000),
 ];
 
 pub(crate) const LD: &[Form] = &[
-    Form {
-        name: "LD",
-        patterns: &[Pattern::Vx, Pattern::Byte],
-        base: 0x6000,
-    },
-    Form {
-        name: "LD",
-        patterns: &[Pattern::Vx, Pattern::Vy],
-        base: 0x8000,
-    },
-    Form {
-        name: "LD",
-        patterns: &[Pattern::Index, Pattern::Address],
-        base: 0xA000,
-    },
-    Form {
-        name: "LD",
-        patterns: &[Pattern::Vx, Pattern::DelayTimer],
-        base: 0xF007,
-    },
-    Form {
-        name: "LD",
-        patterns: &[Pattern::Vx, Pattern::Key],
-        base: 0xF00A,
-    },
-    Form {
-        name: "LD",
-        patterns: &[Pattern::DelayTimer, Pattern::Vx],
-        base: 0xF015,
-    },
-    Form {
-        name: "LD",
-        patterns: &[Pattern::SoundTimer, Pattern::Vx],
-        base: 0xF018,
-    },
-    Form {
-        name: "LD",
-        patterns: &[Pattern::SmallDigit, Pattern::Vx],
-        base: 0xF029,
-    },
-    Form {
-        name: "LD",
-        patterns: &[Pattern::BigDigit, Pattern::Vx],
-        base: 0xF030,
-    },
-    Form {
-        name: "LD",
-        patterns: &[Pattern::Decimal, Pattern::Vx],
-        base: 0xF033,
-    },
-    Form {
-        name: "LD",
-        patterns: &[Pattern::AtIndex, Pattern::Vx],
-        base: 0xF055,
-    },
-    Form {
-        name: "LD",
-        patterns: &[Pattern::Vx, Pattern::AtIndex],
-        base: 0xF065,
-    },
-    Form {
-        name: "LD",
-        patterns: &[Pattern::Flags, Pattern::Vx],
-        base: 0xF075,
-    },
-    Form {
-        name: "LD",
-        patterns: &[Pattern::Vx, Pattern::Flags],
-        base: 0xF085,
-    },
+    form!("LD", [Vx, Byte], 0x6000),
+    form!("LD", [Vx, Vy], 0x8000),
+    form!("LD", [Index, Address], 0xA000),
+    form!("LD", [Vx, DelayTimer], 0xF007),
+    form!("LD", [Vx, Key], 0xF00A),
+    form!("LD", [DelayTimer, Vx], 0xF015),
+    form!("LD", [SoundTimer, Vx], 0xF018),
+    form!("LD", [SmallDigit, Vx], 0xF029),
+    form!("LD", [BigDigit, Vx], 0xF030),
+    form!("LD", [Decimal, Vx], 0xF033),
+    form!("LD", [AtIndex, Vx], 0xF055),
+    form!("LD", [Vx, AtIndex], 0xF065),
+    form!("LD", [Flags, Vx], 0xF075),
+    form!("LD", [Vx, Flags], 0xF085),
 ];
 
 pub(crate) const ADD: &[Form] = &[
-    Form {
-        name: "ADD",
-        patterns: &[Pattern::Vx, Pattern::Byte],
-        base: 0x7000,
-    },
-    Form {
-        name: "ADD",
-        patterns: &[Pattern::Vx, Pattern::Vy],
-        base: 0x8004,
-    },
-    Form {
-        name: "ADD",
-        patterns: &[Pattern::Index, Pattern::Vx],
-        base: 0xF01E,
-    },
+    form!("ADD", [Vx, Byte], 0x7000),
+    form!("ADD", [Vx, Vy], 0x8004),
+    form!("ADD", [Index, Vx], 0xF01E),
 ];
 
-pub(crate) const OR: &[Form] = &[Form {
-    name: "OR",
-    patterns: &[Pattern::Vx, Pattern::Vy],
-    base: 0x8001,
-}];
+pub(crate) const OR: &[Form] = &[form!("OR", [Vx, Vy], 0x8001)];
 
-pub(crate) const AND: &[Form] = &[Form {
-    name: "AND",
-    patterns: &[Pattern::Vx, Pattern::Vy],
-    base: 0x8002,
-}];
+pub(crate) const AND: &[Form] = &[form!("AND", [Vx, Vy], 0x8002)];
 
-pub(crate) const XOR: &[Form] = &[Form {
-    name: "XOR",
-    patterns: &[Pattern::Vx, Pattern::Vy],
-    base: 0x8003,
-}];
+pub(crate) const XOR: &[Form] = &[form!("XOR", [Vx, Vy], 0x8003)];
 
-pub(crate) const SUB: &[Form] = &[Form {
-    name: "SUB",
-    patterns: &[Pattern::Vx, Pattern::Vy],
-    base: 0x8005,
-}];
+pub(crate) const SUB: &[Form] = &[form!("SUB", [Vx, Vy], 0x8005)];
 
-pub(crate) const SHR: &[Form] = &[
-    Form {
-        name: "SHR",
-        patterns: &[Pattern::Vx],
-        base: 0x8006,
-    },
-    Form {
-        name: "SHR",
-        patterns: &[Pattern::Vx, Pattern::Vy],
-        base: 0x8006,
-    },
-];
+pub(crate) const SHR: &[Form] = &[form!("SHR", [Vx], 0x8006), form!("SHR", [Vx, Vy], 0x8006)];
 
-pub(crate) const SUBN: &[Form] = &[Form {
-    name: "SUBN",
-    patterns: &[Pattern::Vx, Pattern::Vy],
-    base: 0x8007,
-}];
+pub(crate) const SUBN: &[Form] = &[form!("SUBN", [Vx, Vy], 0x8007)];
 
-pub(crate) const SHL: &[Form] = &[
-    Form {
-        name: "SHL",
-        patterns: &[Pattern::Vx],
-        base: 0x800E,
-    },
-    Form {
-        name: "SHL",
-        patterns: &[Pattern::Vx, Pattern::Vy],
-        base: 0x800E,
-    },
-];
+pub(crate) const SHL: &[Form] = &[form!("SHL", [Vx], 0x800E), form!("SHL", [Vx, Vy], 0x800E)];
 
-pub(crate) const RND: &[Form] = &[Form {
-    name: "RND",
-    patterns: &[Pattern::Vx, Pattern::Byte],
-    base: 0xC000,
-}];
+pub(crate) const RND: &[Form] = &[form!("RND", [Vx, Byte], 0xC000)];
 
-pub(crate) const DRW: &[Form] = &[Form {
-    name: "DRW",
-    patterns: &[Pattern::Vx, Pattern::Vy, Pattern::Nibble],
-    base: 0xD000,
-}];
+pub(crate) const DRW: &[Form] = &[form!("DRW", [Vx, Vy, Nibble], 0xD000)];
 
-pub(crate) const SKP: &[Form] = &[Form {
-    name: "SKP",
-    patterns: &[Pattern::Vx],
-    base: 0xE09E,
-}];
+pub(crate) const SKP: &[Form] = &[form!("SKP", [Vx], 0xE09E)];
 
-pub(crate) const SKNP: &[Form] = &[Form {
-    name: "SKNP",
-    patterns: &[Pattern::Vx],
-    base: 0xE0A1,
-}];
+pub(crate) const SKNP: &[Form] = &[form!("SKNP", [Vx], 0xE0A1)];
 
-pub(crate) const SYS: &[Form] = &[Form {
-    name: "SYS",
-    patterns: &[Pattern::Address],
-    base: 0x0000,
-}];
+pub(crate) const SYS: &[Form] = &[form!("SYS", [Address], 0x0000)];
 
 /// The form that operands are, where the forms of the instruction are known.
 #[tactic(auto, using(crate::proofs::NamedForms::form_among))]

@@ -100,7 +100,7 @@ pub enum Instr {
 }
 
 /// The word of an instruction: the one that decodes to it.
-#[tactic(auto, unfolding(crate::specs::inner::ByDigits::instr_with))]
+#[tactic(auto, using(crate::proofs::Decoding::scroll_at), unfolding(crate::specs::inner::ByDigits::instr_with))]
 pub fn word(instr: Instr) -> u16
     ensures { decode_of result ≡ Some instr }
 {
@@ -152,6 +152,7 @@ pub fn word(instr: Instr) -> u16
 }
 
 /// The word 00KK.
+#[tactic(auto, using(crate::proofs::Decoding::of_system))]
 fn of_system(byte: u8) -> u16
     ensures { decode_of result ≡ instr_with 0 (fields 0 (byte / 16) (byte % 16) byte byte) }
 {
@@ -159,6 +160,7 @@ fn of_system(byte: u8) -> u16
 }
 
 /// The word of a first digit and an address.
+#[tactic(auto, using(crate::proofs::Decoding::of_address))]
 fn with_address(top: u16, a: Addr) -> u16
     requires { top < 16 }
     ensures { decode_of result
@@ -168,6 +170,7 @@ fn with_address(top: u16, a: Addr) -> u16
 }
 
 /// The word of a first digit, a register and a byte.
+#[tactic(auto, using(crate::proofs::Decoding::of_byte))]
 fn with_byte(top: u16, x: Reg, byte: u8) -> u16
     requires { top < 16 }
     ensures { decode_of result
@@ -177,6 +180,7 @@ fn with_byte(top: u16, x: Reg, byte: u8) -> u16
 }
 
 /// The word of a first digit, two registers and a last digit.
+#[tactic(auto, using(crate::proofs::Decoding::of_registers))]
 fn with_registers(top: u16, x: Reg, y: Reg, n: u8) -> u16
     requires top { top < 16 }
     requires n { n < 16 }
@@ -188,6 +192,7 @@ fn with_registers(top: u16, x: Reg, y: Reg, n: u8) -> u16
 
 /// The instruction of a word, if it is the word of one.
 #[inline(always)]
+#[tactic(auto, using(crate::proofs::Decoding::decode_by_digits))]
 pub fn decode(w: u16) -> Option<Instr>
     ensures { result ≡ decode_of w }
 {
@@ -195,6 +200,7 @@ pub fn decode(w: u16) -> Option<Instr>
 }
 
 #[inline(always)]
+#[tactic(auto, unfolding(crate::specs::inner::ByDigits::instr_with))]
 fn instr_of(w: u16) -> Option<Instr>
     ensures { result ≡ instr_with (w / 4096) (fields_in w) }
 {

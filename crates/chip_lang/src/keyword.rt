@@ -28,262 +28,102 @@ pub(crate) enum Keyword {
 
 /// A word in upper case and what it means.
 #[derive(Clone, Copy)]
-pub(crate) struct Named {
-    pub(crate) text: &'static [u8],
-    pub(crate) meaning: Keyword,
-}
+pub(crate) struct Named(pub(crate) &'static [u8], pub(crate) Keyword);
 
 // All words by their last letters, from A to W: no other byte ends one.
 const WORDS: &[&[Named]] = &[
-    &[Named {
-        text: b"DA",
-        meaning: Keyword::Directive(Directive::Da),
-    }],
+    &[Named(b"DA", Keyword::Directive(Directive::Da))],
     &[
-        Named {
-            text: b"SUB",
-            meaning: Keyword::Instruction(SUB),
-        },
-        Named {
-            text: b"DB",
-            meaning: Keyword::Directive(Directive::Db),
-        },
-        Named {
-            text: b"B",
-            meaning: Keyword::Special(Special::Decimal),
-        },
+        Named(b"SUB", Keyword::Instruction(SUB)),
+        Named(b"DB", Keyword::Directive(Directive::Db)),
+        Named(b"B", Keyword::Special(Special::Decimal)),
     ],
     &[],
     &[
-        Named {
-            text: b"LD",
-            meaning: Keyword::Instruction(LD),
-        },
-        Named {
-            text: b"ADD",
-            meaning: Keyword::Instruction(ADD),
-        },
-        Named {
-            text: b"AND",
-            meaning: Keyword::Instruction(AND),
-        },
-        Named {
-            text: b"RND",
-            meaning: Keyword::Instruction(RND),
-        },
-        Named {
-            text: b"SCD",
-            meaning: Keyword::Instruction(SCD),
-        },
-        Named {
-            text: b"END",
-            meaning: Keyword::Directive(Directive::End),
-        },
-        Named {
-            text: b"IFUND",
-            meaning: Keyword::Directive(Directive::Ifund),
-        },
-        Named {
-            text: b"USED",
-            meaning: Keyword::Directive(Directive::Used),
-        },
+        Named(b"LD", Keyword::Instruction(LD)),
+        Named(b"ADD", Keyword::Instruction(ADD)),
+        Named(b"AND", Keyword::Instruction(AND)),
+        Named(b"RND", Keyword::Instruction(RND)),
+        Named(b"SCD", Keyword::Instruction(SCD)),
+        Named(b"END", Keyword::Directive(Directive::End)),
+        Named(b"IFUND", Keyword::Directive(Directive::Ifund)),
+        Named(b"USED", Keyword::Directive(Directive::Used)),
     ],
     &[
-        Named {
-            text: b"SE",
-            meaning: Keyword::Instruction(SE),
-        },
-        Named {
-            text: b"SNE",
-            meaning: Keyword::Instruction(SNE),
-        },
-        Named {
-            text: b"ELSE",
-            meaning: Keyword::Directive(Directive::Else),
-        },
-        Named {
-            text: b"DEFINE",
-            meaning: Keyword::Directive(Directive::Define),
-        },
-        Named {
-            text: b"INCLUDE",
-            meaning: Keyword::Directive(Directive::Include),
-        },
+        Named(b"SE", Keyword::Instruction(SE)),
+        Named(b"SNE", Keyword::Instruction(SNE)),
+        Named(b"ELSE", Keyword::Directive(Directive::Else)),
+        Named(b"DEFINE", Keyword::Directive(Directive::Define)),
+        Named(b"INCLUDE", Keyword::Directive(Directive::Include)),
     ],
     &[
-        Named {
-            text: b"F",
-            meaning: Keyword::Special(Special::SmallDigit),
-        },
-        Named {
-            text: b"HF",
-            meaning: Keyword::Special(Special::BigDigit),
-        },
-        Named {
-            text: b"IFDEF",
-            meaning: Keyword::Directive(Directive::Ifdef),
-        },
-        Named {
-            text: b"ENDIF",
-            meaning: Keyword::Directive(Directive::Endif),
-        },
-        Named {
-            text: b"XREF",
-            meaning: Keyword::Directive(Directive::Xref),
-        },
-        Named {
-            text: b"UNDEF",
-            meaning: Keyword::Directive(Directive::Undef),
-        },
+        Named(b"F", Keyword::Special(Special::SmallDigit)),
+        Named(b"HF", Keyword::Special(Special::BigDigit)),
+        Named(b"IFDEF", Keyword::Directive(Directive::Ifdef)),
+        Named(b"ENDIF", Keyword::Directive(Directive::Endif)),
+        Named(b"XREF", Keyword::Directive(Directive::Xref)),
+        Named(b"UNDEF", Keyword::Directive(Directive::Undef)),
     ],
-    &[Named {
-        text: b"ORG",
-        meaning: Keyword::Directive(Directive::Org),
-    }],
-    &[Named {
-        text: b"HIGH",
-        meaning: Keyword::Instruction(HIGH),
-    }],
-    &[Named {
-        text: b"I",
-        meaning: Keyword::Special(Special::Index),
-    }],
+    &[Named(b"ORG", Keyword::Directive(Directive::Org))],
+    &[Named(b"HIGH", Keyword::Instruction(HIGH))],
+    &[Named(b"I", Keyword::Special(Special::Index))],
     &[],
-    &[Named {
-        text: b"K",
-        meaning: Keyword::Special(Special::Key),
-    }],
+    &[Named(b"K", Keyword::Special(Special::Key))],
     &[
-        Named {
-            text: b"CALL",
-            meaning: Keyword::Instruction(CALL),
-        },
-        Named {
-            text: b"SHL",
-            meaning: Keyword::Instruction(SHL),
-        },
-        Named {
-            text: b"SCL",
-            meaning: Keyword::Instruction(SCL),
-        },
+        Named(b"CALL", Keyword::Instruction(CALL)),
+        Named(b"SHL", Keyword::Instruction(SHL)),
+        Named(b"SCL", Keyword::Instruction(SCL)),
     ],
     &[],
     &[
-        Named {
-            text: b"SUBN",
-            meaning: Keyword::Instruction(SUBN),
-        },
-        Named {
-            text: b"ALIGN",
-            meaning: Keyword::Directive(Directive::Align),
-        },
-        Named {
-            text: b"OPTION",
-            meaning: Keyword::Directive(Directive::Options),
-        },
+        Named(b"SUBN", Keyword::Instruction(SUBN)),
+        Named(b"ALIGN", Keyword::Directive(Directive::Align)),
+        Named(b"OPTION", Keyword::Directive(Directive::Options)),
     ],
     &[],
     &[
-        Named {
-            text: b"JP",
-            meaning: Keyword::Instruction(JP),
-        },
-        Named {
-            text: b"SKP",
-            meaning: Keyword::Instruction(SKP),
-        },
-        Named {
-            text: b"SKNP",
-            meaning: Keyword::Instruction(SKNP),
-        },
+        Named(b"JP", Keyword::Instruction(JP)),
+        Named(b"SKP", Keyword::Instruction(SKP)),
+        Named(b"SKNP", Keyword::Instruction(SKNP)),
     ],
     &[],
     &[
-        Named {
-            text: b"OR",
-            meaning: Keyword::Instruction(OR),
-        },
-        Named {
-            text: b"XOR",
-            meaning: Keyword::Instruction(XOR),
-        },
-        Named {
-            text: b"SHR",
-            meaning: Keyword::Instruction(SHR),
-        },
-        Named {
-            text: b"SCR",
-            meaning: Keyword::Instruction(SCR),
-        },
-        Named {
-            text: b"R",
-            meaning: Keyword::Special(Special::Flags),
-        },
+        Named(b"OR", Keyword::Instruction(OR)),
+        Named(b"XOR", Keyword::Instruction(XOR)),
+        Named(b"SHR", Keyword::Instruction(SHR)),
+        Named(b"SCR", Keyword::Instruction(SCR)),
+        Named(b"R", Keyword::Special(Special::Flags)),
     ],
     &[
-        Named {
-            text: b"CLS",
-            meaning: Keyword::Instruction(CLS),
-        },
-        Named {
-            text: b"SYS",
-            meaning: Keyword::Instruction(SYS),
-        },
-        Named {
-            text: b"DS",
-            meaning: Keyword::Directive(Directive::Ds),
-        },
+        Named(b"CLS", Keyword::Instruction(CLS)),
+        Named(b"SYS", Keyword::Instruction(SYS)),
+        Named(b"DS", Keyword::Directive(Directive::Ds)),
     ],
     &[
-        Named {
-            text: b"RET",
-            meaning: Keyword::Instruction(RET),
-        },
-        Named {
-            text: b"EXIT",
-            meaning: Keyword::Instruction(EXIT),
-        },
-        Named {
-            text: b"DT",
-            meaning: Keyword::Special(Special::DelayTimer),
-        },
-        Named {
-            text: b"ST",
-            meaning: Keyword::Special(Special::SoundTimer),
-        },
+        Named(b"RET", Keyword::Instruction(RET)),
+        Named(b"EXIT", Keyword::Instruction(EXIT)),
+        Named(b"DT", Keyword::Special(Special::DelayTimer)),
+        Named(b"ST", Keyword::Special(Special::SoundTimer)),
     ],
-    &[Named {
-        text: b"EQU",
-        meaning: Keyword::Directive(Directive::Equ),
-    }],
+    &[Named(b"EQU", Keyword::Directive(Directive::Equ))],
     &[],
     &[
-        Named {
-            text: b"DRW",
-            meaning: Keyword::Instruction(DRW),
-        },
-        Named {
-            text: b"LOW",
-            meaning: Keyword::Instruction(LOW),
-        },
-        Named {
-            text: b"DW",
-            meaning: Keyword::Directive(Directive::Dw),
-        },
+        Named(b"DRW", Keyword::Instruction(DRW)),
+        Named(b"LOW", Keyword::Instruction(LOW)),
+        Named(b"DW", Keyword::Directive(Directive::Dw)),
     ],
 ];
 
 /// The words that end in a byte, where `words` has all by their last letters from A on. A byte below
 /// `A`, which ends none, is taken for `A`.
+#[tactic(auto, using(crate::proofs::Keywords::rows_at))]
 fn words_ending_in(last: u8, words: &[&'static [Named]]) -> &'static [Named]
     ensures { map row_of result.now
         ≡ rows_ending_in last (map (λ group. map row_of group.now) words.now) }
 {
-    let index = usize::from(last.saturating_sub(b'A'));
-    if index < words.len() {
-        words[index]
-    } else {
-        &[]
+    match words.get(usize::from(last.saturating_sub(b'A'))) {
+        Some(words) => words,
+        None => &[],
     }
 }
 
@@ -291,9 +131,9 @@ fn words_ending_in(last: u8, words: &[&'static [Named]]) -> &'static [Named]
 fn find_in(rows: &[Named], word: &[u8]) -> Option<Keyword>
     ensures { option_map meaning_of result ≡ find_word (map row_of rows.now) word.now }
 {
-    for row in rows {
-        if row.text == word {
-            return Some(row.meaning);
+    for Named(text, meaning) in rows {
+        if *text == word {
+            return Some(*meaning);
         }
     }
     None

@@ -26,6 +26,7 @@ ghost use Rattle.chip_lang.specs.Code.{code_of};
 ghost use Rattle.chip_lang.specs.Uses.{names_in, names_used, has_same_value, agree_on};
 
 /// Tokens are at most one expression, and it is computed.
+#[tactic(auto, using(crate::proofs::Complete::expression_laws))]
 pub fn one_expression()
     ensures one { (ts : List Lexeme) (a b : Tree) → IsExpression ts a → IsExpression ts b → a ≡ b }
     ensures found { (ts : List Lexeme) (e : Tree) → expression_of ts ≡ Some e → IsExpression ts e }
@@ -38,6 +39,7 @@ pub fn worked_examples()
 {}
 
 /// Each line has one token list, and it is computed.
+#[tactic(auto, using(crate::proofs::TokenList::token_laws))]
 pub fn one_token_list()
     ensures is { (line : List ℕ) → AreTokens line 0 (tokens_of line) }
     ensures only { (line : List ℕ) (ts : List Token) → AreTokens line 0 ts → ts ≡ tokens_of line }
@@ -51,6 +53,7 @@ pub fn tokens_lie_in_line()
 
 /// Where two tables agree on the names of an expression, it has one value under both; where they
 /// agree on the names that a line uses, it has one code.
+#[tactic(auto, using(crate::proofs::SameCode::same_laws))]
 pub fn same_code()
     ensures value { (e : Tree) (S T : Symbols) → list_all (has_same_value S T) (names_in e) ≡ true
         → value e S ≡ value e T }
@@ -60,6 +63,7 @@ pub fn same_code()
 
 /// Where an expression has a value, it keeps it when names are added to the table: where each name
 /// with a value keeps that value.
+#[tactic(auto, using(crate::proofs::KeptValue::kept_value))]
 pub fn kept_value()
     ensures { (e : Tree) (S T : Symbols) (v : ℤ)
         → ((n : List ℕ) (w : ℤ) → value_of_name S n ≡ Some w → value_of_name T n ≡ Some w)
@@ -68,11 +72,13 @@ pub fn kept_value()
 
 /// The names that a line uses, repeated ones counted again, are at most half its bytes: a line of
 /// 200 bytes uses at most 100.
+#[tactic(auto, using(crate::proofs::NamesBound::names_bound))]
 pub fn names_bound()
     ensures { (line : List ℕ) → 2 * length (names_used (reading_of line)) ≤ length line }
 {}
 
 /// At most one source form fits a name and operands.
+#[tactic(auto, using(crate::proofs::OneForm::one_form))]
 pub fn one_form()
     ensures { (name : List ℕ) (operands : List Operand)
         → length (filter (λ form. fits form name operands) forms) ≤ 1 }
@@ -88,6 +94,7 @@ pub fn shown_form()
 {}
 
 /// Each instruction has one word: two words that decode to it are the same.
+#[tactic(auto, using(crate::proofs::OneWord::one_word))]
 pub fn one_word()
     ensures { (v w : ℕ) (instr : Instr) → decode_of v ≡ Some instr → decode_of w ≡ Some instr
         → v ≡ w }
@@ -96,6 +103,7 @@ pub fn one_word()
 /// The source forms and `decode` agree: a word is shown in a form just where it decodes; and the
 /// word of a statement with a form but SYS decodes to an instruction of that form, so that of an
 /// instruction's line.
+#[tactic(auto, using(crate::proofs::FormedLine::form_laws))]
 pub fn forms_and_decode()
     ensures shown { (w : ℕ) → is_some (form_shown w) ≡ is_some (decode_of w) }
     ensures said { (name : List ℕ) (operands : List Operand) (symbols : Symbols) (form : Row)

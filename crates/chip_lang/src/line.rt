@@ -208,6 +208,7 @@ fn begins_with_no_word(statement: &[Lexeme]) -> bool
 
 /// Whether a statement begins with a word that is not a directive, of which `front` tells, nor an
 /// instruction, whose forms there would be.
+#[tactic(auto, using(crate::proofs::NamedForms::unknown_word))]
 fn begins_with_unknown_word(front: Option<Directive>, forms: &[Form], statement: &[Lexeme]) -> bool
     requires word { begins_with_no_word statement.now ≡ false }
     requires front { front ≡ front_directive statement.now }

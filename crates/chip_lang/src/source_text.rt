@@ -48,6 +48,7 @@ pub fn show(alloc: Global, word: u16) -> Result<String, AllocError>
 
 /// Adds the source text of a word, as `show` gives it. Err where memory ran out; a part of the text
 /// may be added then.
+#[tactic(auto, using(crate::proofs::ShownForm::text_by_digits), unfolding(crate::specs::inner::ByDigits::form_with))]
 pub fn push_shown(text: &mut Vec<u8>, word: u16) -> Result<(), AllocError>
     ensures text { OnOk result (text.new.items ≡ text.old.items ++ show_of word) }
 {
@@ -268,6 +269,7 @@ fn register_digit(digit: u16) -> u8
 
 /// A byte in two hexadecimal digits, in lower case.
 #[inline(always)]
+#[tactic(auto, using(crate::proofs::ShownDigits::digit_pair))]
 pub fn byte_digits(byte: u8) -> [u8; 2]
     ensures { result ≡ two_hex_digits byte }
 {
@@ -277,6 +279,7 @@ pub fn byte_digits(byte: u8) -> [u8; 2]
 
 /// A number of 16 bits in four hexadecimal digits, in lower case.
 #[inline(always)]
+#[tactic(auto, using(crate::proofs::ShownDigits::four_digits))]
 pub fn word_digits(word: u16) -> [u8; 4]
     ensures { result ≡ four_hex_digits word }
 {

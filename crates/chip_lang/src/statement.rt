@@ -89,25 +89,24 @@ fn directive_body(
 ) -> Result<Option<Body>, AllocError>
     ensures { IfOk result (λ body. seen_statement body ≡ directive_body directive tokens.now) }
 {
-    let body = match directive {
-        Directive::Org => parse_expression(alloc, tokens)?.map(Body::Org),
-        Directive::Ds => parse_expression(alloc, tokens)?.map(Body::Ds),
-        Directive::Db => values_of(alloc, tokens)?.map(Body::Db),
-        Directive::Dw => values_of(alloc, tokens)?.map(Body::Dw),
-        Directive::Da => one_text(alloc, tokens)?.map(Body::Da),
-        Directive::Align => one_switch(tokens).map(Body::Align),
-        Directive::Ifdef => one_name(alloc, tokens)?.map(Body::Ifdef),
-        Directive::Ifund => one_name(alloc, tokens)?.map(Body::Ifund),
-        Directive::Define => one_name(alloc, tokens)?.map(|_| Body::Define),
-        Directive::Else => tokens.is_empty().then_some(Body::Else),
-        Directive::Endif => tokens.is_empty().then_some(Body::Endif),
-        Directive::End => tokens.is_empty().then_some(Body::End),
-        Directive::Options => Some(Body::Options),
-        Directive::Used => Some(Body::Used),
-        Directive::Xref => Some(Body::Xref),
-        Directive::Equ | Directive::Include | Directive::Undef => None,
-    };
-    Ok(body)
+    match directive {
+        Directive::Org => Ok(parse_expression(alloc, tokens)?.map(Body::Org)),
+        Directive::Ds => Ok(parse_expression(alloc, tokens)?.map(Body::Ds)),
+        Directive::Db => Ok(values_of(alloc, tokens)?.map(Body::Db)),
+        Directive::Dw => Ok(values_of(alloc, tokens)?.map(Body::Dw)),
+        Directive::Da => Ok(one_text(alloc, tokens)?.map(Body::Da)),
+        Directive::Align => Ok(one_switch(tokens).map(Body::Align)),
+        Directive::Ifdef => Ok(one_name(alloc, tokens)?.map(Body::Ifdef)),
+        Directive::Ifund => Ok(one_name(alloc, tokens)?.map(Body::Ifund)),
+        Directive::Define => Ok(one_name(alloc, tokens)?.map(|_| Body::Define)),
+        Directive::Else => Ok(tokens.is_empty().then_some(Body::Else)),
+        Directive::Endif => Ok(tokens.is_empty().then_some(Body::Endif)),
+        Directive::End => Ok(tokens.is_empty().then_some(Body::End)),
+        Directive::Options => Ok(Some(Body::Options)),
+        Directive::Used => Ok(Some(Body::Used)),
+        Directive::Xref => Ok(Some(Body::Xref)),
+        Directive::Equ | Directive::Include | Directive::Undef => Ok(None),
+    }
 }
 
 /// The bytes of one text.

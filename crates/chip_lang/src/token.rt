@@ -137,6 +137,7 @@ fn is_digit_of(base: u32, byte: u8) -> bool
 }
 
 /// The number that begins with `start` and goes on with these digits.
+#[tactic(auto, using(std::proofs::lemmas::List::Sums::fold_more))]
 fn number(base: u32, start: u32, digits: &[u8]) -> Kind
     requires low { 0 < base }
     requires high { base ≤ 16 }
@@ -185,6 +186,7 @@ fn digits_of_run(base: u32, run: &[u8]) -> Kind
 }
 
 /// How many name bytes stand at the front.
+#[tactic(auto, using(crate::proofs::Scan::prefix_steps))]
 fn name_length(bytes: &[u8]) -> usize
     ensures within { result ≤ length bytes.now }
     ensures value { result ≡ prefix_len is_name_byte bytes.now }
@@ -206,6 +208,7 @@ fn name_run(bytes: &[u8]) -> &[u8]
 }
 
 /// How many name bytes and full stops stand at the front.
+#[tactic(auto, using(crate::proofs::Scan::prefix_steps))]
 fn run_length(bytes: &[u8]) -> usize
     ensures { result ≡ prefix_len is_run_byte bytes.now }
 {
@@ -218,6 +221,7 @@ fn run_length(bytes: &[u8]) -> usize
 }
 
 /// How many bytes stand before the next quote.
+#[tactic(auto, using(crate::proofs::Scan::prefix_steps))]
 fn text_length(quote: u8, bytes: &[u8]) -> usize
     ensures within { result ≤ length bytes.now }
     ensures value { result ≡ prefix_len (λ b. not (b == quote)) bytes.now }
@@ -279,6 +283,7 @@ fn token_at(first: u8, bytes: &[u8]) -> (Kind, usize)
 
 /// The first token that stands at a place or after it; none where only blanks or a comment follow.
 #[inline(always)]
+#[tactic(auto, using(crate::proofs::Scan::token_steps))]
 pub(crate) fn token_from(line: &[u8], from: usize) -> Option<Token>
     requires { from ≤ length line.now }
     ensures rest { tokens_from from 0 (drop from line.now) ≡ with_rest line.now result }

@@ -20,21 +20,13 @@ level_or_8 (Some sign) = level_of sign
 
 -- the level of the operator at the front, and 8 where there is none
 abbrev pub front_level : List Lexeme → ℕ
-front_level [] = 8
-front_level (Word w ∷ ts) = 8
-front_level (Number z ∷ ts) = 8
-front_level (Text bs ∷ ts) = 8
-front_level (Bad f ∷ ts) = 8
 front_level (Sign c ∷ ts) = level_or_8 (operator_of c)
+front_level ts = 8
 
 -- the sign before an operand at the front
 abbrev pub front_prefix : List Lexeme → Option Prefix
-front_prefix [] = None
-front_prefix (Word w ∷ ts) = None
-front_prefix (Number z ∷ ts) = None
-front_prefix (Text bs ∷ ts) = None
-front_prefix (Bad f ∷ ts) = None
 front_prefix (Sign c ∷ ts) = prefix_of c
+front_prefix ts = None
 
 -- the operator at the front, if it has this level
 abbrev pub if_level : Option Operator → ℕ → Option Operator
@@ -42,12 +34,8 @@ if_level None l = None
 if_level (Some sign) l = if level_of sign == l then Some sign else None
 
 abbrev pub front_operator : List Lexeme → ℕ → Option Operator
-front_operator [] l = None
-front_operator (Word w ∷ ts) l = None
-front_operator (Number z ∷ ts) l = None
-front_operator (Text bs ∷ ts) l = None
-front_operator (Bad f ∷ ts) l = None
 front_operator (Sign c ∷ ts) l = if_level (operator_of c) l
+front_operator ts l = None
 
 -- the level that binds one more strongly
 abbrev pub below : ℕ → ℕ
@@ -66,12 +54,8 @@ on_found (Some x) go = go x.0 x.1
 
 -- a closing parenthesis after an expression
 abbrev pub closed : Tree → List Lexeme → Parsed
-closed e [] = None
-closed e (Word w ∷ ts) = None
-closed e (Number z ∷ ts) = None
-closed e (Text bs ∷ ts) = None
-closed e (Bad f ∷ ts) = None
 closed e (Sign c ∷ ts) = if c == 41 then Some (e, ts) else None
+closed e ts = None
 
 -- a text of one byte
 abbrev pub one_byte : List ℕ → List Lexeme → Parsed

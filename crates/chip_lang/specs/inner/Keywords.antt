@@ -29,7 +29,7 @@ meaning_in (Some k) = meaning_of k
 
 -- a row of a table of words without where it lies in memory
 abbrev pub row_of : Named → List ℕ × Meaning
-row_of row = (row.text.now, meaning_of row.meaning)
+row_of row = (row.0.now, meaning_of row.1)
 
 -- what a word means by the tables of the language
 abbrev pub meaning : List ℕ → Meaning

@@ -3,5 +3,5 @@ use Rattle.chip_lang.specs.Named.{find_word}
 use Rattle.chip_lang.specs.inner.Keywords.{row_of}
 use Rattle.chip_lang.proofs.keyword.find_in.Given as goal
 
-abbrev pub invariant-loop-row : goal.invariant-loop-row
-invariant-loop-row l = find_word (map row_of (drop l.row-index l.rows)) l.word ≡ find_word (map row_of l.rows) l.word
+abbrev pub invariant-loop-text : goal.invariant-loop-text
+invariant-loop-text l = find_word (map row_of (drop l.text-index l.rows)) l.word ≡ find_word (map row_of l.rows) l.word
