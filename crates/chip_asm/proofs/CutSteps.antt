@@ -1,11 +1,11 @@
 -- Bytes cut into lines, one line after another.
-use Rattle.std.proofs.Common.{◌≡◌, ℕ, suc, zero, ◌+◌, ◌<◌, ◌≤◌, ◌==◌, Bool, true, false, cond, ltb, List, [], ◌∷◌, ◌++◌, length, drop, take, ◌-◌, refl, ap, sym, ◌∙◌, arith, Some, None, length-append, ne_eqb}
+use Rattle.std.proofs.Common.{◌≡◌, ℕ, suc, ◌+◌, ◌<◌, ◌≤◌, ◌==◌, Bool, true, false, cond, ltb, List, [], ◌∷◌, ◌++◌, length, drop, take, ◌-◌, refl, ap, sym, ◌∙◌, arith, Some, None, length-append, ne_eqb}
 use Rattle.std.specs.List.{slice_split, onto_first, position_or_len, before_first, after_first, All}
 use Rattle.std.specs.Str.Lines.{lines_of_parts, strip_carriage_return}
 use Rattle.std.proofs.lemmas.Bool.{eqb-true}
 use Rattle.std.proofs.lemmas.Bool.Decides.{nat_tests}
-use Rattle.std.proofs.lemmas.List.Elements.{All-from_get_or, All-push}
-use Rattle.std.proofs.lemmas.List.{drop-drop}
+use Rattle.std.proofs.lemmas.List.Elements.{All-from_get_or, All-tail}
+use Rattle.std.proofs.lemmas.List.{append-nil, drop_all, drop-drop}
 use Rattle.std.proofs.lemmas.List.Splits.{slice_split_first, slice_split_none}
 use Rattle.std.proofs.lemmas.List.Sums.{fails_before_first}
 use Rattle.chip_asm.specs.declared.limits.TheConstants.{LINE_BYTES, MOST_LINES}
@@ -38,12 +38,6 @@ cut-found bytes h =
     ap lines_of_parts (slice_split_first is_newline bytes 0 h ∙ ap (λ parts. before_first is_newline bytes ∷ parts) f.is)
     ∙ ap (λ parts. strip_carriage_return (before_first is_newline bytes) ∷ lines_of_parts parts) (sym f.is)
 
-drop-past : (xs : List ℕ) (n : ℕ) → length xs ≤ n → drop n xs ≡ []
-drop-past [] zero h = refl
-drop-past [] (suc n) h = refl
-drop-past (x ∷ xs) zero h = absurd (omega arith)
-drop-past (x ∷ xs) (suc n) h = drop-past xs n (omega arith)
-
 not-empty : (bytes : List ℕ) → 0 < length bytes → cond (length bytes == 0) [] (bytes ∷ []) ≡ bytes ∷ []
 not-empty [] h = absurd (omega arith)
 not-empty (x ∷ xs) h = let e : (length (x ∷ xs) == 0) ≡ false = ne_eqb (length (x ∷ xs)) 0 (λ k. omega arith) in rw e refl
@@ -52,7 +46,7 @@ cut-last : (bytes : List ℕ) → 0 < length bytes → length bytes ≤ position
 cut-last bytes some h =
     let none : All (λ b. is_newline b ≡ false) bytes = All-from_get_or (λ b. is_newline b ≡ false) bytes 0 (λ i inside. fails_before_first is_newline bytes i 0 (omega arith)) in
     ap lines_of_parts (slice_split_none is_newline bytes none) ∙ not-empty bytes some
-    ∙ ap (λ xs. bytes ∷ lines_of xs) (sym (drop-past bytes (position_or_len is_newline bytes + 1) (omega arith)))
+    ∙ ap (λ xs. bytes ∷ lines_of xs) (sym (drop_all (position_or_len is_newline bytes + 1) bytes (omega arith)))
 
 -- the first line, and then the lines of what follows it
 pub lines-next : (bytes : List ℕ) → 0 < length bytes → lines_of bytes ≡ first_text bytes ∷ lines_of (after_first is_newline bytes)
@@ -66,26 +60,17 @@ lines-next bytes some = by (ltb (position_or_len is_newline bytes) (length bytes
 abbrev pub AllShort : List (List ℕ) → Type 0
 AllShort texts = All (λ t. is_long t ≡ false) texts
 
-rest-short : (x : List ℕ) (xs : List (List ℕ)) → AllShort (x ∷ xs) → AllShort xs
-rest-short x xs h = λ k d lt. h (suc k) d (omega arith)
-
 short-before : (xs ys : List (List ℕ)) → AllShort xs → position_or_len is_long (xs ++ ys) ≡ length xs + position_or_len is_long ys
 short-before [] ys h = let e : position_or_len is_long ys ≡ 0 + position_or_len is_long ys = omega arith in e
 short-before (x ∷ xs) ys h =
     let first : is_long x ≡ false = h 0 x (omega arith) in
-    rw first (let k = short-before xs ys (rest-short x xs h) in omega arith)
+    rw first (let k = short-before xs ys (All-tail (λ t. is_long t ≡ false) x xs h) in omega arith)
 
 pub opens : (source : List ℕ) (texts : List (List ℕ)) → texts ≡ lines_of source → AllShort texts → length texts ≤ MOST_LINES → open_fault source ≡ None
 opens source texts e short few =
-    let none : position_or_len is_long texts ≡ length texts = whole texts short in
+    let none : position_or_len is_long texts ≡ length texts = ap (position_or_len is_long) (sym (append-nil texts)) ∙ short-before texts [] short ∙ (let all : length texts + 0 ≡ length texts = omega arith in all) in
     rw (← e, none) (by (length texts) few)
   where
-    whole : (xs : List (List ℕ)) → AllShort xs → position_or_len is_long xs ≡ length xs
-    whole [] h = refl
-    whole (x ∷ xs) h =
-        let first : is_long x ≡ false = h 0 x (omega arith) in
-        rw first (let k = whole xs (rest-short x xs h) in omega arith)
-
     by : (n : ℕ) → n ≤ MOST_LINES → fault_of_lines n n ≡ None
     by n h = grind (arith, nat_tests)
 
@@ -118,9 +103,6 @@ long-is t h = grind (arith, nat_tests)
 
 pub short-is : (t : List ℕ) → length t ≤ LINE_BYTES → is_long t ≡ false
 short-is t h = grind (arith, nat_tests)
-
-pub short-push : (texts : List (List ℕ)) (t : List ℕ) → AllShort texts → is_long t ≡ false → AllShort (texts ++ t ∷ [])
-short-push texts t h s = All-push (λ x. is_long x ≡ false) texts t h s
 
 -- a text at the front of what is left of some bytes is a part of them
 pub part-of : (text rest bytes : List ℕ) → StartsWith rest text → IsBack rest bytes → text ≡ part_from bytes (length bytes - length rest) (length text)

@@ -1,5 +1,5 @@
 -- The names, the image and the faults of a source, by place.
-use Rattle.std.proofs.Common.{◌≡◌, ℕ, ◌+◌, ◌-◌, ◌<◌, ◌≤◌, ◌⊎◌, ◌&&◌, ◌==◌, leb, ltb, List, [], ◌∷◌, map, reverse, length, get_or, slice_get, refl, ap, sym, ◌∙◌, arith, Bool, Option, Some, None, true, false, cond, is_some}
+use Rattle.std.proofs.Common.{◌≡◌, ℕ, ◌+◌, ◌-◌, ◌<◌, ◌==◌, List, [], ◌∷◌, map, reverse, length, get_or, slice_get, refl, ap, sym, ◌∙◌, arith, Bool, Option, Some, None, true, false, cond, is_some}
 use Rattle.std.specs.List.{range_with_len}
 use Rattle.std.proofs.lemmas.Bool.{false_from_ne_true}
 use Rattle.std.proofs.lemmas.Bool.Decides.{nat_tests}
@@ -16,8 +16,7 @@ use Rattle.chip_asm.specs.Program.{byte_at, bytes_of_lines, code_under, fault_of
 use Rattle.chip_asm.specs.computed.Walk.{address, placed, symbols}
 use Rattle.chip_asm.specs.inner.Placements.{final_placement}
 use Rattle.chip_asm.proofs.Resumed.{end-low}
-use Rattle.chip_asm.proofs.PassSteps.{covering}
-use Rattle.chip_asm.proofs.LinesApart.{ends-by}
+use Rattle.chip_asm.proofs.LinesApart.{covering, ends-by, outside}
 use Rattle.chip_asm.proofs.LinesByPlace.{at-line, byte-line, byte-outside, low}
 use Rattle.chip_asm.proofs.PlacesAgree.{address-of, only, unclosed}
 
@@ -28,9 +27,6 @@ names-given lines all a = ap names_given (sym (only lines all a))
 unfaulty : (faults : List (ℕ × Fault)) (made bytes : List ℕ) → unless_faulty faults made ≡ Some bytes → bytes ≡ made
 unfaulty [] made bytes e = same_Some bytes made (sym e)
 unfaulty (f ∷ fs) made bytes e = cc
-
-outside : (here size at : ℕ) → (at < here) ⊎ (here + size ≤ at) → (leb here at && ltb at (here + size)) ≡ false
-outside here size at h = grind (arith, nat_tests)
 
 image-made : (lines : List Reading) → IsImage (reverse (placed lines)) (bytes_of_lines (placed lines))
 unfolding symbols

@@ -1,6 +1,6 @@
 -- What is kept of a source as a whole, before and after an edit.
-use Rattle.std.proofs.Common.{◌≡◌, ℕ, zero, suc, ◌+◌, ◌<◌, ◌≤◌, List, [], ◌∷◌, ◌++◌, reverse, length, take, drop, set, get_or, fold, refl, ap, sym, subst, ◌∙◌, arith, append_assoc, ◌-◌, Bool, true, false, cond, ◌&&◌, ltb, leb, map, find, Option, Some, None, replicate, sum_by, length-append, vec_len, slice_get, inl, inr, vec_capacity, All, length-set, eq-eqb, insert, remove}
-use Rattle.std.proofs.lemmas.List.{length-reverse, length-take, reverse-append, get_or_append_left, get_or-append_right, get_or_past, get_or-replicate, length-replicate, take_all, length-map, take-map, get_or-set_same, map-set, get_or_default, get_or-set_other, drop-map, map-append}
+use Rattle.std.proofs.Common.{◌≡◌, ℕ, zero, suc, ◌+◌, ◌<◌, ◌≤◌, List, [], ◌∷◌, ◌++◌, reverse, length, take, drop, set, get_or, fold, refl, ap, sym, subst, ◌∙◌, arith, append_assoc, ◌-◌, Bool, true, false, cond, ◌&&◌, map, find, Option, Some, None, replicate, sum_by, length-append, vec_len, slice_get, inl, inr, vec_capacity, All, length-set, eq-eqb, insert, remove}
+use Rattle.std.proofs.lemmas.List.{length-reverse, length-take, set-get_or, reverse-append, get_or_append_left, get_or-append_right, get_or_past, get_or-replicate, length-replicate, take_all, length-map, take-map, get_or-set_same, map-set, get_or_default, get_or-set_other, drop-map, map-append}
 use Rattle.std.proofs.Math.Seq.{get_or-append_seam, map-set_same, set-append_seam}
 use Rattle.chip_lang.specs.Line.{Reading, reading_of}
 use Rattle.chip_asm.specs.inner.Infos.{AreAlike, AreInfos, IsInfo, AreSteady, is_steady, has_code}
@@ -14,13 +14,13 @@ use Rattle.std.specs.Option.{option_map_or}
 use Rattle.std.proofs.lemmas.Bool.Decides.{nat_tests}
 use Rattle.chip_asm.specs.inner.Placements.{placements_of, final_placement, IsLayoutOf, IsCounted, first_placements, AreCodesNoted, count_of, found, Found, is_accepted, is_accepted_found, nothing, status_coded, placement_of}
 use Rattle.chip_asm.specs.Program.{names_of_lines, code_under, bytes_in_code, covers, byte_at, code_with, fault_in_code}
-use Rattle.std.proofs.lemmas.List.Elements.{All-nil, All-append, All-cons, All-drop, All-get_or, All-head, All-set, All-tail, All-take}
+use Rattle.std.proofs.lemmas.List.Elements.{All-nil, All-push, All-append, All-cons, All-drop, All-head, All-set, All-tail, All-take}
 use Rattle.chip_asm.specs.declared.kept.Kept.{Kept}
 use Rattle.chip_asm.specs.declared.limits.TheConstants.{MOST_LINES}
 use Rattle.chip_asm.specs.inner.Codes.{IsImageOf, right_byte, IsWritten, code_kept, covers_byte, is_coded, kept_bytes}
 use Rattle.chip_asm.specs.inner.Kept.{IsKept, lines_kept, IsAssembled, MayEdit, change_of, IsExchanged, lines_then, needed_by, texts_kept}
 use Rattle.chip_asm.specs.inner.KeptLine.{KeptLine}
-use Rattle.chip_asm.specs.inner.Records.{reading_in, readings_in, texts_in, IsPlaceWithin, lines_after, first_changed, count_after, place_before}
+use Rattle.chip_asm.specs.inner.Records.{AllAdded, IsRead, reading_in, readings_in, texts_after, texts_in, IsPlaceWithin, lines_after, first_changed, count_after, place_before}
 use Rattle.chip_symbols.specs.Tables.{Extends, AreOver, AreUpTo}
 use Rattle.chip_asm.proofs.InfoSteps.{infos-extend}
 use Rattle.std.specs.Global.{Vec}
@@ -33,8 +33,9 @@ use Rattle.chip_asm.specs.declared.placement.Placement.{Placement}
 use Rattle.chip_asm.specs.declared.placement.Status.TheVariants.{Pending, Skipped}
 use Rattle.chip_symbols.specs.declared.table.Symbol.{Symbol}
 use Rattle.chip_symbols.specs.Names.{Name, values_of}
-use Rattle.chip_asm.specs.Work.{is_accepted_at, lines_to_encode, is_accepted_in, needs_count}
+use Rattle.chip_asm.specs.Work.{is_accepted_at, is_accepted_in, needs_count}
 use Rattle.chip_asm.specs.inner.Passes.{HasCode, IsHeld, IsSlot, is_byte_of, placed_at}
+use Rattle.chip_asm.proofs.LinesApart.{covered-parts, outside}
 use Rattle.chip_asm.proofs.LinesByPlace.{AtPlace, accepted-at, at-line, at-place, at-place-of, byte-line, byte-nowhere, ends-before, found-there, here-at, high, low, none-pending, covers-accepted, covered, set-here, set-other}
 use Rattle.chip_asm.proofs.LinesAfter.{Edited, edited-lines, edited-map, same-front, shorter}
 use Rattle.chip_asm.specs.Edits.{insert_refusal, before_replace}
@@ -46,12 +47,7 @@ use Rattle.std.specs.Prelude.{min}
 
 -- each of these stands at an address or past it
 abbrev pub AreAbove : ℕ → List Placed → Type 0
-AreAbove low [] = Unit {0}
-AreAbove low (p ∷ ps) = (low ≤ p.here) × AreAbove low ps
-
-above-push : (low : ℕ) (ps : List Placed) (p : Placed) → AreAbove low ps → low ≤ p.here → AreAbove low (ps ++ p ∷ [])
-above-push low [] p a h = (h, tt)
-above-push low (q ∷ ps) p a h = (a.0, above-push low ps p a.1 h)
+AreAbove low ps = All (λ p. low ≤ p.here) ps
 
 -- lines that follow two lists which are the same for them
 record Later (xs ys : List Placed) (lines : List Reading) (low : ℕ) : Type 0 where
@@ -62,7 +58,7 @@ record Later (xs ys : List Placed) (lines : List Reading) (low : ℕ) : Type 0 w
   above : AreAbove low later
 
 later : (xs ys : List Placed) (lines : List Reading) (low : ℕ) → Same xs ys → low ≤ address xs → Later xs ys lines low
-later xs ys [] low s h = record { later = []; of_first = refl; of_second = refl; same = s; above = tt }
+later xs ys [] low s h = record { later = []; of_first = refl; of_second = refl; same = s; above = All-nil (λ (p : Placed). low ≤ p.here) }
 later xs ys (line ∷ lines) low s h =
     let p : Placed = place xs line in
     let past = passes xs line in
@@ -73,18 +69,16 @@ later xs ys (line ∷ lines) low s h =
       of_first = r.of_first ∙ sym (append_assoc r.later (place xs line ∷ []) xs);
       of_second = ap (λ q. fold onto (q ∷ ys) lines) (sym (place-same xs ys line s)) ∙ r.of_second ∙ sym (append_assoc r.later (place xs line ∷ []) ys);
       same = rw (append_assoc r.later (place xs line ∷ []) xs, append_assoc r.later (place xs line ∷ []) ys) r.same;
-      above = above-push low r.later (place xs line) r.above (omega arith);
+      above = All-push (λ (p : Placed). low ≤ p.here) r.later (place xs line) r.above (omega arith);
     }
-
-split-at : (lines : List Reading) (at : ℕ) (old : Reading) → at < length lines → get_or lines at old ≡ old → lines ≡ take at lines ++ old ∷ drop (suc at) lines
-split-at [] at old h e = absurd (omega arith)
-split-at (l ∷ lines) zero old h e = ap (λ x. x ∷ lines) e
-split-at (l ∷ lines) (suc at) old h e = ap (λ x. l ∷ x) (split-at lines at old (omega arith) e)
 
 split-set : (lines : List Reading) (at : ℕ) (new : Reading) → at < length lines → set lines at new ≡ take at lines ++ new ∷ drop (suc at) lines
 split-set [] at new h = absurd (omega arith)
 split-set (l ∷ lines) zero new h = refl
 split-set (l ∷ lines) (suc at) new h = ap (λ x. l ∷ x) (split-set lines at new (omega arith))
+
+split-at : (lines : List Reading) (at : ℕ) (old : Reading) → at < length lines → get_or lines at old ≡ old → lines ≡ take at lines ++ old ∷ drop (suc at) lines
+split-at lines at old h e = sym (set-get_or lines at old) ∙ ap (set lines at) e ∙ split-set lines at old h
 
 placed-split : (front back : List Reading) (line : Reading) → placed (front ++ line ∷ back) ≡ fold onto (place (placed front) line ∷ placed front) back
 unfolding placed
@@ -150,9 +144,6 @@ final-same xs ys p s = rw (s.ended, s.open_ifs) refl
 final-swapped : (xs ys : List Placed) (x : Placed) (new : Reading) → Quiet x → Quiet (with_line x new) → final_placement xs x ≡ final_placement ys (with_line x new)
 final-swapped xs ys x new a b = rw (a.no_if, b.no_if) refl
 
-maps : {Y : Type 0} (f g : Placed → Y) → ((p : Placed) → f p ≡ g p) → (ps : List Placed) → map f ps ≡ map g ps
-maps f g same ps = λ i. map (λ p. same p i) ps
-
 -- the line comes in the place of the other one
 pub line-swapped : (lines : List Reading) (at : ℕ) (new : Reading) (s : Swapped lines at new) → reverse (placed (set lines at new)) ≡ set (reverse (placed lines)) at (with_line s.x new)
 line-swapped lines at new s =
@@ -172,18 +163,15 @@ pub placements-swapped : (lines : List Reading) (at : ℕ) (new : Reading) → S
 unfolding placements_of
 placements-swapped lines at new s =
     ap (map (final_placement (placed (set lines at new)))) (line-swapped lines at new s)
-    ∙ sym (maps (final_placement (placed lines)) (final_placement (placed (set lines at new))) (λ p. final-same (placed lines) (placed (set lines at new)) p (alike lines at new s)) (set (reverse (placed lines)) at (with_line s.x new)))
+    ∙ (λ i. map (λ p. sym (final-same (placed lines) (placed (set lines at new)) p (alike lines at new s)) i) (set (reverse (placed lines)) at (with_line s.x new)))
     ∙ map-set_same (final_placement (placed lines)) (reverse (placed lines)) at (with_line s.x new) s.x
     (sym (final-swapped (placed lines) (placed lines) s.x new (quiet-old s.x new s.alike) (quiet-new s.x new s.alike)) ∙ ap (final_placement (placed lines)) (sym (line-was lines at new s s.x)))
 
 -- bytes
 
-not_reached : (low here size at : ℕ) → low ≤ here → at < low → (leb here at && ltb at (here + size)) ≡ false
-not_reached low here size at h k = grind (arith, nat_tests)
-
 find-past : (later before : List Placed) (y : Placed) (at low : ℕ) → AreAbove low later → at < low → covers at y ≡ true → find (covers at) (later ++ y ∷ before) ≡ Some y
 find-past [] before y at low a h c = rw c refl
-find-past (p ∷ later) before y at low a h c = rw (not_reached low p.here p.size at a.0 h) (find-past later before y at low a.1 h c)
+find-past (p ∷ later) before y at low a h c = rw (outside p.here p.size at (inl (omega (arith, h, All-head (λ (q : Placed). low ≤ q.here) p later a)))) (find-past later before y at low (All-tail (λ (q : Placed). low ≤ q.here) p later a) h c)
 
 find-other : (f g : Placed → ℕ) → ((p : Placed) → f p ≡ g p) → (c : Placed → Bool) (later before : List Placed) (x y : Placed) → c x ≡ false → c y ≡ false
     → option_map_or g (find c (later ++ y ∷ before)) 0 ≡ option_map_or f (find c (later ++ x ∷ before)) 0
@@ -198,9 +186,6 @@ find-other f g same c (p ∷ later) before x y a b = by (c p) (find-other f g sa
         → option_map_or g (cond t (Some p) (find c (later ++ y ∷ before))) 0 ≡ option_map_or f (cond t (Some p) (find c (later ++ x ∷ before))) 0
     by true rest = sym (same p)
     by false rest = rest
-
-below-end : (here size at : ℕ) → (leb here at && ltb at (here + size)) ≡ true → at < here + size
-below-end here size at e = grind (arith, nat_tests, e)
 
 -- the byte of a placed line at an address
 abbrev pub byte_in : List Placed → ℕ → Placed → ℕ
@@ -224,7 +209,7 @@ byte-swapped lines at new s address = by (covers address s.x) refl
     by : (b : Bool) → covers address s.x ≡ b → byte_at (placed (set lines at new)) address ≡ cond b (byte_in (placed (set lines at new)) address (with_line s.x new)) (byte_at (placed lines) address)
     by true e =
         ap (λ o. option_map_or (byte_in (placed (set lines at new)) address) o 0)
-        (ap (find (covers address)) s.now ∙ find-past s.later s.before (with_line s.x new) address (s.x.here + s.x.size) s.above (below-end s.x.here s.x.size address e) e)
+        (ap (find (covers address)) s.now ∙ find-past s.later s.before (with_line s.x new) address (s.x.here + s.x.size) s.above (covered-parts s.x.here s.x.size address e).1 e)
     by false e =
         ap (λ ps. byte_at ps address) s.now
         ∙ find-other (byte_in (s.later ++ s.x ∷ s.before) address) (byte_in (s.later ++ with_line s.x new ∷ s.before) address)
@@ -317,15 +302,67 @@ kept-moved old new k lines placements names end faults settled image =
 pub within-lines : (kept : Kept) (edit : Edit) → MayEdit kept edit → IsPlaceWithin (length kept.lines.items) edit
 within-lines kept edit m = subst (λ n. IsPlaceWithin n edit) kept.lines.ok.0 m.within
 
+-- What holds of each kept line holds after an edit, if it holds of the lines that come.
+
+all-after : (P : KeptLine → Type 0) (lines : List KeptLine) (edit : Edit) → All P lines → AllAdded P edit → All P (lines_after lines edit)
+all-after P lines (Insert at line) all one = All-append P (take at lines) (line ∷ drop at lines) (All-take P at lines all) (All-cons P line (drop at lines) one (All-drop P at lines all))
+all-after P lines (Replace at line) all one = All-set P lines at line one all
+all-after P lines (Delete at) all one = All-append P (take at lines) (drop (suc at) lines) (All-take P at lines all) (All-drop P (suc at) lines all)
+all-after P lines (Open new) all one = one
+
+pub all-read : (lines : List KeptLine) → readings_in lines ≡ map reading_of (texts_in lines) → All IsRead lines
+all-read [] e = All-nil IsRead
+all-read (x ∷ xs) e = All-cons IsRead x xs (cc) (all-read xs (cc))
+
+read-all : (lines : List KeptLine) → All IsRead lines → readings_in lines ≡ map reading_of (texts_in lines)
+read-all [] h = refl
+read-all (x ∷ xs) h = λ j. All-head IsRead x xs h j ∷ read-all xs (All-tail IsRead x xs h) j
+
+read-after : (lines : List KeptLine) (edit : Edit) → readings_in lines ≡ map reading_of (texts_in lines) → AllAdded IsRead edit → readings_in (lines_after lines edit) ≡ map reading_of (texts_in (lines_after lines edit))
+read-after lines edit e one = read-all (lines_after lines edit) (all-after IsRead lines edit (all-read lines e) one)
+
+pub texts-set : (lines : List KeptLine) (at : ℕ) (kept : KeptLine) → texts_in (set lines at kept) ≡ set (texts_in lines) at kept.text
+texts-set lines at kept = map-set (λ (k : KeptLine). k.text) lines at kept
+
+-- What an edit leaves.
+
+-- a line that comes or goes, by what is read of each
+map-insert : {X Y : Type 0} (f : X → Y) (xs : List X) (i : ℕ) (y : X) → map f (insert xs i y) ≡ insert (map f xs) i (f y)
+map-insert f xs i y = map-append f (take i xs) (y ∷ drop i xs) ∙ (λ j. sym (take-map f i xs) j ++ f y ∷ sym (drop-map f i xs) j)
+
+map-remove : {X Y : Type 0} (f : X → Y) (xs : List X) (i : ℕ) → map f (remove xs i) ≡ remove (map f xs) i
+map-remove f xs i = map-append f (take i xs) (drop (suc i) xs) ∙ (λ j. sym (take-map f i xs) j ++ sym (drop-map f (suc i) xs) j)
+
+pub texts-edited : (lines : List KeptLine) (edit : Edit) → texts_in (lines_after lines edit) ≡ texts_after (texts_in lines) edit
+texts-edited lines (Insert at line) = map-insert (λ (k : KeptLine). k.text) lines at line
+texts-edited lines (Replace at line) = texts-set lines at line
+texts-edited lines (Delete at) = map-remove (λ (k : KeptLine). k.text) lines at
+texts-edited lines (Open all) = refl
+
+few-edited : (kept : Kept) (edit : Edit) → MayEdit kept edit → length (lines_after kept.lines.items edit) ≤ MOST_LINES
+few-edited kept edit m = omega (arith, m.few, (edited-lines kept.lines.items edit (within-lines kept edit m)).many, ap (λ n. count_after n edit) kept.lines.ok.0)
+
+all-are-read : (kept : Kept) (edit : Edit) → MayEdit kept edit → lines_then kept edit ≡ map reading_of (texts_in (lines_after kept.lines.items edit))
+all-are-read kept edit m = read-after kept.lines.items edit m.kept.are_read m.are_read
+
+infos-edited : (kept : Kept) (edit : Edit) → MayEdit kept edit → AreInfos kept.names.keys (lines_after kept.lines.items edit)
+infos-edited kept edit m = all-after (λ (line : KeptLine). IsInfo kept.names.keys line.info line.several (reading_in line)) kept.lines.items edit m.kept.infos m.infos
+
+-- what an edit makes encode, seen of the texts
+pub needs-edited : (kept : Kept) (edit : Edit) → MayEdit kept edit → needs_count (lines_kept kept) (lines_then kept edit) (place_before edit) ≡ needed_by kept edit
+needs-edited kept edit m =
+    needs-view (lines_kept kept) (lines_then kept edit) (texts_kept kept) (texts_after (texts_kept kept) edit) (place_before edit) m.kept.are_read
+    (all-are-read kept edit m ∙ ap (map reading_of) (texts-edited kept.lines.items edit))
+
 -- the first lines stay as they are
 pub begun-kept : (kept : Kept) (edit : Edit) (first : ℕ) → MayEdit kept edit → first ≤ first_changed edit → AreSteady kept.lines.items first → Begun kept.lines.items edit first
-begun-kept kept edit first m stays steady = begun kept.names.keys kept.lines.items edit first (within-lines kept edit m) m.infos stays steady
+begun-kept kept edit first m stays steady = begun kept.names.keys kept.lines.items edit first (within-lines kept edit m) (infos-edited kept edit m) stays steady
 
 -- after both passes all is right again
 pub kept-edited : (old new : Kept) (edit : Edit) (first : ℕ) → MayEdit old edit → Begun old.lines.items edit first → new.lines.items ≡ lines_after old.lines.items edit
     → new.settled ≡ first → IsAssembled (change_of old edit) new → IsKept new
 kept-edited old new edit first m b lines settled a =
-    kept-by new (lines_after old.lines.items edit) lines m.few m.are_read (subst (λ (ls : List KeptLine). AreInfos new.names.keys ls) lines a.infos) a.symbols a.laid_out a.image (rw settled b.stay)
+    kept-by new (lines_after old.lines.items edit) lines (few-edited old edit m) (all-are-read old edit m) (subst (λ (ls : List KeptLine). AreInfos new.names.keys ls) lines a.infos) a.symbols a.laid_out a.image (rw settled b.stay)
 
 -- An edit is made in what is kept of each line, and all is ready for the two passes.
 
@@ -460,12 +497,12 @@ exchanged old new edit first here m =
     record {
       now = ap readings_in (sym m.lines);
       change = λ j b origin inside. (read-edited old edit m.may).stood j b origin;
-      few = omega (arith, m.may.few, long);
+      few = omega (arith, few-edited old edit m.may, long);
       inside = omega (arith, b.within, long);
       placed_many = m.placements.many ∙ ap (λ n. count_after n edit) (placed-many old m.may.kept) ∙ sym count;
       image_long = m.image_long;
       spare_long = m.spare_long;
-      infos = rw (m.keys, m.lines) m.may.infos;
+      infos = rw (m.keys, m.lines) (infos-edited old edit m.may);
       keys = m.keys;
       symbols = begun-symbols (lines_kept old) (lines_then old edit) first b.long b.same old.names.symbols new.names.symbols m.may.kept.symbols m.symbols;
       before = m.before ∙ ap values_of m.may.kept.symbols;
@@ -484,42 +521,6 @@ exchanged old new edit first here m =
       gaps = first-gap old new edit first here m;
     }
 
--- What holds of each kept line holds after an edit, if it holds of the lines that come.
-
--- of each line that comes with an edit
-abbrev pub AllAdded : (KeptLine → Type 0) → Edit → Type 0
-AllAdded P (Insert at line) = P line
-AllAdded P (Replace at line) = P line
-AllAdded P (Delete at) = Unit {0}
-AllAdded P (Open all) = All P all.items
-
-pub all-after : (P : KeptLine → Type 0) (lines : List KeptLine) (edit : Edit) → All P lines → AllAdded P edit → All P (lines_after lines edit)
-all-after P lines (Insert at line) all one = All-append P (take at lines) (line ∷ drop at lines) (All-take P at lines all) (All-cons P line (drop at lines) one (All-drop P at lines all))
-all-after P lines (Replace at line) all one = All-set P lines at line one all
-all-after P lines (Delete at) all one = All-append P (take at lines) (drop (suc at) lines) (All-take P at lines all) (All-drop P (suc at) lines all)
-all-after P lines (Open new) all one = one
-
-pub added-has : (P : KeptLine → Type 0) (lines : List KeptLine) (at : ℕ) (added : KeptLine) → at < length lines → All P (set lines at added) → P added
-added-has P lines at added inside all = subst P (get_or-set_same lines at added added inside) (All-get_or P (set lines at added) at added (omega (arith, inside, length-set lines at added)) all)
-
--- each was read from its text
-abbrev pub IsRead : KeptLine → Type 0
-IsRead kept = reading_in kept ≡ reading_of kept.text
-
-pub all-read : (lines : List KeptLine) → readings_in lines ≡ map reading_of (texts_in lines) → All IsRead lines
-all-read [] e = All-nil IsRead
-all-read (x ∷ xs) e = All-cons IsRead x xs (cc) (all-read xs (cc))
-
-pub read-all : (lines : List KeptLine) → All IsRead lines → readings_in lines ≡ map reading_of (texts_in lines)
-read-all [] h = refl
-read-all (x ∷ xs) h = λ j. All-head IsRead x xs h j ∷ read-all xs (All-tail IsRead x xs h) j
-
-pub read-after : (lines : List KeptLine) (edit : Edit) → readings_in lines ≡ map reading_of (texts_in lines) → AllAdded IsRead edit → readings_in (lines_after lines edit) ≡ map reading_of (texts_in (lines_after lines edit))
-read-after lines edit e one = read-all (lines_after lines edit) (all-after IsRead lines edit (all-read lines e) one)
-
-pub texts-set : (lines : List KeptLine) (at : ℕ) (kept : KeptLine) → texts_in (set lines at kept) ≡ set (texts_in lines) at kept.text
-texts-set lines at kept = map-set (λ (k : KeptLine). k.text) lines at kept
-
 pub readings-set : (lines : List KeptLine) (at : ℕ) (added : KeptLine) → readings_in (set lines at added) ≡ set (readings_in lines) at (reading_in added)
 readings-set lines at added = map-set reading_in lines at added
 
@@ -529,27 +530,6 @@ count-texts lines texts e = sym (length-map lines (λ (k : KeptLine). k.text)) �
 -- an insertion that isn't refused has room
 pub has-room : (count number : ℕ) (text : List ℕ) → insert_refusal count number text ≡ None → count < MOST_LINES
 has-room count number text h = grind (arith, nat_tests)
-
--- What an edit of a source asks of the edit of what is kept.
-
-pub may-edit : (kept : Kept) (edit : Edit) → IsKept kept → IsPlaceWithin (vec_len kept.lines) edit → count_after (vec_len kept.lines) edit ≤ MOST_LINES → AllAdded IsRead edit
-    → AllAdded (λ line. IsInfo kept.names.keys line.info line.several (reading_in line)) edit → MayEdit kept edit
-may-edit kept edit k within few read info =
-    let there : IsPlaceWithin (length kept.lines.items) edit = rw (← kept.lines.ok.0) within in
-    record {
-      kept = k;
-      within = within;
-      few = omega (arith, few, (edited-lines kept.lines.items edit there).many, ap (λ n. count_after n edit) kept.lines.ok.0);
-      are_read = read-after kept.lines.items edit k.are_read read;
-      infos = all-after (λ (line : KeptLine). IsInfo kept.names.keys line.info line.several (reading_in line)) kept.lines.items edit k.infos info;
-    }
-
--- what an edit makes encode, seen of the texts
-pub needs-edit : (kept : Kept) (edit : Edit) (before after : List (List ℕ)) (from old new : ℕ) → MayEdit kept edit → texts_kept kept ≡ before → texts_in (lines_after kept.lines.items edit) ≡ after
-    → from ≡ old → new ≤ from + needed_by kept edit → new ≤ old + lines_to_encode before after (place_before edit)
-needs-edit kept edit before after from old new m was is same h =
-    let needed = needs-view (lines_kept kept) (lines_then kept edit) before after (place_before edit) (m.kept.are_read ∙ ap (map reading_of) was) (m.are_read ∙ ap (map reading_of) is) in
-    omega (arith, h, needed, same)
 
 -- What is kept stays right where a line is put in the place of one that is alike.
 
@@ -702,10 +682,3 @@ encoded-kept kept at added q old new e h = by (is_accepted q.status) (has_code (
     by true true accepted h = omega (arith, needed accepted)
     by true false accepted h = omega arith
     by false b accepted h = omega arith
-
--- a line that comes or goes, by what is read of each
-pub map-insert : {X Y : Type 0} (f : X → Y) (xs : List X) (i : ℕ) (y : X) → map f (insert xs i y) ≡ insert (map f xs) i (f y)
-map-insert f xs i y = map-append f (take i xs) (y ∷ drop i xs) ∙ (λ j. sym (take-map f i xs) j ++ f y ∷ sym (drop-map f i xs) j)
-
-pub map-remove : {X Y : Type 0} (f : X → Y) (xs : List X) (i : ℕ) → map f (remove xs i) ≡ remove (map f xs) i
-map-remove f xs i = map-append f (take i xs) (drop (suc i) xs) ∙ (λ j. sym (take-map f i xs) j ++ sym (drop-map f (suc i) xs) j)

@@ -1,22 +1,21 @@
 -- The value that a line had before an edit, where its names keep their values.
-use Rattle.std.proofs.Common.{◌≡◌, ℕ, ◌<◌, ℤ, Bool, true, false, cond, ◌&&◌, is_none, if◌then◌else◌, List, [], ◌∷◌, ◌++◌, reverse, length, take, slice_get, refl, ap, sym, ◌∙◌, arith, Option, Some, None, option_map, Result, Ok, Err}
+use Rattle.std.proofs.Common.{◌≡◌, ℕ, ◌<◌, ℤ, Bool, true, false, cond, ◌&&◌, is_none, if◌then◌else◌, List, [], ◌∷◌, ◌++◌, reverse, length, take, slice_get, refl, ap, sym, ◌∙◌, arith, Option, Some, None, option_map, Ok}
 use Rattle.std.specs.List.{list_all}
 use Rattle.std.specs.Str.{bytes_eq}
 use Rattle.std.proofs.lemmas.List.{get_or-map}
 use Rattle.std.proofs.lemmas.Option.{slice_get_within, get_or_from_slice_get}
-use Rattle.chip_lang.specs.declared.fault.Fault.{Fault}
 use Rattle.chip_lang.specs.declared.fault.Fault.TheVariants.{UnclosedIf}
 use Rattle.chip_lang.specs.Tree.{Tree}
 use Rattle.chip_lang.specs.Line.{Body, equ, org, ds, Reading, bad, read}
 use Rattle.chip_lang.specs.Value.{Symbols, value, value_of_name}
 use Rattle.chip_lang.specs.Uses.{names_in, has_same_value, agree_on}
 use Rattle.chip_symbols.specs.declared.table.Symbol.{Symbol}
-use Rattle.chip_symbols.specs.Names.{Name, lookup_name, values_of, is_redefinition}
-use Rattle.chip_asm.specs.Layout.{Placed, body_of, value_at, value_or_zero}
+use Rattle.chip_symbols.specs.Names.{Name, lookup_name, values_of}
+use Rattle.chip_asm.specs.Layout.{Placed, body_of, value_at}
 use Rattle.chip_asm.specs.Program.{is_unclosed, names_of_lines}
-use Rattle.chip_asm.specs.computed.Walk.{address, first_fault, fault_of_value, is_aligning, is_active, is_misplaced, place, placed, symbols}
+use Rattle.chip_asm.specs.computed.Walk.{first_fault, is_active, place, placed, symbols}
 use Rattle.chip_asm.specs.inner.Placements.{final_placement, placements_of, Found, is_accepted_found}
-use Rattle.chip_asm.proofs.Resumed.{no_fault, NamesSplit, names-split, next-placed, none_from}
+use Rattle.chip_asm.proofs.Resumed.{faultless, NamesSplit, names-split, next-placed, none_from}
 use Rattle.chip_symbols.proofs.NameValues.{value-of-name}
 use Rattle.chip_asm.proofs.Placing.{length-numbered}
 
@@ -30,24 +29,10 @@ SameValue = (e : Tree) (S T : Symbols) → list_all (has_same_value S T) (names_
 
 -- an accepted line has a value
 
-has-value : (aligning : Bool) (here : ℕ) (body : Body) (had : Result ℤ Fault) → fault_of_value aligning here body had ≡ None → had ≡ Ok (value_or_zero had)
-unfolding fault_of_value
-has-value aligning here body (Ok v) h = refl
-has-value aligning here body (Err f) h = cc
-
-no-other : (before : List Placed) (line : Reading) → first_fault before line ≡ None
-    → value_at (symbols before) (body_of line) ≡ Ok (value_or_zero (value_at (symbols before) (body_of line)))
-unfolding first_fault
-no-other before (bad fault) h = cc
-no-other before (read label body) h =
-    let placed_well = no_fault (is_misplaced before body) _ _ h in
-    let new = no_fault (is_redefinition (symbols before) label) _ _ placed_well.1 in
-    has-value (is_aligning before) (address before) body (value_at (symbols before) body) new.1
-
 accepted-value : (all before : List Placed) (line : Reading) → is_accepted_found (final_placement all (place before line)) ≡ true
     → value_at (symbols before) (body_of line) ≡ Ok (place before line).value
 unfolding place
-accepted-value all before line h = no-other before line (by (is_active before (body_of line)) (is_unclosed all (place before line)) h)
+accepted-value all before line h = (faultless before line (by (is_active before (body_of line)) (is_unclosed all (place before line)) h)).value
   where
     by : (active unclosed : Bool) → (active && is_none (if unclosed then Some UnclosedIf else (if active then first_fault before line else None))) ≡ true → first_fault before line ≡ None
     by false unclosed h = cc

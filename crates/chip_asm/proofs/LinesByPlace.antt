@@ -1,7 +1,6 @@
 -- Lines by their places: where each stands, what is noted of it, and its bytes in the image.
 use Rattle.std.proofs.Common.{◌≡◌, ℕ, ◌+◌, ◌-◌, ◌*◌, ◌<◌, ◌≤◌, ◌⊎◌, inl, inr, Bool, true, false, cond, ◌&&◌, ltb, leb, List, [], ◌∷◌, ◌++◌, length, take, drop, get_or, refl, replicate, ap, sym, ◌∙◌, arith, Result, Ok, Err, ℤ, length-append, zero, suc, reverse, slice_get, find, filter, subst, Option, Some, None, is_none, is_some, option_map, not, ◌||◌, map, le-leb, if◌then◌else◌, set, sum_by, count_by}
-use Rattle.std.proofs.lemmas.Bool.{and_parts, cases_lt, leb-true, ltb-true, cond_both, false_from_ne_true, false≢true, true_from_ne_false, lt-ltb, cases_eq}
-use Rattle.std.proofs.lemmas.Bool.Decides.{nat_tests}
+use Rattle.std.proofs.lemmas.Bool.{and_parts, cases_lt, cond_both, false_from_ne_true, false≢true, true_from_ne_false, lt-ltb, cases_eq}
 use Rattle.std.proofs.lemmas.List.{drop-drop, get_or-append_right, get_or_append_left, get_or-drop, get_or-replicate, get_or-take, length-replicate, length-take-le, get_or-reverse, get_or_default, length-reverse, length-take, take-take, get_or-map, length-map, same_lists, map-append, take-map, take_more, take_more_set, get_or-set_other, get_or-set_same, length-set, take_all, take-append-le}
 use borrow.Rule.Slice.PartMut.{put_mid}
 use Rattle.chip_lang.specs.declared.limits.TheConstants.{IMAGE_START, MEMORY_BYTES}
@@ -18,9 +17,10 @@ use Rattle.chip_asm.specs.inner.Infos.{has_code}
 use Rattle.chip_asm.specs.inner.Codes.{IsWritten, covers_byte}
 use Rattle.std.specs.List.{position_or_len, list_any, list_all, enumerate_from}
 use Rattle.std.specs.Option.{option_map_or}
-use Rattle.std.proofs.lemmas.List.Folds.{find_at, list_all-map, list_any-append}
+use Rattle.std.proofs.lemmas.List.Sorted.{IsPermutation-reverse, list_any-IsPermutation}
+use Rattle.std.proofs.lemmas.List.Folds.{find_at, list_all-map}
 use Rattle.std.proofs.lemmas.List.Sums.{get_or-le-sum_by, length-filter, passes_at_first, sum_by-cons, sum_by-set, sum_by-take-le, sum_by_more}
-use Rattle.std.proofs.lemmas.Option.{get_or_from_slice_get, same_Some, slice_get-get_or, slice_get-map, slice_get_past, slice_get_within}
+use Rattle.std.proofs.lemmas.Option.{gets, slice_get_cases, get_or_from_slice_get, same_Some, slice_get-get_or, slice_get-map, slice_get_past, slice_get_within}
 use Rattle.chip_lang.specs.declared.fault.Fault.TheVariants.{UnclosedIf}
 use Rattle.chip_symbols.specs.Names.{values_of}
 use Rattle.chip_asm.specs.declared.layout.Layout.{Layout}
@@ -28,10 +28,11 @@ use Rattle.chip_asm.specs.computed.Walk.{place, placed, address, is_aligning, sy
 use Rattle.chip_asm.specs.inner.Placements.{IsLayoutOf, placements_of, final_placement, first_placements, Found, found, is_accepted_found, is_accepted, status_coded, nothing, count_of, fault_noted, is_active_status, refusal, block_of, placement_of}
 use Rattle.chip_asm.specs.Work.{is_accepted_at, is_accepted_in}
 use Rattle.chip_asm.proofs.Resumed.{IsWithinMemory, within-memory, next-placed, length-laid, same-placed, none_from}
-use Rattle.chip_asm.proofs.LinesApart.{ends-by, one-covers, turned}
+use Rattle.chip_asm.proofs.LinesApart.{covered-parts, covering, ends-by, one-covers}
 use Rattle.chip_asm.proofs.Placing.{length-numbered, line-at, placed-push, Parts, parts}
-use Rattle.chip_asm.proofs.PlacesAgree.{number-at, enclosing-all, open-at, opens_at, past-end}
-use Rattle.chip_asm.specs.declared.placement.Status.TheVariants.{Pending}
+use Rattle.chip_asm.proofs.PlacesAgree.{number-at, enclosing-all, open-at, opens_at, past-end, turned-back}
+use Rattle.chip_asm.specs.declared.placement.Status.{Status}
+use Rattle.chip_asm.specs.declared.placement.Status.TheVariants.{Done, Pending, Uncoded}
 use Rattle.chip_asm.specs.declared.block.Block.{Block}
 use Rattle.chip_asm.specs.Places.{Encloses}
 use Rattle.chip_asm.specs.inner.Blocks.{AreMarked, is_among, is_opened_at, marked, unclosed}
@@ -60,20 +61,14 @@ around old items d at k room (inr behind) =
     ∙ ap (λ n. get_or old n d) back
 
 pub covered : (here size k : ℕ) (b : Bool) → (leb here (IMAGE_START + k) && ltb (IMAGE_START + k) (here + size)) ≡ b → IMAGE_START ≤ here → cond b ((here - IMAGE_START ≤ k) × (k < here - IMAGE_START + size)) ((k < here - IMAGE_START) ⊎ (here - IMAGE_START + size ≤ k))
-covered here size k true e low =
-    let both = and_parts _ _ e in
-    let from = leb-true here (IMAGE_START + k) both.0 in
-    let to = ltb-true (IMAGE_START + k) (here + size) both.1 in
-    (omega arith, omega arith)
-covered here size k false e low = by (cases_lt k (here - IMAGE_START)) (cases_lt k (here - IMAGE_START + size))
-  where
-    by : (k < here - IMAGE_START) ⊎ (here - IMAGE_START ≤ k) → (k < here - IMAGE_START + size) ⊎ (here - IMAGE_START + size ≤ k) → (k < here - IMAGE_START) ⊎ (here - IMAGE_START + size ≤ k)
-    by (inl before) other = inl before
-    by (inr from) (inr behind) = inr behind
-    by (inr from) (inl to) = absurd (let bad : true ≡ false = sym (yes here (IMAGE_START + k) size (omega arith) (omega arith)) ∙ e in cc)
-      where
-        yes : (here at size : ℕ) → here ≤ at → at < here + size → (leb here at && ltb at (here + size)) ≡ true
-        yes here at size low high = grind (arith, nat_tests)
+covered here size k true e low = let both = covered-parts here size (IMAGE_START + k) e in (omega (arith, both.0), omega (arith, both.1))
+covered here size k false e low = elim (cases_lt k (here - IMAGE_START)) [
+  | inl before ↦ inl before
+  | inr from ↦ elim (cases_lt k (here - IMAGE_START + size)) [
+    | inl to ↦ absurd (false≢true (sym e ∙ covering here size (IMAGE_START + k) (omega arith) (omega arith)))
+    | inr behind ↦ inr behind
+  ]
+]
 
 -- a line whose bytes are put in their place is written
 pub put : (q : Placement) (bytes part old : List ℕ) (n : ℕ) → n ≡ q.size → IMAGE_START ≤ q.here → q.here + q.size ≤ length old + IMAGE_START → length part ≡ q.size
@@ -201,8 +196,8 @@ find-one c (x ∷ xs) (suc i) p h e t few = by (c x) few (find-one c xs i p (ome
 
 found-line : (lines : List Reading) (n : ℕ) (x : Placed) → slice_get (reverse (placed lines)) n ≡ Some x → (address : ℕ) → covers address x ≡ true → find (covers address) (placed lines) ≡ Some x
 found-line lines n x at address c =
-    let t = turned (placed lines) n x at in
-    find-one (covers address) (placed lines) (length (placed lines) - 1 - n) x t.0 t.1 c (one-covers lines address)
+    let t = turned-back (placed lines) n x at in
+    find-one (covers address) (placed lines) (length (placed lines) - 1 - n) x (slice_get_within (placed lines) _ x t) (get_or_from_slice_get (placed lines) _ x x t) c (one-covers lines address)
 
 -- no other line does
 pub apart : (lines : List Reading) (i j : ℕ) (x y : Placed) → (i ≡ j → ⊥) → slice_get (reverse (placed lines)) i ≡ Some x → slice_get (reverse (placed lines)) j ≡ Some y → (address : ℕ) → covers address x ≡ true
@@ -334,8 +329,8 @@ refused-size lines n q a refused = by (is_unclosed (placed lines) a.x) refl (ap 
 -- so one that has a byte is
 pub covers-accepted : (lines : List Reading) (n : ℕ) (q : Found) (a : AtPlace lines n q) (address : ℕ) → covered_by q address ≡ true → is_accepted_found q ≡ true
 covers-accepted lines n q a address c = true_from_ne_false (is_accepted_found q) (λ refused.
-    (let both = and_parts (leb q.here address) (ltb address (q.here + q.size)) c in
-    omega (arith, leb-true q.here address both.0, ltb-true address (q.here + q.size) both.1, refused-size lines n q a refused, ap (λ (p : Found). p.size) a.placement)))
+    (let both = covered-parts q.here q.size address c in
+    omega (arith, both.0, both.1, refused-size lines n q a refused, ap (λ (p : Found). p.size) a.placement)))
 
 -- the fault of an accepted line is that of its code, and that of another one is that of the first
 -- pass
@@ -405,16 +400,6 @@ none-pending lines layout laid n q there waits =
 
 -- The marks of the open blocks are the faults of IF lines without ENDIF.
 
-or_swap : (a b : Bool) → (a || (b || false)) ≡ (b || a)
-or_swap true true = refl
-or_swap true false = refl
-or_swap false true = refl
-or_swap false false = refl
-
-list_any-reverse : (t : Block → Bool) (xs : List Block) → list_any t (reverse xs) ≡ list_any t xs
-list_any-reverse t [] = refl
-list_any-reverse t (x ∷ xs) = ap (list_any t) (reverse-cons x xs) ∙ list_any-append t (reverse xs) (x ∷ []) ∙ or_swap (list_any t (reverse xs)) (t x) ∙ ap (λ b. t x || b) (list_any-reverse t xs)
-
 list_any-blocks : (all : List Placed) (place : ℕ) (os : List Placed) → list_any (is_opened_at place) (map (block_of all) os) ≡ list_any (opens_at place) os
 list_any-blocks all place [] = refl
 list_any-blocks all place (o ∷ os) = ap (λ b. opens_at place o || b) (list_any-blocks all place os)
@@ -429,7 +414,7 @@ pub is-marked : (lines : List Reading) (i : ℕ) (p : Placed) (ended : Bool) (bl
 is-marked lines i p ended blocks there e b =
     let all = placed lines in
     let found : list_any (is_opened_at i) blocks ≡ list_any (opens_at i) (enclosing all)
-    = ap (list_any (is_opened_at i)) b ∙ list_any-reverse (is_opened_at i) (map (block_of all) (enclosing all)) ∙ list_any-blocks all i (enclosing all) in
+    = ap (list_any (is_opened_at i)) b ∙ sym (list_any-IsPermutation (is_opened_at i) (map (block_of all) (enclosing all)) _ (IsPermutation-reverse _)) ∙ list_any-blocks all i (enclosing all) in
     rw (found, e) (open-at lines i p there)
 
 marked-final : (lines : List Reading) (i : ℕ) (p : Placed) (q : Placement) (ended : Bool) (blocks : List Block) → slice_get (reverse (placed lines)) i ≡ Some p → ended ≡ has_ended (placed lines)
@@ -502,11 +487,7 @@ pub set-here : {X : Type 0} (xs : List X) (i : ℕ) (x : X) → i < length xs �
 set-here xs i x h = slice_get-get_or (set xs i x) i x (omega (arith, h, length-set xs i x)) ∙ ap Some (get_or-set_same xs i x x h)
 
 pub set-other : {X : Type 0} (xs : List X) (i j : ℕ) (x : X) → (j ≡ i → ⊥) → slice_get (set xs i x) j ≡ slice_get xs j
-set-other xs i j x other = by (cases_lt j (length xs))
-  where
-    by : (j < length xs) ⊎ (length xs ≤ j) → slice_get (set xs i x) j ≡ slice_get xs j
-    by (inl less) = slice_get-get_or (set xs i x) j x (omega (arith, less, length-set xs i x)) ∙ ap Some (get_or-set_other xs i j x x other) ∙ sym (slice_get-get_or xs j x less)
-    by (inr past) = slice_get_past (set xs i x) j (omega (arith, past, length-set xs i x)) ∙ sym (slice_get_past xs j past)
+set-other xs i j x other = grind (arith, gets, slice_get_cases, get_or-set_other, length-set)
 
 -- how many lines have a fault
 
@@ -547,15 +528,17 @@ tally-same was t n q d tallied inside same =
 
 -- The codes of lines, and how many lines are encoded.
 
--- an accepted line is found the same, whatever became of its code
+-- an accepted line that is noted otherwise, as accepted too
+pub noted-found : (q : Placement) (status : Status) → is_accepted q.status ≡ true → is_accepted status ≡ true → found (record q { status = status }) ≡ found q
+noted-found q status taken accepted =
+    let old = and_parts (is_active_status q.status) (is_none (refusal q.status)) taken in
+    let new = and_parts (is_active_status status) (is_none (refusal status)) accepted in
+    rw (new.0, none_from (refusal status) new.1, old.0, none_from (refusal q.status) old.1) refl
+
+-- it is found the same, whatever became of its code
 pub found-coded : (q : Placement) (fault : Option Fault) → is_accepted q.status ≡ true → found (record q { status = status_coded fault }) ≡ found q
-found-coded q fault accepted =
-    let both = and_parts (is_active_status q.status) (is_none (refusal q.status)) accepted in
-    rw (both.0, none_from (refusal q.status) both.1) (by fault)
-  where
-    by : (f : Option Fault) → found (record q { status = status_coded f }) ≡ record { value = q.value; here = q.here; size = q.size; fault = None; active = true }
-    by None = refl
-    by (Some f) = refl
+found-coded q None accepted = noted-found q Done accepted refl
+found-coded q (Some f) accepted = noted-found q (Uncoded f) accepted refl
 
 -- the number of lines that are encoded
 

@@ -9,6 +9,7 @@ use Rattle.std.proofs.lemmas.Grind.{flat_map-append}
 use Rattle.chip_lang.specs.Show.{two_hex_digits}
 use Rattle.chip_asm.specs.Listing.{bytes_shown}
 use Rattle.chip_asm.specs.LineViews.{LineFacts}
+use Rattle.chip_asm.proofs.PlacesAgree.{past-end}
 
 one-byte : (b : ℕ) → flat_map two_hex_digits (b ∷ []) ≡ two_hex_digits b
 one-byte b = append-nil (two_hex_digits b)
@@ -77,6 +78,4 @@ rows-more row lines i f e =
     ∙ ap (λ l. flat_map row (take i lines) ++ l) (append-nil (row (get_or lines i f)) ∙ ap row (get_or_from_slice_get lines i f f e))
 
 pub past-rows : (lines : List LineFacts) (i : ℕ) → slice_get lines i ≡ None → length lines ≤ i
-past-rows [] i e = omega arith
-past-rows (f ∷ lines) zero e = cc
-past-rows (f ∷ lines) (suc i) e = let k = past-rows lines i e in omega arith
+past-rows lines i e = past-end lines i e

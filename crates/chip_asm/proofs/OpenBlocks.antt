@@ -2,7 +2,7 @@
 use Rattle.std.proofs.Common.{◌≡◌, ℕ, suc, zero, ◌+◌, ◌≤◌, Bool, true, false, cond, ◌&&◌, nat_le, leb, List, [], ◌∷◌, map, drop, count_by, filter, refl, ap, sym, ◌∙◌, arith, leb-true, ◌<◌, ◌||◌, eqb, length, subst, Some, option_map, ne_eqb, eq-eqb}
 use Rattle.std.proofs.lemmas.Bool.Decides.{nat_tests}
 use Rattle.std.proofs.lemmas.List.Sums.{sum_by-cons}
-use Rattle.std.proofs.lemmas.Bool.{and_parts}
+use Rattle.std.proofs.lemmas.Bool.{and_parts, and_right, or_from}
 use Rattle.chip_lang.specs.Line.{Body, endif, else_line, ifdef, ifund}
 use Rattle.chip_asm.specs.Layout.{Placed, body_of, is_if_body, is_endif_body, is_if, is_endif, is_else, is_else_body, has_else, is_number, first_of}
 use Rattle.chip_asm.specs.computed.Walk.{with_between, closes_no_more, enclosing}
@@ -48,32 +48,19 @@ openers-same : (t u : List Placed → Bool) → ((b : List Placed) → t b ≡ u
 openers-same t u same before =
     ap (map (λ (s : List Placed × Placed). s.1)) (same_filter (λ (s : List Placed × Placed). is_if s.1 && t s.0) (λ (s : List Placed × Placed). is_if s.1 && u s.0) (λ s. ap (λ v. is_if s.1 && v) (same s.0)) (with_between before))
 
-count_if : (p : Placed) (b : List Placed) → count_by is_if (p ∷ b) ≡ cond (is_if p) 1 0 + count_by is_if b
-count_if p b = sum_by-cons (λ x. cond (is_if x) 1 0) p b
-
-count_endif : (p : Placed) (b : List Placed) → count_by is_endif (p ∷ b) ≡ cond (is_endif p) 1 0 + count_by is_endif b
-count_endif p b = sum_by-cons (λ x. cond (is_endif x) 1 0) p b
-
 no_more : (b : List Placed) → closes_no_more b ≡ true → count_by is_endif b ≤ count_by is_if b
 no_more [] h = omega arith
 no_more (p ∷ b) h = leb-true _ _ (and_parts _ _ h).0
 
--- the tests on numbers that the three kinds of lines make
+-- the tests on numbers that a line makes, which closes c blocks and opens o
+level : (c o e i d k : ℕ) (rest : Bool) → c + d ≡ o + k → (leb (c + e + d) (o + i) && (leb (c + e) (o + i) && rest)) ≡ (leb (e + k) i && rest)
+level c o e i d k true same = grind (arith, nat_tests)
+level c o e i d k false same = grind (arith, nat_tests)
+
+-- a line that opens a block has none to close
 at_if : (e i : ℕ) (c : Bool) → (c ≡ true → e ≤ i) → (leb (0 + e + 0) (1 + i) && (leb (0 + e) (1 + i) && c)) ≡ (leb (e + 0) i && c)
 at_if e i true h = let k : e ≤ i = h refl in grind (arith, nat_tests)
 at_if e i false h = grind (arith, nat_tests)
-
-at_if_more : (e i d : ℕ) (c : Bool) → (c ≡ true → e ≤ i) → (leb (0 + e + suc d) (1 + i) && (leb (0 + e) (1 + i) && c)) ≡ (leb (e + d) i && c)
-at_if_more e i d true h = let k : e ≤ i = h refl in grind (arith, nat_tests)
-at_if_more e i d false h = grind (arith, nat_tests)
-
-at_endif : (e i d : ℕ) (c : Bool) → (leb (1 + e + d) (0 + i) && (leb (1 + e) (0 + i) && c)) ≡ (leb (e + suc d) i && c)
-at_endif e i d true = grind (arith, nat_tests)
-at_endif e i d false = grind (arith, nat_tests)
-
-at_other : (e i d : ℕ) (c : Bool) → (c ≡ true → e ≤ i) → (leb (0 + e + d) (0 + i) && (leb (0 + e) (0 + i) && c)) ≡ (leb (e + d) i && c)
-at_other e i d true h = let k : e ≤ i = h refl in grind (arith, nat_tests)
-at_other e i d false h = grind (arith, nat_tests)
 
 if_not_endif : (b : Body) → is_if_body b ≡ true → is_endif_body b ≡ false
 if_not_endif endif h = cc
@@ -84,25 +71,13 @@ drop_none zero = refl
 drop_none (suc d) = refl
 
 surplus-cons : (d : ℕ) (p : Placed) (b : List Placed) → surplus d (p ∷ b) ≡ (leb (cond (is_endif p) 1 0 + count_by is_endif b + d) (cond (is_if p) 1 0 + count_by is_if b) && (leb (cond (is_endif p) 1 0 + count_by is_endif b) (cond (is_if p) 1 0 + count_by is_if b) && closes_no_more b))
-surplus-cons d p b =
-    let F : ℕ → ℕ → Bool = λ x y. leb (x + d) y && (leb x y && closes_no_more b) in
-    ap (λ x. F x (count_by is_if (p ∷ b))) (count_endif p b) ∙ ap (λ y. F (cond (is_endif p) 1 0 + count_by is_endif b) y) (count_if p b)
+surplus-cons d p b = rw (sum_by-cons (λ x. cond (is_endif x) 1 0), sum_by-cons (λ x. cond (is_if x) 1 0)) refl
 
-surplus-if : (d : ℕ) (p : Placed) (b : List Placed) → is_if p ≡ true → surplus (suc d) (p ∷ b) ≡ surplus d b
-surplus-if d p b h =
-    let e : is_endif p ≡ false = if_not_endif (body_of p.line) h in
-    surplus-cons (suc d) p b ∙ (rw (h, e) (at_if_more (count_by is_endif b) (count_by is_if b) d (closes_no_more b) (no_more b)))
+surplus-next : (d k : ℕ) (p : Placed) (b : List Placed) → cond (is_endif p) 1 0 + d ≡ cond (is_if p) 1 0 + k → surplus d (p ∷ b) ≡ surplus k b
+surplus-next d k p b same = surplus-cons d p b ∙ level (cond (is_endif p) 1 0) (cond (is_if p) 1 0) (count_by is_endif b) (count_by is_if b) d k (closes_no_more b) same
 
-surplus-if_none : (p : Placed) (b : List Placed) → is_if p ≡ true → surplus 0 (p ∷ b) ≡ surplus 0 b
-surplus-if_none p b h =
-    let e : is_endif p ≡ false = if_not_endif (body_of p.line) h in
-    surplus-cons 0 p b ∙ (rw (h, e) (at_if (count_by is_endif b) (count_by is_if b) (closes_no_more b) (no_more b)))
-
-surplus-endif : (d : ℕ) (p : Placed) (b : List Placed) → is_if p ≡ false → is_endif p ≡ true → surplus d (p ∷ b) ≡ surplus (suc d) b
-surplus-endif d p b h e = surplus-cons d p b ∙ (rw (h, e) (at_endif (count_by is_endif b) (count_by is_if b) d (closes_no_more b)))
-
-surplus-other : (d : ℕ) (p : Placed) (b : List Placed) → is_if p ≡ false → is_endif p ≡ false → surplus d (p ∷ b) ≡ surplus d b
-surplus-other d p b h e = surplus-cons d p b ∙ (rw (h, e) (at_other (count_by is_endif b) (count_by is_if b) d (closes_no_more b) (no_more b)))
+surplus-if : (p : Placed) (b : List Placed) → is_if p ≡ true → is_endif p ≡ false → surplus 0 (p ∷ b) ≡ surplus 0 b
+surplus-if p b h e = surplus-cons 0 p b ∙ (rw (h, e) (at_if (count_by is_endif b) (count_by is_if b) (closes_no_more b) (no_more b)))
 
 surplus_none : (d : ℕ) → surplus (suc d) [] ≡ false
 surplus_none d = grind (arith, nat_tests)
@@ -115,10 +90,10 @@ drop-rest d (x ∷ xs) = refl
 by_kind : (d : ℕ) (p : Placed) (before : List Placed) (i e : Bool) → is_if p ≡ i → is_endif p ≡ e → ((k : ℕ) → openers (surplus k) before ≡ drop k (open_blocks before))
     → cond (i && surplus d []) (p ∷ openers (λ b. surplus d (p ∷ b)) before) (openers (λ b. surplus d (p ∷ b)) before)
     ≡ drop d (cond i (p ∷ open_blocks before) (cond e (rest_of (open_blocks before)) (open_blocks before)))
-by_kind zero p before true e hi he h = ap (λ l. p ∷ l) (openers-same (λ b. surplus 0 (p ∷ b)) (surplus 0) (λ b. surplus-if_none p b hi) before ∙ h 0)
-by_kind (suc d) p before true e hi he h = rw (surplus_none d) (openers-same (λ b. surplus (suc d) (p ∷ b)) (surplus d) (λ b. surplus-if d p b hi) before ∙ h d)
-by_kind d p before false true hi he h = openers-same (λ b. surplus d (p ∷ b)) (surplus (suc d)) (λ b. surplus-endif d p b hi he) before ∙ h (suc d) ∙ sym (drop-rest d (open_blocks before))
-by_kind d p before false false hi he h = openers-same (λ b. surplus d (p ∷ b)) (surplus d) (λ b. surplus-other d p b hi he) before ∙ h d
+by_kind zero p before true e hi he h = ap (λ l. p ∷ l) (openers-same (λ b. surplus 0 (p ∷ b)) (surplus 0) (λ b. surplus-if p b hi (if_not_endif (body_of p.line) hi)) before ∙ h 0)
+by_kind (suc d) p before true e hi he h = rw (surplus_none d) (openers-same (λ b. surplus (suc d) (p ∷ b)) (surplus d) (λ b. surplus-next (suc d) d p b (rw (hi, if_not_endif (body_of p.line) hi) (omega arith))) before ∙ h d)
+by_kind d p before false true hi he h = openers-same (λ b. surplus d (p ∷ b)) (surplus (suc d)) (λ b. surplus-next d (suc d) p b (rw (hi, he) (omega arith))) before ∙ h (suc d) ∙ sym (drop-rest d (open_blocks before))
+by_kind d p before false false hi he h = openers-same (λ b. surplus d (p ∷ b)) (surplus d) (λ b. surplus-next d d p b (rw (hi, he) refl)) before ∙ h d
 
 openers-surplus : (d : ℕ) (before : List Placed) → openers (surplus d) before ≡ drop d (open_blocks before)
 openers-surplus d [] = sym (drop_none d)
@@ -177,11 +152,7 @@ has_else-later [] q n h = refl
 has_else-later (p ∷ before) q n h =
     let other : is_number q.number p.block ≡ false = rw n.1 (number_later (open_blocks before) (length before + 1) q.number (open-descends before n.2) (omega arith)) in
     let rest : has_else before q ≡ false = has_else-later before q n.2 (omega arith) in
-    rw (other, rest) (none (is_else p))
-  where
-    none : (b : Bool) → ((b && false) || false) ≡ false
-    none true = refl
-    none false = refl
+    rw (other, rest) (or_from _ _ (and_right (is_else p) false refl) refl)
 
 block-same : (p o : Placed) (before : List Placed) → is_else p ≡ false → block_of (p ∷ before) o ≡ block_of before o
 unfolding has_else
@@ -195,11 +166,7 @@ has_else-other : (p x : Placed) (before : List Placed) (n : ℕ) → p.block ≡
 unfolding has_else
 has_else-other p x before n e h =
     let other : eqb n x.number ≡ false = ne_eqb n x.number (λ same. omega arith) in
-    rw (e, other) (drops (is_else p))
-  where
-    drops : (b : Bool) → ((b && false) || has_else before x) ≡ has_else before x
-    drops true = refl
-    drops false = refl
+    rw (e, other) (ap (λ b. b || has_else before x) (and_right (is_else p) false refl))
 
 block-other : (p x : Placed) (before : List Placed) (n : ℕ) → p.block ≡ Some n → x.number < n → block_of (p ∷ before) x ≡ block_of before x
 block-other p x before n e h = rw (has_else-other p x before n e h) refl

@@ -1,5 +1,5 @@
 -- Both passes over the lines after an edit, line by line.
-use Rattle.std.proofs.Common.{◌≡◌, ℕ, ℤ, ◌+◌, ◌-◌, ◌<◌, ◌≤◌, ◌⊎◌, inl, inr, true, false, List, [], ◌∷◌, ◌++◌, length, take, drop, get_or, slice_get, set, refl, ap, sym, subst, ◌∙◌, arith, below_more, Some, Ok, Bool, leb, ltb, ◌&&◌, reverse, is_none, Result, pos, length-append, Option, None, cond, not, ◌||◌, map, option_map, vec_capacity, sum_by}
+use Rattle.std.proofs.Common.{◌≡◌, ℕ, ℤ, ◌+◌, ◌-◌, ◌<◌, ◌≤◌, ◌⊎◌, inl, inr, true, false, List, [], ◌∷◌, ◌++◌, length, take, drop, get_or, slice_get, set, refl, ap, sym, subst, ◌∙◌, arith, below_more, Some, Ok, Bool, ◌&&◌, reverse, is_none, Result, pos, length-append, Option, None, cond, not, ◌||◌, map, option_map, vec_capacity, sum_by}
 use Rattle.std.specs.Prelude.{min}
 use Rattle.std.proofs.lemmas.List.{get_or-drop, get_or-take, length-drop, length-map, length-set, length-take-le, get_or_past, take-take, take_all}
 use Rattle.std.proofs.lemmas.Option.{same_Some, slice_get-get_or, get_or_from_slice_get, slice_get_within, slice_get-map}
@@ -13,7 +13,7 @@ use Rattle.chip_asm.specs.Layout.{Placed, body_of, full_size, is_padded, own_siz
 use Rattle.chip_symbols.specs.Names.{values_of, Name, is_redefinition}
 use Rattle.chip_asm.specs.computed.Walk.{place, placed, symbols, address, enclosing, is_aligning}
 use Rattle.chip_asm.specs.inner.Codes.{IsCopied, copied_bytes, IsImageOf, IsWritten, code_kept, is_coded, kept_bytes, kept_fault, right_byte}
-use Rattle.chip_asm.specs.inner.Placements.{Follows, placement_of, HasPassed, AreCodesNoted, final_placement, placements_of, Found, found, is_accepted, bare_status, is_active_status, refusal, status_coded, is_accepted_found, nothing, is_pending, count_of}
+use Rattle.chip_asm.specs.inner.Placements.{Follows, placement_of, HasPassed, AreCodesNoted, final_placement, placements_of, Found, found, is_accepted, bare_status, refusal, status_coded, is_accepted_found, nothing, is_pending, count_of}
 use Rattle.chip_asm.specs.inner.Infos.{IsInfo, has_code, IsPlain, is_plain_line}
 use Rattle.chip_asm.specs.inner.KeptLine.{KeptLine}
 use Rattle.chip_asm.specs.inner.Passes.{Change, HasRoom, IsHeld, IsSlot, IsTally, IsUnderWay, is_byte_of, placed_at, AreGapsZero, HasCode, IsCarried, IsChange, code_before, AreCoded, AreSettled, IsDone, IsEncodedUnder, IsHalfDone, again_up_to, stood, is_encoded_again}
@@ -21,12 +21,12 @@ use Rattle.chip_asm.specs.inner.Records.{reading_in, readings_in}
 use Rattle.chip_symbols.specs.Tables.{KeepsBefore, Tables, name_of, symbols_of}
 use Rattle.chip_asm.proofs.QuietLines.{info-here, found-plain, passed-plain, plain-line}
 use Rattle.chip_asm.proofs.Resumed.{IsWithinMemory, next-placed, end-high, Resumes, resumes, none_from, steady-readings}
+use Rattle.chip_asm.proofs.LinesApart.{covered-parts, covering}
 use Rattle.chip_asm.proofs.LinesByPlace.{around, covered, inserted, no-code, same-bytes, one-more, take-next, set-here, set-other, is-marked, marked-placements, AtPlace, apart, at-line, at-place-of, bytes-fit, high, low, accepted-at, accepted-effect, byte-line, byte-outside, covers-accepted, ends-before, count-numbered, count_by-take, size-there}
 use Rattle.chip_asm.proofs.KeptValues.{KeepsValue, SameValue, value-kept}
 use Rattle.chip_asm.proofs.LinesAfter.{line-at, read-at}
 use Rattle.chip_asm.proofs.Placing.{line-at as placed-line, length-numbered, parts}
-use Rattle.std.proofs.lemmas.Bool.{and_parts, cases_lt, leb-true, ltb-true, false≢true, and_cases, and_left, and_right, cases_eq, false_from_ne_true, not-false, or_parts}
-use Rattle.std.proofs.lemmas.Bool.Decides.{nat_tests}
+use Rattle.std.proofs.lemmas.Bool.{and_parts, cases_lt, false≢true, and_cases, and_left, and_right, cases_eq, false_from_ne_true, not-false, or_parts}
 use Rattle.chip_lang.specs.declared.fault.Fault.{Fault}
 use Rattle.chip_asm.specs.declared.placement.Status.{Status}
 use Rattle.chip_asm.specs.Program.{bytes_in_code, fault_in_code, names_of_lines, code_under, code_with, is_unclosed}
@@ -58,13 +58,10 @@ within-at lines n x at = (at-line lines n x at).within
 
 -- bytes
 
-pub byte-parts : (here size k : ℕ) → is_byte_of here size k ≡ true → (here ≤ IMAGE_START + k) × (IMAGE_START + k < here + size)
-byte-parts here size k c = let both = and_parts _ _ c in (leb-true here (IMAGE_START + k) both.0, ltb-true (IMAGE_START + k) (here + size) both.1)
-
 -- where no earlier line has a byte, none has one of the next line
 pub zeros-next : (e : Change) (n : ℕ) (x : Placed) (image : List ℕ) → AreGapsZero e n image → placed_at e n ≡ Some x → (k : ℕ) → is_byte_of x.here x.size k ≡ true → get_or image k 0 ≡ 0
 zeros-next e n x image gaps at k c =
-    gaps k (omega (arith, (byte-parts x.here x.size k c).1, (within-at e.now n x at).1)) (λ j y h there. apart e.now n j x y (λ same. omega arith) at there (IMAGE_START + k) c)
+    gaps k (omega (arith, (covered-parts x.here x.size (IMAGE_START + k) c).1, (within-at e.now n x at).1)) (λ j y h there. apart e.now n j x y (λ same. omega arith) at there (IMAGE_START + k) c)
 
 -- what is known of a line stays where its bytes do
 
@@ -95,14 +92,11 @@ stood-there e from n line q same there slot taken =
     let a : AtPlace e.was was.0 (found q) = at-place-of e.was was.0 (found q) was.2 in
     record { before = was.0; at = a; line_is = same_Some a.x.line line (sym a.line ∙ same n was.0 was.1 (slice_get_within e.now n line there) ∙ there) }
 
-pub covering : (here size at : ℕ) → here ≤ at → at < here + size → (leb here at && ltb at (here + size)) ≡ true
-covering here size at low high = grind (arith, nat_tests)
-
 -- its code is copied, as far as there was room for it
 pub carried-held : (e : Change) (from new : List ℕ) (n : ℕ) (x : Placed) (line : Reading) (q : Placement) → IsSlot e from n line q → is_accepted q.status ≡ true → Stood e n line q → x.line ≡ line → IsWithinMemory x
     → ((i : ℕ) → i < x.size → i < q.size → get_or new (x.here - IMAGE_START + i) 0 ≡ get_or from (q.here - IMAGE_START + i) 0)
     → ((i : ℕ) → i < x.size → q.size ≤ i → get_or new (x.here - IMAGE_START + i) 0 ≡ 0) → IsCarried e n x q.status new
-carried-held e from new n x line q slot taken s same within copied rest = inr (rw same (record { bytes = λ k b. at-byte k (byte-parts x.here x.size k b); noted = code.noted }))
+carried-held e from new n x line q slot taken s same within copied rest = inr (rw same (record { bytes = λ k b. at-byte k (covered-parts x.here x.size (IMAGE_START + k) b); noted = code.noted }))
   where
     code : HasCode (code_before e line) q.here q.size q.status from
     code = slot.code taken
@@ -134,13 +128,6 @@ fresh-held e from new n x line q false slot refused zeros bare =
       bytes = λ k b. zeros k b ∙ ap (λ r. get_or (bytes_in_code r) (IMAGE_START + k - x.here) 0) (sym none);
       noted = ap (λ r. status_coded (fault_in_code r)) (sym none);
     })
-
--- an accepted line that is noted otherwise, as accepted too
-pub noted-found : (q : Placement) (status : Status) → is_accepted q.status ≡ true → is_accepted status ≡ true → found (record q { status = status }) ≡ found q
-noted-found q status taken accepted =
-    let old = and_parts (is_active_status q.status) (is_none (refusal q.status)) taken in
-    let new = and_parts (is_active_status status) (is_none (refusal status)) accepted in
-    rw (new.0, none_from (refusal status) new.1, old.0, none_from (refusal q.status) old.1) refl
 
 pub bare-accepted : (coded : Bool) → is_accepted (bare_status true coded) ≡ true
 bare-accepted true = refl
@@ -689,7 +676,7 @@ begun-way e kept first start pass lines placements tally from image x lines_is p
   slots = λ j line q h at there. subst (λ f. IsSlot e f j line q) (sym from_is) (x.slots j line q h at (was j there));
   held = λ j y q h at there.
       held-stays e j y q kept.image.items image (x.held j y q h at (was j there))
-      (λ k b. front k (omega (arith, (byte-parts y.here y.size k b).1, ends-before e.now first j y h at, x.at_address)) ∙ ap (λ f. get_or f k 0) from_is);
+      (λ k b. front k (omega (arith, (covered-parts y.here y.size (IMAGE_START + k) b).1, ends-before e.now first j y h at, x.at_address)) ∙ ap (λ f. get_or f k 0) from_is);
   gaps = λ k h none. gap k none (cases_lt k (start - IMAGE_START));
 }
   where

@@ -1,17 +1,18 @@
 -- Lines by place, and line by line.
-use Rattle.std.proofs.Common.{◌≡◌, ℕ, zero, suc, ◌+◌, ◌-◌, ◌<◌, ◌≤◌, Bool, true, false, cond, not, ◌&&◌, leb, List, [], ◌∷◌, ◌++◌, map, reverse, length, take, drop, filter, find, take_while, sum_by, count_by, slice_get, get_or, refl, ap, sym, subst, ◌∙◌, arith, Option, Some, None, option_map, ◌⊎◌, inl, inr, leb-true, le-leb, leb-false, ℤ, fold, append_assoc, is_none, unsigned_abs, Result, Ok, Err, le_antisymm, Decides, eqb, nat_eq, eq-eqb, eqb-true}
-use Rattle.std.specs.List.{list_any, list_all}
+use Rattle.std.proofs.Common.{◌≡◌, ℕ, zero, suc, ◌+◌, ◌-◌, ◌<◌, ◌≤◌, Bool, true, false, cond, not, ◌&&◌, ◌||◌, List, [], ◌∷◌, ◌++◌, map, reverse, length, take, drop, filter, find, take_while, sum_by, count_by, slice_get, refl, ap, sym, subst, ◌∙◌, arith, Option, Some, None, option_map, ◌⊎◌, inl, inr, leb-true, le-leb, ℤ, fold, append_assoc, is_none, unsigned_abs, Result, Ok, Err, le_antisymm, Decides, eqb, nat_eq, eq-eqb, eqb-true}
+use Rattle.std.specs.List.{list_any, list_all, position_or_len}
+use Rattle.std.proofs.lemmas.List.Folds.{Any-from_list_any, find_at, list_any-from_Any}
 use Rattle.std.proofs.Math.Seq.{drop-append_seam, take-append_seam}
-use Rattle.std.proofs.lemmas.Bool.{and_parts}
-use Rattle.std.proofs.lemmas.List.{take-append-le, take_all, take-append-drop, length-reverse, reverse-reverse, reverse-append, drop-append-le, get_or-reverse, append-nil, length-append, take_more, length-take-le}
+use Rattle.std.proofs.lemmas.Bool.{and_from, and_parts, cases_lt, false≢true, not-false, not-true, true_from_ne_false}
+use Rattle.std.proofs.lemmas.List.{take-append-le, take_all, take-append-drop, length-reverse, reverse-append, get_or-reverse, get_or_append_left, append-nil, length-append, length-drop, take_more, length-take-le}
 use Rattle.std.proofs.lemmas.List.Sorted.{IsPermutation-reverse, sum_by-IsPermutation, list_any-IsPermutation}
-use Rattle.std.proofs.lemmas.List.Sums.{sum_by-cons, sum_by_push, take_while-cons}
-use Rattle.std.proofs.lemmas.Option.{get_or_from_slice_get, slice_get_read, slice_get_within, slice_get-map}
+use Rattle.std.proofs.lemmas.List.Sums.{fails_before_first, passes_at_first}
+use Rattle.std.proofs.lemmas.Option.{gets, get_or_from_slice_get, same_Some, slice_get_cases, slice_get_read, slice_get_within, slice_get-map}
 use Rattle.chip_symbols.specs.Names.{is_redefinition}
 use Rattle.chip_asm.specs.Layout.{Placed, is_if, is_endif, first_of, body_of, is_side_or_end, is_origin, is_align, is_align_off_body, has_else, has_ended, holds, is_negative_space, is_backwards, is_past_end, value_at, value_or_zero, full_size}
 use Rattle.chip_asm.specs.computed.Walk.{with_between, closes_no_more, encloses, enclosing, place, placed, is_aligning, address, symbols, is_active, is_misplaced, first_fault, fault_of_value}
 use Rattle.chip_asm.specs.Places.{Passes, IsLast, Encloses, sizes, IsFromLast, IsActive, fault_in_value, is_stray, first_pass_faults, IsPlaced, ArePlaced, IsUnclosed}
-use Rattle.chip_asm.proofs.BlockSteps.{reverse-cons}
+use Rattle.chip_asm.proofs.BlockSteps.{all-not, reverse-cons}
 use Rattle.std.specs.Bool.{one_answer}
 use Rattle.std.specs.Option.{option_map_or}
 use Rattle.chip_lang.specs.declared.limits.TheConstants.{IMAGE_START}
@@ -26,89 +27,94 @@ use Rattle.chip_asm.specs.Program.{is_unclosed}
 
 -- places of a list with one element more
 
-pub at-left : {A : Type 0} (xs ys : List A) (k : ℕ) (x : A) → slice_get xs k ≡ Some x → slice_get (xs ++ ys) k ≡ Some x
-at-left [] ys k x h = cc
-at-left (z ∷ xs) ys zero x h = h
-at-left (z ∷ xs) ys (suc k) x h = at-left xs ys k x h
+at-left : {A : Type 0} (xs ys : List A) (k : ℕ) (x : A) → slice_get xs k ≡ Some x → slice_get (xs ++ ys) k ≡ Some x
+at-left xs ys k x h = grind (arith, gets, slice_get_cases, get_or_append_left, length-append)
 
 pub at-end : {A : Type 0} (xs ys : List A) (x : A) → slice_get (xs ++ x ∷ ys) (length xs) ≡ Some x
 at-end [] ys x = refl
 at-end (z ∷ xs) ys x = at-end xs ys x
 
 pub one-side : {A : Type 0} (xs : List A) (y : A) (k : ℕ) (x : A) → slice_get (xs ++ y ∷ []) k ≡ Some x → (slice_get xs k ≡ Some x) ⊎ ((k ≡ length xs) × (x ≡ y))
-one-side [] y zero x h = inr (refl, cc)
-one-side [] y (suc k) x h = cc
-one-side (z ∷ xs) y zero x h = inl h
-one-side (z ∷ xs) y (suc k) x h = by (one-side xs y k x h)
-  where
-    by : (slice_get xs k ≡ Some x) ⊎ ((k ≡ length xs) × (x ≡ y)) → (slice_get xs k ≡ Some x) ⊎ ((suc k ≡ suc (length xs)) × (x ≡ y))
-    by (inl e) = inl e
-    by (inr e) = inr (ap suc e.0, e.1)
-
-pub same-there : {A : Type 0} (xs : List A) (k : ℕ) (x y : A) → slice_get xs k ≡ Some x → slice_get xs k ≡ Some y → x ≡ y
-same-there xs k x y h g = cc
+one-side xs y k x h = elim (cases_lt k (length xs)) [
+  | inl less ↦ inl (grind (arith, gets, slice_get_cases, get_or_append_left))
+  | inr past ↦
+      (let at : k ≡ length xs = omega (arith, past, slice_get_within (xs ++ y ∷ []) k x h, length-append xs (y ∷ [])) in
+      inr (at, same_Some x y (sym h ∙ ap (slice_get (xs ++ y ∷ [])) at ∙ at-end xs [] y)))
+]
 
 pub turned : {A : Type 0} (xs : List A) (k : ℕ) (x : A) → slice_get xs k ≡ Some x → slice_get (reverse xs) (length xs - 1 - k) ≡ Some x
-turned xs k x h =
-    let within : k < length xs = slice_get_within xs k x h in
-    let long : length (reverse xs) ≡ length xs = length-reverse xs in
-    let back : length xs - 1 - (length xs - 1 - k) ≡ k = omega arith in
-    slice_get_read (reverse xs) (length (reverse xs)) (length xs - 1 - k) x refl (omega arith)
-    (sym (get_or-reverse xs (length xs - 1 - k) x (omega arith) ∙ ap (λ n. get_or xs n x) back ∙ get_or_from_slice_get xs k x x h))
+turned xs k x h = grind (arith, gets, slice_get_cases, get_or-reverse, length-reverse)
 
 pub turned-back : {A : Type 0} (xs : List A) (k : ℕ) (x : A) → slice_get (reverse xs) k ≡ Some x → slice_get xs (length xs - 1 - k) ≡ Some x
-turned-back xs k x h =
-    let there : slice_get (reverse (reverse xs)) (length (reverse xs) - 1 - k) ≡ Some x = turned (reverse xs) k x h in
-    ap (λ ys. slice_get ys (length xs - 1 - k)) (sym (reverse-reverse xs)) ∙ ap (λ n. slice_get (reverse (reverse xs)) (n - 1 - k)) (sym (length-reverse xs)) ∙ there
+turned-back xs k x h = grind (arith, gets, slice_get_cases, get_or-reverse, length-reverse)
+
+-- the first of a list that passes a test
+
+data First {A : Type 0} (test : A → Bool) (xs : List A) : Type 0 where
+  first : (x : A) → slice_get xs (position_or_len test xs) ≡ Some x → test x ≡ true → find test xs ≡ Some x → First test xs
+  missing : length xs ≤ position_or_len test xs → find test xs ≡ None → First test xs
+
+find-first : {A : Type 0} (test : A → Bool) (xs : List A) → First test xs
+find-first test xs = elim (slice_get_cases xs (position_or_len test xs)).1 [
+  | inl s ↦ first s.0 s.2 (ap test (sym s.3) ∙ passes_at_first test xs s.0 s.1) (find_at test xs ∙ s.2)
+  | inr s ↦ missing s.0 (find_at test xs ∙ s.1)
+]
+
+no-earlier : {A : Type 0} (test : A → Bool) (xs : List A) (k : ℕ) (x : A) → slice_get xs k ≡ Some x → test x ≡ true → position_or_len test xs ≤ k
+no-earlier test xs k x there passes = elim (cases_lt k (position_or_len test xs)) [
+  | inl less ↦ absurd (false≢true (sym (fails_before_first test xs k x less) ∙ ap test (get_or_from_slice_get xs k x x there) ∙ passes))
+  | inr past ↦ past
+]
 
 -- the last line that passes a test
 
-pub data Search (test : Placed → Bool) (r before : List Placed) : Type 0 where
-  found : (j : ℕ) (p : Placed) → IsLast (Passes test before) j p → find test r ≡ Some p → sizes (take_while (λ q. not (test q)) r) ≡ sizes (drop (j + 1) before) → Search test r before
-  nowhere : ((j : ℕ) (p : Placed) → Passes test before j p → ⊥) → find test r ≡ None → sizes (take_while (λ q. not (test q)) r) ≡ sizes before → Search test r before
+-- the last line that fits, and what is known then; or what is known where none does
+data Decided (Fits Known : ℕ → Placed → Type 0) (Otherwise : Type 0) : Type 0 where
+  last : (j : ℕ) (p : Placed) → IsLast Fits j p → Known j p → Decided Fits Known Otherwise
+  never : ((j : ℕ) (p : Placed) → Fits j p → ⊥) → Otherwise → Decided Fits Known Otherwise
 
-passed-side : (test : Placed → Bool) (before : List Placed) (p : Placed) (k : ℕ) (q : Placed) → test p ≡ false → Passes test (before ++ p ∷ []) k q → Passes test before k q
-passed-side test before p k q e s = by (one-side before p k q s.there)
+-- a place from the nearest line back
+abbrev back : List Placed → ℕ → ℕ
+back r k = length r - 1 - k
+
+-- the two parts of a list that is turned
+halves : (r : List Placed) (k : ℕ) → k ≤ length r → (take (length r - k) (reverse r) ≡ reverse (drop k r)) × (drop (length r - k) (reverse r) ≡ reverse (take k r))
+halves r k h =
+    let parts : reverse r ≡ reverse (drop k r) ++ reverse (take k r) = ap reverse (sym (take-append-drop k r)) ∙ reverse-append (take k r) (drop k r) in
+    let long : length r - k ≡ length (reverse (drop k r)) = omega (arith, length-reverse (drop k r), length-drop k r) in (
+      ap (take (length r - k)) parts ∙ ap (λ n. take n (reverse (drop k r) ++ reverse (take k r))) long ∙ take-append_seam (reverse (drop k r)) (reverse (take k r)),
+      ap (drop (length r - k)) parts ∙ ap (λ n. drop n (reverse (drop k r) ++ reverse (take k r))) long ∙ drop-append_seam (reverse (drop k r)) (reverse (take k r)),
+    )
+
+-- the lines behind a place
+behind : (r : List Placed) (k : ℕ) → k < length r → drop (back r k + 1) (reverse r) ≡ reverse (take k r)
+behind r k h = let after : back r k + 1 ≡ length r - k = omega arith in ap (λ n. drop n (reverse r)) after ∙ (halves r k (omega arith)).1
+
+sum-turned : (f : Placed → ℕ) (xs : List Placed) → sum_by f (reverse xs) ≡ sum_by f xs
+sum-turned f xs = sum_by-IsPermutation f xs (reverse xs) (IsPermutation-reverse xs)
+
+abbrev Search : (Placed → Bool) → List Placed → Type 0
+Search test r =
+    Decided (Passes test (reverse r)) (λ j p. (find test r ≡ Some p) × (sizes (take_while (λ q. not (test q)) r) ≡ sizes (drop (j + 1) (reverse r))))
+    ((find test r ≡ None) × (sizes (take_while (λ q. not (test q)) r) ≡ sizes (reverse r)))
+
+search-last : (test : Placed → Bool) (r : List Placed) → Search test r
+search-last test r = by (find-first test r)
   where
-    by : (slice_get before k ≡ Some q) ⊎ ((k ≡ length before) × (q ≡ p)) → Passes test before k q
-    by (inl there) = record { there = there; passes = s.passes }
-    by (inr at) = absurd (let never : true ≡ false = sym s.passes ∙ ap test at.1 ∙ e in cc)
+    at : ℕ
+    at = position_or_len test r
 
-search-hit : (test : Placed → Bool) (p : Placed) (r : List Placed) → test p ≡ true → Search test (p ∷ r) (reverse r ++ p ∷ [])
-search-hit test p r e =
-    found (length (reverse r)) p
-    (record {
-      fits = record { there = at-end (reverse r) [] p; passes = e };
-      latest = λ k q s. (let within = slice_get_within (reverse r ++ p ∷ []) k q s.there in let long = ap length (reverse-cons p r) in let one = length-reverse (p ∷ r) in let two = length-reverse r in omega arith);
-    })
-    (rw e refl)
-    (let none : drop (length (reverse r) + 1) (reverse r ++ p ∷ []) ≡ [] = past (reverse r) p in rw (take_while-cons, e, none) refl)
-  where
-    past : (xs : List Placed) (x : Placed) → drop (length xs + 1) (xs ++ x ∷ []) ≡ []
-    past [] x = refl
-    past (y ∷ xs) x = let e : length (y ∷ xs) + 1 ≡ suc (length xs + 1) = omega arith in rw e (past xs x)
+    no-later : (k : ℕ) (q : Placed) → Passes test (reverse r) k q → (at ≤ back r k) × (k < length r)
+    no-later k q s = (no-earlier test r (back r k) q (turned-back r k q s.there) s.passes, omega (arith, slice_get_within (reverse r) k q s.there, length-reverse r))
 
-search-miss : (test : Placed → Bool) (p : Placed) (r before : List Placed) → test p ≡ false → Search test r before → Search test (p ∷ r) (before ++ p ∷ [])
-search-miss test p r before e (found j q last there sum) =
-    let inside : j < length before = slice_get_within before j q last.fits.there in
-    found j q
-    (record {
-      fits = record { there = at-left before (p ∷ []) j q last.fits.there; passes = last.fits.passes };
-      latest = λ k o s. last.latest k o (passed-side test before p k o e s);
-    })
-    (rw e there)
-    (rw (take_while-cons, e, drop-append-le (j + 1) before (p ∷ []) (omega arith), sum_by-cons (λ (o : Placed). o.size), sum_by_push (λ (o : Placed). o.size), sum) (omega arith))
-search-miss test p r before e (nowhere none there sum) =
-    nowhere (λ k o s. none k o (passed-side test before p k o e s)) (rw e there)
-    (rw (take_while-cons, e, sum_by-cons (λ (o : Placed). o.size), sum_by_push (λ (o : Placed). o.size), sum) (omega arith))
-
-pub search-last : (test : Placed → Bool) (r : List Placed) → Search test r (reverse r)
-search-last test [] = nowhere (λ j p s. (let there = s.there in cc)) refl refl
-search-last test (p ∷ r) = subst (λ (l : List Placed). Search test (p ∷ r) l) (sym (reverse-cons p r)) (by (test p) refl (search-last test r))
-  where
-    by : (b : Bool) → test p ≡ b → Search test r (reverse r) → Search test (p ∷ r) (reverse r ++ p ∷ [])
-    by true e s = search-hit test p r e
-    by false e s = search-miss test p r (reverse r) e s
+    by : First test r → Search test r
+    by (first p there passes found) =
+        let inside : at < length r = slice_get_within r at p there in
+        last (back r at) p
+        (record { fits = record { there = turned r at p there; passes = passes }; latest = λ k q s. (let later = no-later k q s in omega (arith, later.0, later.1)) })
+        (found, sym (sum-turned (λ q. q.size) (take at r)) ∙ ap sizes (sym (behind r at inside)))
+    by (missing past none) =
+        never (λ k q s. (let later = no-later k q s in omega (arith, later.0, later.1, past))) (none, ap sizes (take_all at r past) ∙ sym (sum-turned (λ q. q.size) r))
 
 -- the IF lines that enclose what follows
 
@@ -124,76 +130,45 @@ between-at (p ∷ r) (suc k) = slice_get-map (λ (s : List Placed × Placed). (p
     by None = refl
     by (Some q) = refl
 
-drop-turned : (r : List Placed) (k : ℕ) → k ≤ length r → drop (length r - k) (reverse r) ≡ reverse (take k r)
-drop-turned r k h =
-    let parts : reverse r ≡ reverse (drop k r) ++ reverse (take k r) = ap reverse (sym (take-append-drop k r)) ∙ reverse-append (take k r) (drop k r) in
-    let whole : length (take k r ++ drop k r) ≡ length r = ap length (take-append-drop k r) in
-    let long : length r - k ≡ length (reverse (drop k r)) = omega (arith, length-reverse (drop k r), Rattle.std.proofs.Common.length-drop k r) in
-    ap (drop (length r - k)) parts ∙ ap (λ n. drop n (reverse (drop k r) ++ reverse (take k r))) long ∙ drop-append_seam (reverse (drop k r)) (reverse (take k r))
-
-sum-turned : (f : Placed → ℕ) (xs : List Placed) → sum_by f (reverse xs) ≡ sum_by f xs
-sum-turned f xs = sum_by-IsPermutation f xs (reverse xs) (IsPermutation-reverse xs)
-
-counted : (test : Placed → Bool) (p : Placed) (b : List Placed) → count_by test (reverse b ++ p ∷ []) ≡ count_by test (p ∷ b)
-counted test p b = ap (count_by test) (sym (reverse-cons p b)) ∙ sum-turned (λ x. cond (test x) 1 0) (p ∷ b)
-
 abbrev Never : List Placed → Type 0
 Never xs = (n : ℕ) → count_by is_endif (take n xs) ≤ count_by is_if (take n xs)
 
+drops-from : (b : List Placed) → closes_no_more b ≡ true → (k : ℕ) → count_by is_endif (drop k b) ≤ count_by is_if (drop k b)
+drops-from [] h zero = omega arith
+drops-from [] h (suc k) = omega arith
+drops-from (p ∷ b) h zero = leb-true _ _ (and_parts _ _ h).0
+drops-from (p ∷ b) h (suc k) = drops-from b (and_parts _ _ h).1 k
+
+drops-to : (b : List Placed) → ((k : ℕ) → k ≤ length b → count_by is_endif (drop k b) ≤ count_by is_if (drop k b)) → closes_no_more b ≡ true
+drops-to [] h = refl
+drops-to (p ∷ b) h = rw (le-leb (count_by is_endif (p ∷ b)) (count_by is_if (p ∷ b)) (h 0 (omega arith)), drops-to b (λ k low. h (suc k) (omega arith))) refl
+
+turned-count : (test : Placed → Bool) (b : List Placed) (n k : ℕ) → k ≤ length b → n ≡ length b - k → count_by test (take n (reverse b)) ≡ count_by test (drop k b)
+turned-count test b n k low e = ap (λ m. count_by test (take m (reverse b))) e ∙ ap (count_by test) (halves b k low).0 ∙ sum-turned (λ x. cond (test x) 1 0) (drop k b)
+
 never-from : (b : List Placed) → closes_no_more b ≡ true → Never (reverse b)
-never-from [] h zero = omega arith
-never-from [] h (suc n) = omega arith
-never-from (p ∷ b) h n = rw (reverse-cons p b) (by (leb n (length (reverse b))) refl (and_parts (leb (count_by is_endif (p ∷ b)) (count_by is_if (p ∷ b))) (closes_no_more b) h) (λ c. never-from b c n))
-  where
-    by : (t : Bool) → leb n (length (reverse b)) ≡ t → (leb (count_by is_endif (p ∷ b)) (count_by is_if (p ∷ b)) ≡ true) × (closes_no_more b ≡ true)
-        → (closes_no_more b ≡ true → count_by is_endif (take n (reverse b)) ≤ count_by is_if (take n (reverse b))) → count_by is_endif (take n (reverse b ++ p ∷ [])) ≤ count_by is_if (take n (reverse b ++ p ∷ []))
-    by true e two rest = rw (take-append-le n (reverse b) (p ∷ []) (leb-true n (length (reverse b)) e)) (rest two.1)
-    by false e two rest =
-        let past : length (reverse b) < n = leb-false n (length (reverse b)) e in
-        let long : length (reverse b ++ p ∷ []) ≡ length (reverse b) + 1 = Rattle.std.proofs.Common.length-append (reverse b) (p ∷ []) in
-        let all : take n (reverse b ++ p ∷ []) ≡ reverse b ++ p ∷ [] = take_all n (reverse b ++ p ∷ []) (omega arith) in
-        rw (all, counted is_endif p b, counted is_if p b) (leb-true (count_by is_endif (p ∷ b)) (count_by is_if (p ∷ b)) two.0)
+never-from b h n = elim (cases_lt n (length b)) [
+  | inl less ↦ (let k : ℕ = length b - n in omega (arith, drops-from b h k, turned-count is_endif b n k (omega arith) (omega arith), turned-count is_if b n k (omega arith) (omega arith)))
+  | inr past ↦ rw (take_all n (reverse b) (omega (arith, length-reverse b)), sum-turned (λ x. cond (is_endif x) 1 0), sum-turned (λ x. cond (is_if x) 1 0)) (drops-from b h 0)
+]
 
 never-to : (b : List Placed) → Never (reverse b) → closes_no_more b ≡ true
-never-to [] h = refl
-never-to (p ∷ b) h = rw (le-leb (count_by is_endif (p ∷ b)) (count_by is_if (p ∷ b)) whole, never-to b (λ n. rest n (leb n (length (reverse b))) refl)) refl
-  where
-    here : Never (reverse b ++ p ∷ [])
-    here = subst Never (reverse-cons p b) h
-
-    whole : count_by is_endif (p ∷ b) ≤ count_by is_if (p ∷ b)
-    whole =
-        let all : take (length (reverse b ++ p ∷ [])) (reverse b ++ p ∷ []) ≡ reverse b ++ p ∷ [] = take_all (length (reverse b ++ p ∷ [])) (reverse b ++ p ∷ []) (omega arith) in
-        let k = here (length (reverse b ++ p ∷ [])) in
-        rw (sym (counted is_endif p b), sym (counted is_if p b)) (rw all at k)
-
-    first : (n : ℕ) → n ≤ length (reverse b) → count_by is_endif (take n (reverse b)) ≤ count_by is_if (take n (reverse b))
-    first n e = rw (sym (take-append-le n (reverse b) (p ∷ []) e)) (here n)
-
-    rest : (n : ℕ) (t : Bool) → leb n (length (reverse b)) ≡ t → count_by is_endif (take n (reverse b)) ≤ count_by is_if (take n (reverse b))
-    rest n true e = first n (leb-true n (length (reverse b)) e)
-    rest n false e =
-        let past : length (reverse b) < n = leb-false n (length (reverse b)) e in
-        let all : take n (reverse b) ≡ reverse b = take_all n (reverse b) (omega arith) in
-        let full : take (length (reverse b)) (reverse b) ≡ reverse b = take_all (length (reverse b)) (reverse b) (omega arith) in
-        rw all (rw full at (first (length (reverse b)) (omega arith)))
+never-to b h =
+    drops-to b (λ k low. (let n : ℕ = length b - k in omega (arith, h n, turned-count is_endif b n k low refl, turned-count is_if b n k low refl)))
 
 -- the opener with the lines between, at its place from the nearest line back
-abbrev back : List Placed → ℕ → ℕ
-back r k = length r - 1 - k
-
-pub to-between : (r : List Placed) (j : ℕ) (o : Placed) → Encloses (reverse r) j o
+to-between : (r : List Placed) (j : ℕ) (o : Placed) → Encloses (reverse r) j o
     → (slice_get (with_between r) (back r j) ≡ Some (take (back r j) r, o)) × (encloses (take (back r j) r, o) ≡ true)
 to-between r j o e =
     let there : slice_get r (back r j) ≡ Some o = turned-back r j o e.there in
     let within : j < length (reverse r) = slice_get_within (reverse r) j o e.there in
     let long : length (reverse r) ≡ length r = length-reverse r in
-    let after : j + 1 ≡ length r - back r j = omega arith in
-    let tail : drop (j + 1) (reverse r) ≡ reverse (take (back r j) r) = ap (λ n. drop n (reverse r)) after ∙ drop-turned r (back r j) (omega arith) in
+    let again : j ≡ back r (back r j) = omega arith in
+    let tail : drop (j + 1) (reverse r) ≡ reverse (take (back r j) r) = ap (λ n. drop (n + 1) (reverse r)) again ∙ behind r (back r j) (omega arith) in
     let open_still : closes_no_more (take (back r j) r) ≡ true = never-to (take (back r j) r) (subst Never tail e.stays_open) in
     (between-at r (back r j) ∙ ap (option_map (line_after (take (back r j) r))) there, rw (e.opens, open_still) refl)
 
-pub from-between : (r : List Placed) (k : ℕ) (s : List Placed × Placed) → slice_get (with_between r) k ≡ Some s → encloses s ≡ true → (k < length r) × Encloses (reverse r) (back r k) s.1
+from-between : (r : List Placed) (k : ℕ) (s : List Placed × Placed) → slice_get (with_between r) k ≡ Some s → encloses s ≡ true → (k < length r) × Encloses (reverse r) (back r k) s.1
 from-between r k s h e = by (slice_get r k) refl (sym (between-at r k) ∙ h)
   where
     by : (o : Option Placed) → slice_get r k ≡ o → option_map (line_after (take k r)) o ≡ Some s → (k < length r) × Encloses (reverse r) (back r k) s.1
@@ -204,182 +179,112 @@ from-between r k s h e = by (slice_get r k) refl (sym (between-at r k) ∙ h)
         let opener : p ≡ s.1 = ap (λ (t : List Placed × Placed). t.1) pair in
         let between : take k r ≡ s.0 = ap (λ (t : List Placed × Placed). t.0) pair in
         let two = and_parts (is_if s.1) (closes_no_more s.0) e in
-        let after : length r - k ≡ back r k + 1 = omega arith in
-        let tail : reverse s.0 ≡ drop (back r k + 1) (reverse r) = ap reverse (sym between) ∙ sym (drop-turned r k (omega arith)) ∙ ap (λ n. drop n (reverse r)) after in
+        let tail : reverse s.0 ≡ drop (back r k + 1) (reverse r) = ap reverse (sym between) ∙ sym (behind r k within) in
         let it : Encloses (reverse r) (back r k) s.1 = record { there = turned r k p there ∙ ap Some opener; opens = two.0; stays_open = subst Never tail (never-from s.0 two.1) } in
         (within, it)
 
--- the first of a list that passes, and what each that passes has
+-- the last one
 
 abbrev openers_in : List (List Placed × Placed) → List Placed
 openers_in xs = map (λ s. s.1) (filter encloses xs)
 
-data First (xs : List (List Placed × Placed)) : Type 0 where
-  first : (k : ℕ) (s : List Placed × Placed) → slice_get xs k ≡ Some s → encloses s ≡ true
-      → ((m : ℕ) (t : List Placed × Placed) → slice_get xs m ≡ Some t → encloses t ≡ true → k ≤ m) → first_of (openers_in xs) ≡ Some s.1 → First xs
-  missing : ((m : ℕ) (t : List Placed × Placed) → slice_get xs m ≡ Some t → encloses t ≡ true → ⊥) → first_of (openers_in xs) ≡ None → First xs
+first-opener : (xs : List (List Placed × Placed)) → first_of (openers_in xs) ≡ option_map (λ s. s.1) (find encloses xs)
+first-opener [] = refl
+first-opener (x ∷ xs) =
+    elim (encloses x) as (λ b. first_of (map (λ (s : List Placed × Placed). s.1) (cond b (x ∷ filter encloses xs) (filter encloses xs))) ≡ option_map (λ (s : List Placed × Placed). s.1) (cond b (Some x) (find encloses xs)))
+    [ true ↦ refl | false ↦ first-opener xs ]
 
-find-first : (xs : List (List Placed × Placed)) → First xs
-find-first [] = missing (λ m t h e. cc) refl
-find-first (x ∷ xs) = by (encloses x) refl (find-first xs)
-  where
-    by : (b : Bool) → encloses x ≡ b → First xs → First (x ∷ xs)
-    by true h f = first zero x refl h (λ m t there e. omega arith) (rw h refl)
-    by false h (first k s there e least is) = first (suc k) s there e later (rw h is)
-      where
-        later : (m : ℕ) (t : List Placed × Placed) → slice_get (x ∷ xs) m ≡ Some t → encloses t ≡ true → suc k ≤ m
-        later zero t at g = absurd (let same : x ≡ t = cc in let never : true ≡ false = sym g ∙ ap encloses (sym same) ∙ h in cc)
-        later (suc m) t at g = let low = least m t at g in omega arith
-    by false h (missing no_one is) = missing nowhere_else (rw h is)
-      where
-        nowhere_else : (m : ℕ) (t : List Placed × Placed) → slice_get (x ∷ xs) m ≡ Some t → encloses t ≡ true → ⊥
-        nowhere_else zero t at g = let same : x ≡ t = cc in let never : true ≡ false = sym g ∙ ap encloses (sym same) ∙ h in cc
-        nowhere_else (suc m) t at g = no_one m t at g
+abbrev Opener : List Placed → Type 0
+Opener r = Decided (Encloses (reverse r)) (λ j o. first_of (enclosing r) ≡ Some o) (first_of (enclosing r) ≡ None)
 
-pub data Opener (r : List Placed) : Type 0 where
-  opener : (j : ℕ) (o : Placed) → IsLast (Encloses (reverse r)) j o → first_of (enclosing r) ≡ Some o → Opener r
-  closed : ((j : ℕ) (o : Placed) → Encloses (reverse r) j o → ⊥) → first_of (enclosing r) ≡ None → Opener r
-
-pub last-opener : (r : List Placed) → Opener r
+last-opener : (r : List Placed) → Opener r
 unfolding enclosing
-last-opener r = by (find-first (with_between r))
+last-opener r = by (find-first encloses (with_between r))
   where
-    by : First (with_between r) → Opener r
-    by (first k s there e least is) =
-        let here = from-between r k s there e in
-        opener (back r k) s.1
-        (record {
-          fits = here.1;
-          latest = λ j o h. (let two = to-between r j o h in let low = least (back r j) (take (back r j) r, o) two.0 two.1 in let within = slice_get_within (reverse r) j o h.there in let long = length-reverse r in let inside = here.0 in omega arith);
-        }) is
-    by (missing no_one is) = closed (λ j o h. (let two = to-between r j o h in no_one (back r j) (take (back r j) r, o) two.0 two.1)) is
+    at : ℕ
+    at = position_or_len encloses (with_between r)
 
-each-from : (f : Placed → Bool) (xs : List (List Placed × Placed)) → list_all f (openers_in xs) ≡ true → (m : ℕ) (t : List Placed × Placed) → slice_get xs m ≡ Some t → encloses t ≡ true → f t.1 ≡ true
-each-from f [] h m t at g = cc
-each-from f (x ∷ xs) h zero t at g =
-    let same : x ≡ t = cc in
-    let now : encloses x ≡ true = ap encloses same ∙ g in
-    let two = and_parts (f x.1) (list_all f (openers_in xs)) (rw now at h) in
-    ap (λ (s : List Placed × Placed). f s.1) (sym same) ∙ two.0
-each-from f (x ∷ xs) h (suc m) t at g = each-from f xs (by (encloses x) refl h) m t at g
-  where
-    by : (b : Bool) → encloses x ≡ b → list_all f (openers_in (x ∷ xs)) ≡ true → list_all f (openers_in xs) ≡ true
-    by true e k = (and_parts (f x.1) (list_all f (openers_in xs)) (rw e at k)).1
-    by false e k = rw e at k
+    no-later : (j : ℕ) (o : Placed) → Encloses (reverse r) j o → (at ≤ back r j) × (back r j < length (with_between r)) × (j < length r)
+    no-later j o e =
+        let two = to-between r j o e in
+        (no-earlier encloses (with_between r) (back r j) _ two.0 two.1, slice_get_within (with_between r) (back r j) _ two.0, omega (arith, slice_get_within (reverse r) j o e.there, length-reverse r))
 
-each-to : (f : Placed → Bool) (xs : List (List Placed × Placed)) → ((m : ℕ) (t : List Placed × Placed) → slice_get xs m ≡ Some t → encloses t ≡ true → f t.1 ≡ true) → list_all f (openers_in xs) ≡ true
-each-to f [] h = refl
-each-to f (x ∷ xs) h = by (encloses x) refl (each-to f xs (λ m t. h (suc m) t))
-  where
-    by : (b : Bool) → encloses x ≡ b → list_all f (openers_in xs) ≡ true → list_all f (openers_in (x ∷ xs)) ≡ true
-    by true e k = let now : f x.1 ≡ true = h zero x refl e in rw (e, now) k
-    by false e k = rw e k
+    by : First encloses (with_between r) → Opener r
+    by (first s there e is) =
+        let here = from-between r at s there e in
+        last (back r at) s.1 (record { fits = here.1; latest = λ j o h. (let later = no-later j o h in omega (arith, later.0, later.2, here.0)) }) (first-opener (with_between r) ∙ ap (option_map (λ (t : List Placed × Placed). t.1)) is)
+    by (missing past is) = never (λ j o h. (let later = no-later j o h in omega (arith, later.0, later.1, past))) (first-opener (with_between r) ∙ ap (option_map (λ (t : List Placed × Placed). t.1)) is)
 
-pub all-enclosing : (f : Placed → Bool) (r : List Placed) → list_all f (enclosing r) ≡ true → (j : ℕ) (o : Placed) → Encloses (reverse r) j o → f o ≡ true
-unfolding enclosing
-all-enclosing f r h j o e = let two = to-between r j o e in each-from f (with_between r) h (back r j) (take (back r j) r, o) two.0 two.1
+-- one that passes, and all
 
-pub enclosing-all : (f : Placed → Bool) (r : List Placed) → ((j : ℕ) (o : Placed) → Encloses (reverse r) j o → f o ≡ true) → list_all f (enclosing r) ≡ true
-unfolding enclosing
-enclosing-all f r h = each-to f (with_between r) (λ m t at g. h (back r m) t.1 (from-between r m t at g).1)
+any-opener : (f : Placed → Bool) (xs : List (List Placed × Placed)) → list_any f (openers_in xs) ≡ list_any (λ s. encloses s && f s.1) xs
+any-opener f [] = refl
+any-opener f (x ∷ xs) =
+    elim (encloses x) as (λ b. list_any f (map (λ (s : List Placed × Placed). s.1) (cond b (x ∷ filter encloses xs) (filter encloses xs))) ≡ ((b && f x.1) || list_any (λ (s : List Placed × Placed). encloses s && f s.1) xs))
+    [ true ↦ ap (λ b. f x.1 || b) (any-opener f xs) | false ↦ any-opener f xs ]
 
-pub any-turned : (test : Placed → Bool) (r : List Placed) → list_any test (reverse r) ≡ list_any test r
-any-turned test r = sym (list_any-IsPermutation test r (reverse r) (IsPermutation-reverse r))
-
--- one that passes
-
-data Hit (f : Placed → Bool) (xs : List (List Placed × Placed)) : Type 0 where
-  hit : (m : ℕ) (t : List Placed × Placed) → slice_get xs m ≡ Some t → encloses t ≡ true → f t.1 ≡ true → Hit f xs
-
-later-hit : (f : Placed → Bool) (x : List Placed × Placed) (xs : List (List Placed × Placed)) → Hit f xs → Hit f (x ∷ xs)
-later-hit f x xs (hit m t at e g) = hit (suc m) t at e g
-
-any-hit : (f : Placed → Bool) (xs : List (List Placed × Placed)) → list_any f (openers_in xs) ≡ true → Hit f xs
-any-hit f [] h = cc
-any-hit f (x ∷ xs) h = by (encloses x) (f x.1) refl refl h (any-hit f xs)
-  where
-    by : (b c : Bool) → encloses x ≡ b → f x.1 ≡ c → list_any f (openers_in (x ∷ xs)) ≡ true → (list_any f (openers_in xs) ≡ true → Hit f xs) → Hit f (x ∷ xs)
-    by true true e g k rest = hit zero x refl e g
-    by true false e g k rest = later-hit f x xs (rest (rw (e, g) at k))
-    by false c e g k rest = later-hit f x xs (rest (rw e at k))
-
-hit-any : (f : Placed → Bool) (xs : List (List Placed × Placed)) (m : ℕ) (t : List Placed × Placed) → slice_get xs m ≡ Some t → encloses t ≡ true → f t.1 ≡ true → list_any f (openers_in xs) ≡ true
-hit-any f [] m t at e g = cc
-hit-any f (x ∷ xs) zero t at e g =
-    let same : x ≡ t = cc in
-    let now : encloses x ≡ true = ap encloses same ∙ e in
-    let passes : f x.1 ≡ true = ap (λ (s : List Placed × Placed). f s.1) same ∙ g in
-    rw (now, passes) refl
-hit-any f (x ∷ xs) (suc m) t at e g = by (encloses x) (f x.1) refl refl (hit-any f xs m t at e g)
-  where
-    by : (b c : Bool) → encloses x ≡ b → f x.1 ≡ c → list_any f (openers_in xs) ≡ true → list_any f (openers_in (x ∷ xs)) ≡ true
-    by true true k p rest = rw (k, p) refl
-    by true false k p rest = rw (k, p) rest
-    by false c k p rest = rw k rest
-
-pub data Enclosing (f : Placed → Bool) (r : List Placed) : Type 0 where
+data Enclosing (f : Placed → Bool) (r : List Placed) : Type 0 where
   one_encloses : (j : ℕ) (o : Placed) → Encloses (reverse r) j o → f o ≡ true → Enclosing f r
 
-pub any-enclosing : (f : Placed → Bool) (r : List Placed) → list_any f (enclosing r) ≡ true → Enclosing f r
+any-enclosing : (f : Placed → Bool) (r : List Placed) → list_any f (enclosing r) ≡ true → Enclosing f r
 unfolding enclosing
-any-enclosing f r h = by (any-hit f (with_between r) h)
-  where
-    by : Hit f (with_between r) → Enclosing f r
-    by (hit m t at e g) = one_encloses (back r m) t.1 (from-between r m t at e).1 g
+any-enclosing f r h =
+    let s = Any-from_list_any (λ (s : List Placed × Placed). encloses s && f s.1) (with_between r) (sym (any-opener f (with_between r)) ∙ h) in
+    let both = and_parts (encloses s.1) (f s.1.1) s.4 in
+    one_encloses (back r s.0) s.1.1 (from-between r s.0 s.1 (slice_get_read (with_between r) (length (with_between r)) s.0 s.1 refl s.2 (sym s.3)) both.0).1 both.1
 
-pub enclosing-any : (f : Placed → Bool) (r : List Placed) (j : ℕ) (o : Placed) → Encloses (reverse r) j o → f o ≡ true → list_any f (enclosing r) ≡ true
+enclosing-any : (f : Placed → Bool) (r : List Placed) (j : ℕ) (o : Placed) → Encloses (reverse r) j o → f o ≡ true → list_any f (enclosing r) ≡ true
 unfolding enclosing
-enclosing-any f r j o e g = let two = to-between r j o e in hit-any f (with_between r) (back r j) (take (back r j) r, o) two.0 two.1 g
+enclosing-any f r j o e g =
+    let two = to-between r j o e in
+    let s : List Placed × Placed = (take (back r j) r, o) in
+    any-opener f (with_between r)
+    ∙ list_any-from_Any (λ (t : List Placed × Placed). encloses t && f t.1) (with_between r)
+    (back r j, s, slice_get_within (with_between r) (back r j) s two.0, get_or_from_slice_get (with_between r) (back r j) s s two.0, and_from _ _ two.1 g)
+
+all-enclosing : (f : Placed → Bool) (r : List Placed) → list_all f (enclosing r) ≡ true → (j : ℕ) (o : Placed) → Encloses (reverse r) j o → f o ≡ true
+all-enclosing f r h j o e = true_from_ne_false (f o) (λ fails.
+    false≢true (sym (all-not f (enclosing r) ∙ ap not (enclosing-any (λ o. not (f o)) r j o e (ap not fails))) ∙ h))
+
+pub enclosing-all : (f : Placed → Bool) (r : List Placed) → ((j : ℕ) (o : Placed) → Encloses (reverse r) j o → f o ≡ true) → list_all f (enclosing r) ≡ true
+enclosing-all f r h = true_from_ne_false (list_all f (enclosing r)) (λ fails. by (any-enclosing (λ o. not (f o)) r (not-false _ (sym (all-not f (enclosing r)) ∙ fails))))
+  where
+    by : Enclosing (λ o. not (f o)) r → ⊥
+    by (one_encloses j o e fails) = false≢true (sym (not-true (f o) fails) ∙ h j o e)
+
+any-turned : (test : Placed → Bool) (r : List Placed) → list_any test (reverse r) ≡ list_any test r
+any-turned test r = sym (list_any-IsPermutation test r (reverse r) (IsPermutation-reverse r))
 
 -- What is placed line by line is what holds of the lines by place, and nothing else is.
 
 -- what the last such line gives
 
-data Decided (Fits : ℕ → Placed → Type 0) : Type 0 where
-  last : (j : ℕ) (p : Placed) → IsLast Fits j p → Decided Fits
-  never : ((j : ℕ) (p : Placed) → Fits j p → ⊥) → Decided Fits
-
-passing : (test : Placed → Bool) (r : List Placed) → Decided (Passes test (reverse r))
-passing test r = by (search-last test r)
-  where
-    by : Search test r (reverse r) → Decided (Passes test (reverse r))
-    by (found j p l there sum) = last j p l
-    by (nowhere none there sum) = never none
-
-enclosed : (r : List Placed) → Decided (Encloses (reverse r))
-enclosed r = by (last-opener r)
-  where
-    by : Opener r → Decided (Encloses (reverse r))
-    by (opener j o l is) = last j o l
-    by (closed none is) = never none
-
-one-of-last : {X : Type 0} (Fits : ℕ → Placed → Type 0) (gives : ℕ → Placed → X) (otherwise x y : X) → Decided Fits → IsFromLast Fits gives otherwise x → IsFromLast Fits gives otherwise y → x ≡ y
-one-of-last Fits gives otherwise x y (last j p l) a b = a.from_last j p l ∙ sym (b.from_last j p l)
-one-of-last Fits gives otherwise x y (never none) a b = a.from_none none ∙ sym (b.from_none none)
+one-of-last : {X : Type 0} {Fits Known : ℕ → Placed → Type 0} {Otherwise : Type 0} (gives : ℕ → Placed → X) (otherwise x y : X) → Decided Fits Known Otherwise → IsFromLast Fits gives otherwise x → IsFromLast Fits gives otherwise y → x ≡ y
+one-of-last gives otherwise x y (last j p l k) a b = a.from_last j p l ∙ sym (b.from_last j p l)
+one-of-last gives otherwise x y (never none k) a b = a.from_none none ∙ sym (b.from_none none)
 
 abbrev HasOne : (ℕ → Placed → Type 0) → Type 0
 HasOne Fits = (j : ℕ) (p q : Placed) → Fits j p → Fits j q → p ≡ q
 
-given-last : {X : Type 0} (Fits : ℕ → Placed → Type 0) (gives : ℕ → Placed → X) (otherwise x : X) → HasOne Fits → (j : ℕ) (p : Placed) → IsLast Fits j p → x ≡ gives j p → IsFromLast Fits gives otherwise x
-given-last Fits gives otherwise x one j p l e = record {
-  from_last = λ k q m.
-      (let at : j ≡ k = le_antisymm (m.latest j p l.fits) (l.latest k q m.fits) in
-      let same : p ≡ q = one k p q (subst (λ (n : ℕ). Fits n p) at l.fits) m.fits in
-      e ∙ ap (λ n. gives n p) at ∙ ap (gives k) same);
+from-decided : {X : Type 0} {Fits Known : ℕ → Placed → Type 0} {Otherwise : Type 0} (gives : ℕ → Placed → X) (otherwise x : X) → Decided Fits Known Otherwise → HasOne Fits
+    → ((j : ℕ) (p : Placed) → Known j p → x ≡ gives j p) → (Otherwise → x ≡ otherwise) → IsFromLast Fits gives otherwise x
+from-decided {Fits = Fits} gives otherwise x (last j p l k) one there nowhere = record {
+  from_last = λ i q m.
+      (let at : j ≡ i = le_antisymm (m.latest j p l.fits) (l.latest i q m.fits) in
+      let same : p ≡ q = one i p q (subst (λ (n : ℕ). Fits n p) at l.fits) m.fits in
+      there j p k ∙ ap (λ n. gives n p) at ∙ ap (gives i) same);
   from_none = λ none. absurd (none j p l.fits);
 }
-
-given-none : {X : Type 0} (Fits : ℕ → Placed → Type 0) (gives : ℕ → Placed → X) (otherwise x : X) → ((j : ℕ) (p : Placed) → Fits j p → ⊥) → x ≡ otherwise → IsFromLast Fits gives otherwise x
-given-none Fits gives otherwise x none e = record {
+from-decided gives otherwise x (never none k) one there nowhere = record {
   from_last = λ j p l. absurd (none j p l.fits);
-  from_none = λ any. e;
+  from_none = λ any. nowhere k;
 }
 
 one-passes : (test : Placed → Bool) (before : List Placed) → HasOne (Passes test before)
-one-passes test before j p q a b = same-there before j p q a.there b.there
+one-passes test before j p q a b = same_Some p q (sym a.there ∙ b.there)
 
 one-encloses : (before : List Placed) → HasOne (Encloses before)
-one-encloses before j p q a b = same-there before j p q a.there b.there
+one-encloses before j p q a b = same_Some p q (sym a.there ∙ b.there)
 
 -- the address, the alignment and the block
 
@@ -394,29 +299,18 @@ number_in j o = Some o.number
 
 pub address-of : (r : List Placed) → IsFromLast (Passes is_origin (reverse r)) (after_org (reverse r)) (IMAGE_START + sizes (reverse r)) (address r)
 unfolding address
-address-of r = by (search-last is_origin r)
-  where
-    by : Search is_origin r (reverse r) → IsFromLast (Passes is_origin (reverse r)) (after_org (reverse r)) (IMAGE_START + sizes (reverse r)) (address r)
-    by (found j p l there sum) = given-last (Passes is_origin (reverse r)) (after_org (reverse r)) _ _ (one-passes is_origin (reverse r)) j p l (rw (there, sum) refl)
-    by (nowhere none there sum) = given-none (Passes is_origin (reverse r)) (after_org (reverse r)) _ _ none (rw (there, sum) refl)
+address-of r =
+    from-decided (after_org (reverse r)) (IMAGE_START + sizes (reverse r)) (address r) (search-last is_origin r) (one-passes is_origin (reverse r)) (λ j p k. rw (k.0, k.1) refl) (λ k. rw (k.0, k.1) refl)
 
 aligning-of : (r : List Placed) → IsFromLast (Passes is_align (reverse r)) is_on true (is_aligning r)
 unfolding is_aligning
-aligning-of r = by (search-last is_align r)
-  where
-    by : Search is_align r (reverse r) → IsFromLast (Passes is_align (reverse r)) is_on true (is_aligning r)
-    by (found j p l there sum) = given-last (Passes is_align (reverse r)) is_on _ _ (one-passes is_align (reverse r)) j p l (rw there refl)
-    by (nowhere none there sum) = given-none (Passes is_align (reverse r)) is_on _ _ none (rw there refl)
+aligning-of r = from-decided is_on true (is_aligning r) (search-last is_align r) (one-passes is_align (reverse r)) (λ j p k. rw k.0 refl) (λ k. rw k.0 refl)
 
 abbrev block_in : List Placed → Option ℕ
 block_in r = option_map (λ o. o.number) (first_of (enclosing r))
 
 block-of : (r : List Placed) → IsFromLast (Encloses (reverse r)) number_in None (block_in r)
-block-of r = by (last-opener r)
-  where
-    by : Opener r → IsFromLast (Encloses (reverse r)) number_in None (block_in r)
-    by (opener j o l is) = given-last (Encloses (reverse r)) number_in _ _ (one-encloses (reverse r)) j o l (rw is refl)
-    by (closed none is) = given-none (Encloses (reverse r)) number_in _ _ none (rw is refl)
+block-of r = from-decided number_in None (block_in r) (last-opener r) (one-encloses (reverse r)) (λ j o is. rw is refl) (λ is. rw is refl)
 
 -- whether a line is active
 
@@ -431,38 +325,30 @@ else-turned r o = any-turned _ r
 holds-turned : (r : List Placed) (o : Placed) → holds (reverse r) o ≡ holds r o
 holds-turned r o = rw (else-turned r o) refl
 
+abbrev side_active : List Placed → Bool
+side_active r = option_map_or (λ o. o.active) (first_of (enclosing r)) true
+
 abbrev reached : List Placed → Bool → Bool
-reached r side = cond side (option_map_or (λ o. o.active) (first_of (enclosing r)) true) (list_all (holds r) (enclosing r))
+reached r side = cond side (side_active r) (list_all (holds r) (enclosing r))
 
-side-active : (r : List Placed) → option_map_or (λ o. o.active) (first_of (enclosing r)) true ≡ true → (j : ℕ) (o : Placed) → IsLast (Encloses (reverse r)) j o → o.active ≡ true
-side-active r h j o l = by (last-opener r)
-  where
-    by : Opener r → o.active ≡ true
-    by (opener k q m is) =
-        let at : j ≡ k = le_antisymm (m.latest j o l.fits) (l.latest k q m.fits) in
-        let same : o ≡ q = one-encloses (reverse r) k o q (subst (λ (n : ℕ). Encloses (reverse r) n o) at l.fits) m.fits in
-        ap (λ (p : Placed). p.active) same ∙ (rw is at h)
-    by (closed none is) = absurd (none j o l.fits)
+side-of : (r : List Placed) → IsFromLast (Encloses (reverse r)) (λ j o. o.active) true (side_active r)
+side-of r = from-decided (λ j o. o.active) true (side_active r) (last-opener r) (one-encloses (reverse r)) (λ j o is. rw is refl) (λ is. rw is refl)
 
-active-side : (r : List Placed) → ((j : ℕ) (o : Placed) → IsLast (Encloses (reverse r)) j o → o.active ≡ true) → option_map_or (λ o. o.active) (first_of (enclosing r)) true ≡ true
+active-side : (r : List Placed) → ((j : ℕ) (o : Placed) → IsLast (Encloses (reverse r)) j o → o.active ≡ true) → side_active r ≡ true
 active-side r h = by (last-opener r)
   where
-    by : Opener r → option_map_or (λ o. o.active) (first_of (enclosing r)) true ≡ true
-    by (opener j o l is) = rw is (h j o l)
-    by (closed none is) = rw is refl
+    by : Opener r → side_active r ≡ true
+    by (last j o l is) = rw is (h j o l)
+    by (never none is) = rw is refl
 
 active-from : (r : List Placed) (body : Body) (side : Bool) → is_side_or_end body ≡ side → (not (has_ended r) && reached r side) ≡ true → IsActive (reverse r) body
 active-from r body side e h = by side e (and_parts (not (has_ended r)) (reached r side) h).0 (and_parts (not (has_ended r)) (reached r side) h).1
   where
     open_yet : not (has_ended r) ≡ true → has_ended (reverse r) ≡ false
-    open_yet k = ended-turned r ∙ negated (has_ended r) k
-      where
-        negated : (b : Bool) → not b ≡ true → b ≡ false
-        negated true k = cc
-        negated false k = refl
+    open_yet k = ended-turned r ∙ not-true (has_ended r) k
 
     by : (s : Bool) → is_side_or_end body ≡ s → not (has_ended r) ≡ true → reached r s ≡ true → IsActive (reverse r) body
-    by true e k g = record { not_ended = open_yet k; side_or_end = λ is. side-active r g; other = λ is. absurd (let never : true ≡ false = sym e ∙ is in cc) }
+    by true e k g = record { not_ended = open_yet k; side_or_end = λ is j o l. sym ((side-of r).from_last j o l) ∙ g; other = λ is. absurd (let never : true ≡ false = sym e ∙ is in cc) }
     by false e k g = record {
       not_ended = open_yet k;
       side_or_end = λ is. absurd (let never : false ≡ true = sym e ∙ is in cc);
@@ -557,38 +443,20 @@ is-placed r line = record {
   size = refl;
 }
 
-same-parts : (number number2 : ℕ) (line line2 : Reading) (block block2 : Option ℕ) (condition condition2 active live2 : Bool) (here here2 : ℕ) (value value2 : ℤ) (fault fault2 : Option Fault) (size size2 : ℕ)
-    → number ≡ number2 → line ≡ line2 → block ≡ block2 → condition ≡ condition2 → active ≡ live2 → here ≡ here2 → value ≡ value2 → fault ≡ fault2 → size ≡ size2
-    → with_parts number line block condition active here value fault size ≡ with_parts number2 line2 block2 condition2 live2 here2 value2 fault2 size2
-same-parts number number2 line line2 block block2 condition condition2 active live2 here here2 value value2 fault fault2 size size2 a b c d e f g h i = rw (a, b, c, d, e, f, g, h, i) refl
-
-same-fault : (before : List Placed) (a b : Bool) (line line2 : Reading) (block block2 : Option ℕ) (active live2 : Bool) (here here2 : ℕ) (value value2 : ℤ)
-    → a ≡ b → line ≡ line2 → block ≡ block2 → active ≡ live2 → here ≡ here2 → value ≡ value2
-    → cond active (first_fault_of (looked_for before a line block here value)) None ≡ cond live2 (first_fault_of (looked_for before b line2 block2 here2 value2)) None
-same-fault before a b line line2 block block2 active live2 here here2 value value2 e f g h i j =
-    let same : looked_for before a line block here value ≡ looked_for before b line2 block2 here2 value2 = rw (e, f, g, i, j) refl in
-    ap (λ faults. cond active (first_fault_of faults) None) same
-    ∙ ap (λ l. cond l (first_fault_of (looked_for before b line2 block2 here2 value2)) None) h
-
-same-size : (a b active live2 : Bool) (fault fault2 : Option Fault) (here here2 : ℕ) (body : Body) (value value2 : ℤ) → a ≡ b → active ≡ live2 → fault ≡ fault2 → here ≡ here2 → value ≡ value2
-    → (let size : ℕ = cond (active && is_none fault) (full_size a here body value) 0 in size) ≡ cond (live2 && is_none fault2) (full_size b here2 body value2) 0
-same-size a b active live2 fault fault2 here here2 body value value2 e f g h i = rw (e, f, g, h, i) refl
-
 only-this : (r : List Placed) (line : Reading) (p : Placed) → IsPlaced (reverse r) line p → p ≡ place r line
 unfolding place symbols
 only-this r line p h =
     let body : Body = body_of line in
-    let aligned : h.aligning ≡ is_aligning r = one-of-last (Passes is_align (reverse r)) is_on true h.aligning (is_aligning r) (passing is_align r) h.is_aligning (aligning-of r) in
-    let block : p.block ≡ block_in r = one-of-last (Encloses (reverse r)) number_in None p.block (block_in r) (enclosed r) h.block (block-of r) in
-    let here : p.here ≡ address r = one-of-last (Passes is_origin (reverse r)) (after_org (reverse r)) (IMAGE_START + sizes (reverse r)) p.here (address r) (passing is_origin r) h.here (address-of r) in
-    let active : p.active ≡ is_active r (body_of line) = one_answer p.active (is_active r (body_of line)) h.active (active-decides r (body_of line)) in
-    let fault : p.fault ≡ cond (is_active r (body_of line)) (first_fault r line) None
-    = h.fault
-    ∙ same-fault (reverse r) h.aligning (is_aligning r) p.line line p.block (block_in r) p.active (is_active r (body_of line)) p.here (address r) p.value (value_or_zero (value_at (symbols r) (body_of line))) aligned h.is_line block active here h.value
-    ∙ ap (λ fault. cond (is_active r (body_of line)) fault None) (fault-same r line) in
-    same-parts _ _ _ _ _ _ _ _ _ _ _ _ _ _ _ _ _ _
-    (h.number ∙ ap (λ n. n + 1) (length-reverse r)) h.is_line block h.condition active here h.value fault
-    (h.size ∙ same-size h.aligning (is_aligning r) p.active (is_active r (body_of line)) p.fault (cond (is_active r (body_of line)) (first_fault r line) None) p.here (address r) (body_of line) p.value (value_or_zero (value_at (symbols r) (body_of line))) aligned active fault here h.value)
+    let aligned : h.aligning ≡ is_aligning r = one-of-last is_on true h.aligning (is_aligning r) (search-last is_align r) h.is_aligning (aligning-of r) in
+    let block : p.block ≡ block_in r = one-of-last number_in None p.block (block_in r) (last-opener r) h.block (block-of r) in
+    let here : p.here ≡ address r = one-of-last (after_org (reverse r)) (IMAGE_START + sizes (reverse r)) p.here (address r) (search-last is_origin r) h.here (address-of r) in
+    let active : p.active ≡ is_active r body = one_answer p.active (is_active r body) h.active (active-decides r body) in
+    let fault : p.fault ≡ cond (is_active r body) (first_fault r line) None
+    = h.fault ∙ (λ i. cond (active i) (first_fault_of (looked_for (reverse r) (aligned i) (h.is_line i) (block i) (here i) (h.value i))) None) ∙ ap (λ fault. cond (is_active r body) fault None) (fault-same r line) in
+    let number : p.number ≡ length r + 1 = h.number ∙ ap (λ n. n + 1) (length-reverse r) in
+    let size : p.size ≡ cond (is_active r body && is_none (cond (is_active r body) (first_fault r line) None)) (full_size (is_aligning r) (address r) body (value_or_zero (value_at (symbols r) body))) 0
+    = h.size ∙ (λ i. cond (active i && is_none (fault i)) (full_size (aligned i) (here i) body (h.value i)) 0) in
+    λ i. with_parts (number i) (h.is_line i) (block i) (h.condition i) (active i) (here i) (h.value i) (fault i) (size i)
 
 -- all lines
 
@@ -676,33 +544,36 @@ number-at lines i p there = by (slice_get lines i) refl (agree lines)
 abbrev has_number : ℕ → Placed → Bool
 has_number n o = eqb o.number n
 
-same-place : (lines : List Reading) (i : ℕ) (p : Placed) → slice_get (reverse (placed lines)) i ≡ Some p → Enclosing (has_number p.number) (placed lines) → Encloses (reverse (placed lines)) i p
-same-place lines i p there (one_encloses j o e g) =
-    let same : o.number ≡ p.number = eqb-true o.number p.number g in
-    let at : j ≡ i = omega (arith, same, number-at lines j o e.there, number-at lines i p there) in
-    let moved : Encloses (reverse (placed lines)) i o = subst (λ (n : ℕ). Encloses (reverse (placed lines)) n o) at e in
-    subst (Encloses (reverse (placed lines)) i) (same-there (reverse (placed lines)) i o p moved.there there) moved
+-- an enclosing line with the number of a place is the one there
+opener-at : (lines : List Reading) (i : ℕ) (p : Placed) (f : Placed → Bool) → slice_get (reverse (placed lines)) i ≡ Some p → ((o : Placed) → f o ≡ true → o.number ≡ i + 1) → list_any f (enclosing (placed lines)) ≡ true
+    → Encloses (reverse (placed lines)) i p × (f p ≡ true)
+opener-at lines i p f there numbered h = by (any-enclosing f (placed lines) h)
+  where
+    by : Enclosing f (placed lines) → Encloses (reverse (placed lines)) i p × (f p ≡ true)
+    by (one_encloses j o e g) =
+        let at : j ≡ i = omega (arith, numbered o g, number-at lines j o e.there) in
+        let moved : Encloses (reverse (placed lines)) i o = subst (λ (n : ℕ). Encloses (reverse (placed lines)) n o) at e in
+        let same : o ≡ p = same_Some o p (sym moved.there ∙ there) in
+        (subst (Encloses (reverse (placed lines)) i) same moved, ap f (sym same) ∙ g)
 
 unclosed-from : (lines : List Reading) (i : ℕ) (p : Placed) → slice_get (reverse (placed lines)) i ≡ Some p → is_unclosed (placed lines) p ≡ true → IsUnclosed (reverse (placed lines)) i p
 unclosed-from lines i p there h =
     let two = and_parts (is_if p && p.active && not (has_ended (placed lines))) (list_any (has_number p.number) (enclosing (placed lines))) h in
     let more = and_parts (is_if p && p.active) (not (has_ended (placed lines))) two.0 in
-    let first = and_parts (is_if p) p.active more.0 in
     record {
-      encloses = same-place lines i p there (any-enclosing (has_number p.number) (placed lines) two.1);
-      active = first.1;
-      not_ended = ended-turned (placed lines) ∙ negated (has_ended (placed lines)) more.1;
+      encloses = (opener-at lines i p (has_number p.number) there (λ o g. eqb-true o.number p.number g ∙ number-at lines i p there) two.1).0;
+      active = (and_parts (is_if p) p.active more.0).1;
+      not_ended = ended-turned (placed lines) ∙ not-true (has_ended (placed lines)) more.1;
     }
-  where
-    negated : (b : Bool) → not b ≡ true → b ≡ false
-    negated true k = cc
-    negated false k = refl
+
+-- no END came, and some enclosing line passes
+any-open : (lines : List Reading) (i : ℕ) (p : Placed) (f : Placed → Bool) → IsUnclosed (reverse (placed lines)) i p → f p ≡ true → (not (has_ended (placed lines)) && list_any f (enclosing (placed lines))) ≡ true
+any-open lines i p f u h = and_from _ _ (ap not (sym (ended-turned (placed lines)) ∙ u.not_ended)) (enclosing-any f (placed lines) i p u.encloses h)
 
 unclosed-to : (lines : List Reading) (i : ℕ) (p : Placed) → IsUnclosed (reverse (placed lines)) i p → is_unclosed (placed lines) p ≡ true
 unclosed-to lines i p u =
-    let yet : has_ended (placed lines) ≡ false = sym (ended-turned (placed lines)) ∙ u.not_ended in
-    let any : list_any (has_number p.number) (enclosing (placed lines)) ≡ true = enclosing-any (has_number p.number) (placed lines) i p u.encloses (eq-eqb p.number p.number refl) in
-    rw (u.encloses.opens, u.active, yet, any) refl
+    let both = and_parts (not (has_ended (placed lines))) (list_any (has_number p.number) (enclosing (placed lines))) (any-open lines i p (has_number p.number) u (eq-eqb p.number p.number refl)) in
+    rw (u.encloses.opens, u.active, both.0, both.1) refl
 
 pub unclosed : (lines : List Reading) (i : ℕ) (p : Placed) → slice_get (reverse (placed lines)) i ≡ Some p → Decides (is_unclosed (placed lines) p) (IsUnclosed (reverse (placed lines)) i p)
 unclosed lines i p there = (unclosed-from lines i p there, unclosed-to lines i p)
@@ -713,32 +584,13 @@ opens_at place o = o.active && nat_eq o.number (place + 1)
 
 -- an IF without ENDIF is an active one whose block is open at the end
 pub open-at : (lines : List Reading) (i : ℕ) (p : Placed) → slice_get (reverse (placed lines)) i ≡ Some p → (not (has_ended (placed lines)) && list_any (opens_at i) (enclosing (placed lines))) ≡ is_unclosed (placed lines) p
-open-at lines i p there = by (not (has_ended (placed lines)) && list_any (opens_at i) (enclosing (placed lines))) (is_unclosed (placed lines) p) refl refl
+open-at lines i p there = one_answer (not (has_ended (placed lines)) && list_any (opens_at i) (enclosing (placed lines))) (is_unclosed (placed lines) p) (from, to) (unclosed lines i p there)
   where
-    negated : (b : Bool) → not b ≡ true → b ≡ false
-    negated true k = cc
-    negated false k = refl
+    from : (not (has_ended (placed lines)) && list_any (opens_at i) (enclosing (placed lines))) ≡ true → IsUnclosed (reverse (placed lines)) i p
+    from h =
+        let two = and_parts (not (has_ended (placed lines))) (list_any (opens_at i) (enclosing (placed lines))) h in
+        let here = opener-at lines i p (opens_at i) there (λ o g. eqb-true o.number (i + 1) (and_parts o.active (nat_eq o.number (i + 1)) g).1) two.1 in
+        record { encloses = here.0; active = (and_parts p.active _ here.1).0; not_ended = ended-turned (placed lines) ∙ not-true (has_ended (placed lines)) two.0 }
 
-    found : Enclosing (opens_at i) (placed lines) → not (has_ended (placed lines)) ≡ true → is_unclosed (placed lines) p ≡ true
-    found (one_encloses j o e g) yet =
-        let two = and_parts o.active (nat_eq o.number (i + 1)) g in
-        let at : j ≡ i = omega (arith, eqb-true o.number (i + 1) two.1, number-at lines j o e.there) in
-        let moved : Encloses (reverse (placed lines)) i o = subst (λ (n : ℕ). Encloses (reverse (placed lines)) n o) at e in
-        let same : o ≡ p = same-there (reverse (placed lines)) i o p moved.there there in
-        unclosed-to lines i p (record {
-          encloses = subst (Encloses (reverse (placed lines)) i) same moved;
-          active = ap (λ (q : Placed). q.active) (sym same) ∙ two.0;
-          not_ended = ended-turned (placed lines) ∙ negated (has_ended (placed lines)) yet;
-        })
-
-    by : (a u : Bool) → (not (has_ended (placed lines)) && list_any (opens_at i) (enclosing (placed lines))) ≡ a → is_unclosed (placed lines) p ≡ u → a ≡ u
-    by true true e h = refl
-    by false false e h = refl
-    by true false e h = let two = and_parts (not (has_ended (placed lines))) (list_any (opens_at i) (enclosing (placed lines))) e in sym (found (any-enclosing (opens_at i) (placed lines) two.1) two.0) ∙ h
-    by false true e h =
-        let is = unclosed-from lines i p there h in
-        let any : list_any (opens_at i) (enclosing (placed lines)) ≡ true
-        = enclosing-any (opens_at i) (placed lines) i p is.encloses (rw is.active (eq-eqb p.number (i + 1) (number-at lines i p there))) in
-        let yet : has_ended (placed lines) ≡ false = sym (ended-turned (placed lines)) ∙ is.not_ended in
-        let none : true ≡ false = (rw (yet, any) refl) ∙ e in
-        cc
+    to : IsUnclosed (reverse (placed lines)) i p → (not (has_ended (placed lines)) && list_any (opens_at i) (enclosing (placed lines))) ≡ true
+    to u = any-open lines i p (opens_at i) u (and_from _ _ u.active (eq-eqb p.number (i + 1) (number-at lines i p there)))

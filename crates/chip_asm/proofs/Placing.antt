@@ -1,15 +1,14 @@
 -- Lists of lines, what is placed of them, and what one line more does.
-use Rattle.std.proofs.Common.{◌≡◌, ◌+◌, List, [], ◌∷◌, ◌++◌, length, reverse, fold, refl, ap, ◌∙◌, arith, option_map, ℕ, suc, Bool, true, false, cond, not, ◌&&◌, ◌||◌, take, Option, Some, None, option_to_list, filter_map, find, unsigned_abs, if◌then◌else◌}
-use Rattle.std.proofs.lemmas.List.{length-reverse}
+use Rattle.std.proofs.Common.{◌≡◌, ◌+◌, List, [], ◌∷◌, ◌++◌, length, reverse, fold, refl, ap, ◌∙◌, arith, option_map, ℕ, suc, Bool, true, false, cond, ◌&&◌, ◌||◌, take, Option, Some, None, option_to_list, filter_map, unsigned_abs, if◌then◌else◌}
+use Rattle.std.proofs.lemmas.Bool.{and_right}
+use Rattle.std.specs.List.{cons_option}
+use Rattle.std.proofs.lemmas.List.{append-nil, length-reverse}
 use Rattle.chip_lang.specs.Line.{Reading, Body, align}
-use Rattle.chip_asm.specs.Layout.{Placed, first_of, is_end_body, body_of, takes_effect, is_origin, is_align, is_align_body, is_align_off_body, has_ended, symbol_of, condition_of, value_at, value_or_zero, full_size}
+use Rattle.chip_asm.specs.Layout.{Placed, first_of, is_end_body, body_of, takes_effect, is_origin, is_align_body, has_ended, symbol_of, condition_of, value_at, value_or_zero, full_size}
 use Rattle.chip_asm.specs.computed.Walk.{place, placed, address, is_aligning, symbols, is_active, first_fault, enclosing}
 use Rattle.chip_asm.proofs.OpenBlocks.{enclosing-open, IsNumbered}
-use Rattle.std.specs.Option.{option_map_or}
 use Rattle.std.proofs.lemmas.List.Sums.{sum_by-cons}
 use Rattle.std.proofs.lemmas.List.Elements.{filter_map-append}
-use Rattle.chip_symbols.specs.Names.{Name}
-use Rattle.chip_symbols.specs.declared.table.Symbol.{Symbol}
 use Rattle.chip_asm.specs.inner.Placements.{next_aligning}
 use Rattle.chip_asm.proofs.BlockSteps.{reverse-cons}
 
@@ -50,13 +49,17 @@ pub numbered-place : (before : List Placed) (line : Reading) → IsNumbered befo
 unfolding place
 numbered-place before line n = (refl, ap (λ os. option_map (λ (o : Placed). o.number) (first_of os)) (enclosing-open before), n)
 
-numbered-fold : (before : List Placed) (lines : List Reading) → IsNumbered before → IsNumbered (fold onto before lines)
-numbered-fold before [] n = n
-numbered-fold before (line ∷ lines) n = numbered-fold (onto before line) lines (numbered-place before line n)
+-- what holds of no lines, and of one line more where it holds of those before
+fold-keeps : (P : List Placed → Type 0) → ((before : List Placed) (line : Reading) → P before → P (onto before line)) → (before : List Placed) (lines : List Reading) → P before → P (fold onto before lines)
+fold-keeps P step before [] h = h
+fold-keeps P step before (line ∷ lines) h = fold-keeps P step (onto before line) lines (step before line h)
+
+pub placed-keeps : (P : List Placed → Type 0) → ((before : List Placed) (line : Reading) → P before → P (onto before line)) → P [] → (lines : List Reading) → P (placed lines)
+unfolding placed
+placed-keeps P step none lines = fold-keeps P step [] lines none
 
 pub numbered : (lines : List Reading) → IsNumbered (placed lines)
-unfolding placed
-numbered lines = numbered-fold [] lines tt
+numbered lines = placed-keeps IsNumbered numbered-place tt lines
 
 pub numbered-next : (lines : List Reading) (line : Reading) → IsNumbered (place (placed lines) line ∷ placed lines)
 numbered-next lines line = numbered-place (placed lines) line (numbered lines)
@@ -90,21 +93,18 @@ pub has_ended-cons : (p : Placed) (before : List Placed) → has_ended (p ∷ be
 unfolding has_ended
 has_ended-cons p before = refl
 
+pub cons-option : {X : Type 0} (o : Option X) (xs : List X) → cons_option o xs ≡ option_to_list o ++ xs
+cons-option None xs = refl
+cons-option (Some x) xs = refl
+
 pub symbols-cons : (p : Placed) (before : List Placed) → symbols (p ∷ before) ≡ symbols before ++ option_to_list (symbol_of p)
 unfolding symbols
-symbols-cons p before = ap (filter_map symbol_of) (reverse-cons p before) ∙ filter_map-append symbol_of (reverse before) (p ∷ []) ∙ ap (λ l. symbols before ++ l) (one (symbol_of p))
-  where
-    one : (o : Option (Name × Symbol)) → Rattle.std.specs.List.cons_option o [] ≡ option_to_list o
-    one None = refl
-    one (Some x) = refl
+symbols-cons p before =
+    ap (filter_map symbol_of) (reverse-cons p before) ∙ filter_map-append symbol_of (reverse before) (p ∷ []) ∙ ap (λ l. symbols before ++ l) (cons-option (symbol_of p) [] ∙ append-nil (option_to_list (symbol_of p)))
 
 not_align : (p : Placed) (b : Body) (before : List Placed) → body_of p.line ≡ b → is_align_body b ≡ false → is_aligning (p ∷ before) ≡ is_aligning before
 unfolding is_aligning
-not_align p b before e h = rw (e, h) (elsewhere (takes_effect p))
-  where
-    elsewhere : (a : Bool) → option_map_or (λ q. not (is_align_off_body (body_of q.line))) (cond (a && false) (Some p) (find is_align before)) true ≡ option_map_or (λ q. not (is_align_off_body (body_of q.line))) (find is_align before) true
-    elsewhere true = refl
-    elsewhere false = refl
+not_align p b before e h = rw (e, h, and_right (takes_effect p) false refl) refl
 
 aligning_by : (p : Placed) (before : List Placed) (b : Body) (a : Bool) → body_of p.line ≡ b → takes_effect p ≡ a → is_aligning (p ∷ before) ≡ next_aligning a (is_aligning before) b
 unfolding is_aligning

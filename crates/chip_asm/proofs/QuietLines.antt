@@ -1,10 +1,9 @@
 -- Lines of which the first pass asks only the size and the name.
-use Rattle.std.proofs.Common.{◌≡◌, ℕ, suc, ◌+◌, ℤ, pos, Bool, true, false, cond, ◌&&◌, ◌||◌, nat_lt, is_none, List, [], ◌∷◌, ◌++◌, length, refl, ap, sym, ◌∙◌, Option, Some, None, option_map, option_to_list, Ok, if◌then◌else◌, unsigned_abs, ◌<◌, ◌≤◌, get_or, subst, reverse, IfSome}
+use Rattle.std.proofs.Common.{◌≡◌, ℕ, suc, ◌+◌, ℤ, pos, Bool, true, false, cond, ◌&&◌, ◌||◌, nat_lt, List, [], ◌∷◌, ◌++◌, length, refl, ap, sym, ◌∙◌, Option, Some, None, option_map, option_to_list, Ok, if◌then◌else◌, unsigned_abs, ◌<◌, ◌≤◌, get_or, subst, reverse, IfSome}
 use Rattle.std.specs.List.{list_all}
 use Rattle.std.specs.Option.{option_map_or}
-use Rattle.std.proofs.lemmas.Bool.{false≢true, le-ltb}
+use Rattle.std.proofs.lemmas.Bool.{and_right, false≢true, le-ltb}
 use Rattle.chip_lang.specs.declared.limits.TheConstants.{MEMORY_BYTES}
-use Rattle.chip_lang.specs.declared.fault.Fault.{Fault}
 use Rattle.chip_lang.specs.declared.fault.Fault.TheVariants.{DefinedTwice, PastMemory}
 use Rattle.chip_lang.specs.Line.{Body, empty, db, dw, da, code, else_line, endif, options, used, xref, Reading, bad, read}
 use Rattle.chip_symbols.specs.Names.{Name, is_redefinition}
@@ -13,10 +12,10 @@ use Rattle.chip_asm.specs.declared.block.Block.{Block}
 use Rattle.chip_asm.specs.inner.Blocks.{moved}
 use Rattle.chip_asm.specs.inner.Infos.{is_plain, is_plain_line, AreAlike, AreInfos, IsInfo, IsNumberOf, IsPlain}
 use Rattle.chip_asm.specs.inner.Placements.{next_aligning, Follows, placement_of, Found}
-use Rattle.chip_asm.specs.Layout.{Placed, body_of, is_if_body, is_else_body, is_endif_body, is_end_body, is_org_body, is_if, is_else, is_endif, takes_effect, is_origin, symbol_of, value_given, condition_of, value_at, value_or_zero, full_size, has_ended, has_else, holds, first_of, symbol_given}
+use Rattle.chip_asm.specs.Layout.{Placed, body_of, is_if_body, is_else_body, is_endif_body, is_end_body, is_org_body, is_if, is_else, is_endif, takes_effect, is_origin, symbol_of, value_given, condition_of, value_at, full_size, has_ended, has_else, holds, first_of, symbol_given}
 use Rattle.chip_asm.specs.computed.Walk.{place, first_fault, fault_of_value, is_misplaced, is_active, enclosing, symbols, address, is_aligning, placed}
 use Rattle.chip_asm.proofs.OpenBlocks.{open_blocks, enclosing-open}
-use Rattle.chip_asm.proofs.Placing.{address-cons, aligning-cons, has_ended-cons, symbols-cons, parts}
+use Rattle.chip_asm.proofs.Placing.{address-cons, aligning-cons, has_ended-cons, symbols-cons}
 use Rattle.chip_asm.specs.declared.pass.Pass.{Pass}
 use Rattle.chip_symbols.specs.declared.table.NameId.{NameId}
 use Rattle.chip_asm.specs.inner.KeptLine.{KeptLine}
@@ -59,16 +58,6 @@ plain _ h = absurd (false≢true h)
 
 -- lines
 
--- a placed line, by its parts
-pub place-at : (before : List Placed) (line : Reading) (number : ℕ) (block : Option ℕ) (condition active : Bool) (here : ℕ) (value : ℤ) (fault : Option Fault) (size : ℕ)
-    → number ≡ length before + 1 → block ≡ option_map (λ o. o.number) (first_of (enclosing before)) → condition ≡ condition_of (symbols before) (body_of line)
-    → active ≡ is_active before (body_of line) → here ≡ address before → value ≡ value_or_zero (value_at (symbols before) (body_of line))
-    → fault ≡ (if active then first_fault before line else None)
-    → size ≡ (if active && is_none fault then full_size (is_aligning before) here (body_of line) value else 0)
-    → (let made : Placed = record { number = number; line = line; block = block; condition = condition; active = active; here = here; value = value; fault = fault; size = size } in made ≡ place before line)
-unfolding place
-place-at before line number block condition active here value fault size n b c l h v f s = rw (s, f, v, h, l, c, b, n) refl
-
 -- the same line with another text
 abbrev pub with_line : Placed → Reading → Placed
 with_line p line = record p { line = line }
@@ -94,18 +83,11 @@ first-same before (read l b) (read m c) a =
 
 -- it stands where the other one stood
 pub place-swapped : (before : List Placed) (old new : Reading) → AreAlike old new → place before new ≡ with_line (place before old) new
+unfolding place
 place-swapped before old new e =
-    let p = parts before old in
     let a = plain-line old e.was_plain in
     let b = plain-line new e.now_plain in
-    let no_value : (place before old).value ≡ pos 0 = p.value ∙ ap value_or_zero (a.value (symbols before)) in
-    sym
-    (place-at before new (place before old).number (place before old).block (place before old).condition (place before old).active (place before old).here (place before old).value (place before old).fault
-    (place before old).size p.number p.block (p.condition ∙ a.condition (symbols before) ∙ sym (b.condition (symbols before))) (p.active ∙ active-plain before (body_of old) (body_of new) a b) p.here
-    (no_value ∙ sym (ap value_or_zero (b.value (symbols before))))
-    (p.fault ∙ ap (λ f. cond (place before old).active f None) (first-same before old new e))
-    (p.size
-    ∙ (rw no_value (ap (λ n. cond (takes_effect (place before old)) n 0) (full-same (is_aligning before) (place before old).here old new e)))))
+    rw (a.condition (symbols before), b.condition (symbols before), a.value (symbols before), b.value (symbols before), active-plain before (body_of old) (body_of new) a b, first-same before old new e, full-same (is_aligning before) (address before) old new e) refl
 
 -- what lists of lines before have to share, so that the same lines may follow
 pub record Same (xs ys : List Placed) : Type 0 where
@@ -142,15 +124,7 @@ first-after xs ys (read label b) s = rw (misplaced-same xs ys b s, s.names, s.al
 pub place-same : (xs ys : List Placed) (line : Reading) → Same xs ys → place xs line ≡ place ys line
 unfolding place
 place-same xs ys line s =
-    let p = parts ys line in
-    let q = parts xs line in
-    let active : (place xs line).active ≡ is_active ys (body_of line) = q.active ∙ active-same xs ys (body_of line) s in
-    place-at ys line (place xs line).number (place xs line).block (place xs line).condition (place xs line).active (place xs line).here (place xs line).value (place xs line).fault (place xs line).size
-    (q.number ∙ ap (λ n. n + 1) s.count) (q.block ∙ ap (λ os. option_map (λ (o : Placed). o.number) (first_of os)) s.open_ifs)
-    (q.condition ∙ ap (λ names. condition_of names (body_of line)) s.names) active (q.here ∙ s.at)
-    (q.value ∙ ap (λ names. value_or_zero (value_at names (body_of line))) s.names)
-    (q.fault ∙ ap (λ f. cond (place xs line).active f None) (first-after xs ys line s))
-    (q.size ∙ ap (λ a. cond (takes_effect (place xs line)) (full_size a (place xs line).here (body_of line) (place xs line).value) 0) s.aligned)
+    rw (active-same xs ys (body_of line) s, first-after xs ys line s, s.count, s.open_ifs, s.names, s.at, s.aligned) refl
 
 open-same : (p : Placed) (xs ys : List Placed) → enclosing xs ≡ enclosing ys → enclosing (p ∷ xs) ≡ enclosing (p ∷ ys)
 open-same p xs ys e =
@@ -182,10 +156,6 @@ pub record Quiet (p : Placed) : Type 0 where
   pub no_end : (p.active && is_end_body (body_of p.line)) ≡ false
   pub no_align : (aligning : Bool) → next_aligning (takes_effect p) aligning (body_of p.line) ≡ aligning
 
-and_never : (a : Bool) → (a && false) ≡ false
-and_never true = refl
-and_never false = refl
-
 quiet : (p : Placed) → is_plain_line p.line ≡ true → Quiet p
 quiet p h =
     let q = plain-line p.line h in
@@ -193,8 +163,8 @@ quiet p h =
       no_if = q.no_if;
       no_else = q.no_else;
       no_endif = q.no_endif;
-      no_origin = ap (λ b. takes_effect p && b) q.no_org ∙ and_never (takes_effect p);
-      no_end = ap (λ b. p.active && b) q.no_end ∙ and_never p.active;
+      no_origin = and_right (takes_effect p) _ q.no_org;
+      no_end = and_right p.active _ q.no_end;
       no_align = λ a. q.no_align (takes_effect p) a;
     }
 
@@ -254,9 +224,9 @@ passed-plain pass names lines (bad fault) at size defines active same f is b fit
 passed-plain pass names lines (read name body) at size defines active same f is b fits new given_now = (
   found_now,
   follows-push pass (record pass { here = pass.here + size; within = fits; names = names }) lines line (at + 1) q (ap (λ n. n + 1) is) f found_now (record {
-    at_address = rw e.no_org (no-jump (q.active && true));
+    at_address = ap (λ b. cond b (unsigned_abs (pos 0)) (pass.here + size)) (sym (and_right (q.active && true) _ e.no_org));
     aligning = sym (e.no_align (q.active && true) pass.aligning);
-    ended = rw e.no_end (no-end q.active);
+    ended = ap (λ b. b || pass.ended) (sym (and_right q.active _ e.no_end));
     names = given_now ∙ ap (λ s. pass.names.symbols ++ option_to_list s) (adds active b.named);
     open_blocks = λ nearest opened. opened ∙ ap reverse (e.stays _ nearest);
     active = λ nearest opened nested. f.active;
@@ -274,14 +244,6 @@ passed-plain pass names lines (read name body) at size defines active same f is 
 
     q : Found
     q = found-plain pass.here size active
-
-    no-jump : (a : Bool) → pass.here + size ≡ cond (a && false) (unsigned_abs (pos 0)) (pass.here + size)
-    no-jump true = refl
-    no-jump false = refl
-
-    no-end : (l : Bool) → pass.ended ≡ ((l && false) || pass.ended)
-    no-end true = refl
-    no-end false = refl
 
     adds : (active : Bool) → IsNumberOf pass.names.keys defines (if active then name else None)
         → option_map (λ n. (n, record { value = pos pass.here; line = at + 1 })) (name_of pass.names.keys defines) ≡ (if active && true then symbol_given (at + 1) pass.here (pos 0) line else None)

@@ -1,6 +1,6 @@
 -- The first lines of a source, the next one, and where each of all lines stands.
-use Rattle.std.proofs.Common.{◌≡◌, ◌-◌, Bool, true, false, ◌&&◌, ◌||◌, List, [], ◌∷◌, ◌++◌, map, reverse, fold, length, length-append, refl, ap, sym, subst, ◌∙◌, Some, None, slice_get, arith, ℕ, ◌+◌, ℤ, not, is_none, if◌then◌else◌, Option, Ok, Err, option_to_list, Result, ◌<◌, ◌≤◌, cond, take, drop, get_or, filter_map, option_map, append_assoc, All, suc, zero, pos, negsuc, unsigned_abs}
-use Rattle.std.specs.List.{list_all, cons_option}
+use Rattle.std.proofs.Common.{◌≡◌, ◌-◌, Bool, true, false, ◌&&◌, ◌||◌, List, [], ◌∷◌, ◌++◌, map, reverse, fold, length, length-append, refl, ap, sym, subst, ◌∙◌, Some, None, slice_get, arith, ℕ, ◌+◌, ℤ, not, is_none, if◌then◌else◌, Option, Ok, Err, option_to_list, Result, ◌<◌, ◌≤◌, cond, take, drop, get_or, filter_map, option_map, append_assoc, All, pos, negsuc, unsigned_abs}
+use Rattle.std.specs.List.{list_all}
 use Rattle.std.proofs.lemmas.List.Folds.{list_all-append, list_all-map}
 use Rattle.chip_lang.specs.Line.{Body, Reading, ifdef, ifund, else_line, endif, align, org, bad, read}
 use Rattle.chip_asm.specs.declared.block.Block.{Block}
@@ -11,12 +11,13 @@ use Rattle.chip_asm.specs.inner.Blocks.{AreNested, moved, turn_first, close_firs
 use Rattle.chip_asm.proofs.BlockSteps.{reverse-cons, list_all-reverse}
 use Rattle.chip_asm.proofs.PlacesAgree.{at-end}
 use Rattle.chip_asm.proofs.OpenBlocks.{IsNumbered, blocks-cons, open_blocks, rest_of, enclosing-open}
-use Rattle.chip_asm.proofs.Placing.{has_ended-cons, address-cons, aligning-cons, symbols-cons, onto, line-at, numbered-place, placed-push, numbered-next, length-placed, fold-append, numbered, length-numbered, parts}
+use Rattle.chip_asm.proofs.Placing.{cons-option, has_ended-cons, address-cons, aligning-cons, symbols-cons, onto, line-at, numbered-place, placed-keeps, placed-push, numbered-next, length-placed, fold-append, numbered, length-numbered, parts}
 use Rattle.chip_lang.specs.declared.fault.Fault.{Fault}
 use Rattle.chip_asm.specs.declared.pass.Pass.{Pass}
 use Rattle.std.proofs.Math.Seq.{take-append_seam, get_or-append_seam}
 use Rattle.std.proofs.lemmas.List.{append-nil, map-append, length-map, take-append-drop, length-take-le, take_at, take_more, length-take, take-map, get_or-take}
 use Rattle.std.proofs.lemmas.List.Elements.{filter_map-append, All-nil, All-cons, All-head, All-tail, All-append, All-weaker, All-map}
+use Rattle.std.proofs.lemmas.List.Sorted.{All-permutation, IsPermutation-reverse}
 use Rattle.chip_lang.specs.Uses.{name_defined}
 use Rattle.chip_symbols.specs.Names.{Name, is_redefinition}
 use Rattle.chip_asm.specs.declared.layout.Layout.{Layout}
@@ -25,7 +26,7 @@ use Rattle.chip_asm.specs.Program.{names_of_lines}
 use Rattle.chip_asm.specs.inner.Infos.{is_steady, AreInfos, AreSteady}
 use Rattle.chip_symbols.specs.Tables.{AreOver, AreUpTo}
 use Rattle.std.specs.Prelude.{int_lt}
-use Rattle.std.proofs.lemmas.Bool.{ltb-false}
+use Rattle.std.proofs.lemmas.Bool.{and_parts, and_right, ltb-false, not-true, or_from, or_parts}
 use Rattle.chip_lang.specs.declared.limits.TheConstants.{IMAGE_START, MEMORY_BYTES}
 use Rattle.std.proofs.lemmas.Option.{get_or_from_slice_get, slice_get_within}
 use Rattle.chip_asm.specs.declared.edit.Edit.{Edit}
@@ -70,23 +71,15 @@ active-if : (before : List Placed) (body : Body) → is_if_body body ≡ true �
 unfolding is_active
 active-if before body e yet = rw (if_not_side body e, yet) (sym (list_all-map (λ (o : Block). o.holds) (block_of before) (enclosing before)))
 
-or_false : (a b : Bool) → (a || b) ≡ false → b ≡ false
-or_false true b e = cc
-or_false false b e = e
-
 nests-place : (before : List Placed) (line : Reading) → IsNumbered before → Nests before → Nests (place before line ∷ before)
 nests-place before line numbered n yet =
     let p = place before line in
     let bs = map (block_of before) (enclosing before) in
-    let no_end : has_ended before ≡ false = or_false _ (has_ended before) (sym (has_ended-cons p before) ∙ yet) in
+    let no_end : has_ended before ≡ false = (or_parts _ (has_ended before) (sym (has_ended-cons p before) ∙ yet)).1 in
     let opened : Block = record { number = p.number; active = p.active; holds = p.condition; has_else = false } in
     let active : is_if_body (body_of p.line) ≡ true → opened.active ≡ list_all (λ (o : Block). o.holds) bs =
     λ e. (parts before line).active ∙ active-if before (body_of line) (ap (λ l. is_if_body (body_of l)) (sym (line-at before line)) ∙ e) no_end in
     subst AreNested (sym (blocks-cons p before (numbered-place before line numbered))) (nested-moved (body_of p.line) opened bs active (n no_end))
-
-nests-fold : (before : List Placed) (lines : List Reading) → IsNumbered before → Nests before → Nests (fold onto before lines)
-nests-fold before [] numbered n = n
-nests-fold before (line ∷ lines) numbered n = nests-fold (onto before line) lines (numbered-place before line numbered) (nests-place before line numbered n)
 
 nests-none : Nests []
 unfolding enclosing
@@ -94,8 +87,7 @@ nests-none yet = tt
 
 -- so it is after any lines
 pub nested-placed : (lines : List Reading) → Nests (placed lines)
-unfolding placed
-nested-placed lines = nests-fold [] lines tt nests-none
+nested-placed lines = (placed-keeps (λ before. IsNumbered before × Nests before) (λ before line n. (numbered-place before line n.0, nests-place before line n.0 n.1)) (tt, nests-none) lines).1
 
 and_true : (a b : Bool) → (a && (b && true)) ≡ (a && b)
 and_true true true = refl
@@ -103,7 +95,7 @@ and_true true false = refl
 and_true false b = refl
 
 -- whether all hold, as the last one says
-all-by-last : (items nearest : List Block) (b : Block) → items ≡ reverse nearest → AreNested nearest → slice_get items (length items - 1) ≡ Some b
+pub all-by-last : (items nearest : List Block) (b : Block) → items ≡ reverse nearest → AreNested nearest → slice_get items (length items - 1) ≡ Some b
     → (b.active && b.holds) ≡ list_all (λ (o : Block). o.holds) items
 all-by-last items [] b e n at = let none : Some b ≡ None = sym at ∙ ap (λ (l : List Block). slice_get l (length items - 1)) e in cc
 all-by-last items (x ∷ outer) b e n at =
@@ -114,14 +106,6 @@ all-by-last items (x ∷ outer) b e n at =
     let whole : list_all (λ (o : Block). o.holds) items ≡ (list_all (λ (o : Block). o.holds) (reverse outer) && (x.holds && true))
     = ap (list_all (λ (o : Block). o.holds)) split ∙ list_all-append (λ (o : Block). o.holds) (reverse outer) (x ∷ []) in
     ap (λ (o : Block). o.active && o.holds) (sym same) ∙ ap (λ l. l && x.holds) (n.0 ∙ sym (list_all-reverse (λ (o : Block). o.holds) outer)) ∙ sym (and_true _ x.holds) ∙ sym whole
-
-pub holds-by-last : (items nearest : List Block) (b : Block) → items ≡ reverse nearest → AreNested nearest → slice_get items (length items - 1) ≡ Some b
-    → b.active ≡ true → b.holds ≡ list_all (λ (o : Block). o.holds) items
-holds-by-last items nearest b e n at active = ap (λ l. l && b.holds) (sym active) ∙ all-by-last items nearest b e n at
-
-pub fails-by-last : (items nearest : List Block) (b : Block) → items ≡ reverse nearest → AreNested nearest → slice_get items (length items - 1) ≡ Some b
-    → b.active ≡ false → b.active ≡ list_all (λ (o : Block). o.holds) items
-fails-by-last items nearest b e n at dead = dead ∙ ap (λ l. l && b.holds) (sym dead) ∙ all-by-last items nearest b e n at
 
 -- the parts of a placement, one by one
 pub placement-at : (before : List Placed) (line : Reading) (active : Bool) (here : ℕ) (fault : Option Fault) (value : ℤ) (size : ℕ)
@@ -240,13 +224,10 @@ record IsSteady (body : Body) : Type 0 where
   no_align : is_align_body body ≡ false
 
 steady-body : (body : Body) → is_steady body ≡ true → IsSteady body
-steady-body body s = by (is_if_body body) (is_end_body body) (is_align_body body) refl refl refl s
-  where
-    by : (i e a : Bool) → is_if_body body ≡ i → is_end_body body ≡ e → is_align_body body ≡ a → (not i && not e && not a) ≡ true → IsSteady body
-    by false false false i e a h = record { no_if = i; no_end = e; no_align = a }
-    by false false true i e a h = cc
-    by false true a i e al h = cc
-    by true e a i en al h = cc
+steady-body body s =
+    let both = and_parts (not (is_if_body body) && not (is_end_body body)) (not (is_align_body body)) s in
+    let front = and_parts (not (is_if_body body)) (not (is_end_body body)) both.0 in
+    record { no_if = not-true _ front.0; no_end = not-true _ front.1; no_align = not-true _ both.1 }
 
 abbrev AreSteadyLines : List Placed → Type 0
 AreSteadyLines [] = Unit {0}
@@ -284,11 +265,7 @@ none-ended = refl
 
 not-ended : (before : List Placed) → AreSteadyLines before → has_ended before ≡ false
 not-ended [] s = none-ended
-not-ended (p ∷ before) s = has_ended-cons p before ∙ (rw (s.0.no_end, not-ended before s.1) (none p.active))
-  where
-    none : (l : Bool) → ((l && false) || false) ≡ false
-    none true = refl
-    none false = refl
+not-ended (p ∷ before) s = has_ended-cons p before ∙ or_from _ _ (and_right p.active _ s.0.no_end) (not-ended before s.1)
 
 aligning-kept : (a b : Bool) (body : Body) → is_align_body body ≡ false → next_aligning a b body ≡ b
 aligning-kept a b (align on) h = cc
@@ -368,14 +345,7 @@ given-over n (p ∷ ps) a =
     let Q : Name × Symbol → Type 0 = λ e. n < e.1.line in
     let first = given (λ k. n < k) p (All-head (λ (p : Placed). n < p.number) p ps a) in
     let others = given-over n ps (All-tail (λ (p : Placed). n < p.number) p ps a) in
-    rw one (All-append Q (option_to_list (symbol_of p)) (filter_map symbol_of ps) first others)
-  where
-    one : cons_option (symbol_of p) (filter_map symbol_of ps) ≡ option_to_list (symbol_of p) ++ filter_map symbol_of ps
-    one = by (symbol_of p)
-      where
-        by : (o : Option (Name × Symbol)) → cons_option o (filter_map symbol_of ps) ≡ option_to_list o ++ filter_map symbol_of ps
-        by None = refl
-        by (Some e) = refl
+    rw (cons-option (symbol_of p) (filter_map symbol_of ps)) (All-append Q (option_to_list (symbol_of p)) (filter_map symbol_of ps) first others)
 
 symbols-begin : (before all : List Placed) (b : Begins before all) → symbols all ≡ symbols before ++ filter_map symbol_of b.rest
 unfolding symbols
@@ -424,122 +394,111 @@ first-laid layout lines n laid h steady = ap (take n) laid.placements ∙ placem
 
 -- what an accepted line leaves room for
 record Fits (here : ℕ) (body : Body) (value : ℤ) (size : ℕ) : Type 0 where
-  high : here + size ≤ MEMORY_BYTES
-  next_low : IMAGE_START ≤ cond (is_org_body body) (unsigned_abs value) (here + size)
-  next_high : cond (is_org_body body) (unsigned_abs value) (here + size) ≤ MEMORY_BYTES
+  after : here + size ≤ cond (is_org_body body) (unsigned_abs value) (here + size)
+  high : cond (is_org_body body) (unsigned_abs value) (here + size) ≤ MEMORY_BYTES
 
 org-range : (here : ℕ) (v : ℤ) → int_lt v (pos here) ≡ false → int_lt (pos MEMORY_BYTES) v ≡ false → (here ≤ unsigned_abs v) × (unsigned_abs v ≤ MEMORY_BYTES)
 org-range here (pos n) a b = (ltb-false n here a, ltb-false MEMORY_BYTES n b)
 org-range here (negsuc n) a b = cc
 
-fits-by : (a : Bool) (here : ℕ) (body : Body) (v : ℤ) → IMAGE_START ≤ here → here ≤ MEMORY_BYTES → is_backwards here body v ≡ false → is_past_end a here body v ≡ false → Fits here body v (full_size a here body v)
-fits-by true here (org e) v low top b p = let r = org-range here v b p in record { high = omega arith; next_low = (let k = r.0 in omega arith); next_high = r.1 }
-fits-by false here (org e) v low top b p = let r = org-range here v b p in record { high = omega arith; next_low = (let k = r.0 in omega arith); next_high = r.1 }
-fits-by a here body v low top b p = let k = ltb-false MEMORY_BYTES (here + full_size a here body v) p in record { high = k; next_low = omega arith; next_high = k }
+fits-by : (a : Bool) (here : ℕ) (body : Body) (v : ℤ) → is_backwards here body v ≡ false → is_past_end a here body v ≡ false → Fits here body v (full_size a here body v)
+fits-by true here (org e) v b p = let r = org-range here v b p in record { after = (let k = r.0 in omega arith); high = r.1 }
+fits-by false here (org e) v b p = let r = org-range here v b p in record { after = (let k = r.0 in omega arith); high = r.1 }
+fits-by a here body v b p = let k = ltb-false MEMORY_BYTES (here + full_size a here body v) p in record { after = omega arith; high = k }
 
-pub no_fault : {A : Type 0} (b : Bool) (f : A) (rest : Option A) → cond b (Some f) rest ≡ None → (b ≡ false) × (rest ≡ None)
+no_fault : {A : Type 0} (b : Bool) (f : A) (rest : Option A) → cond b (Some f) rest ≡ None → (b ≡ false) × (rest ≡ None)
 no_fault true f rest e = cc
 no_fault false f rest e = (refl, e)
 
-value-fits : (a : Bool) (here : ℕ) (body : Body) (r : Result ℤ Fault) → fault_of_value a here body r ≡ None
-    → (is_backwards here body (value_or_zero r) ≡ false) × (is_past_end a here body (value_or_zero r) ≡ false)
+-- what holds of a line without a fault
+pub record Faultless (before : List Placed) (line : Reading) : Type 0 where
+  pub new : is_redefinition (symbols before) (name_defined line) ≡ false
+  pub value : value_at (symbols before) (body_of line) ≡ Ok (value_or_zero (value_at (symbols before) (body_of line)))
+  pub forwards : is_backwards (address before) (body_of line) (value_or_zero (value_at (symbols before) (body_of line))) ≡ false
+  pub within : is_past_end (is_aligning before) (address before) (body_of line) (value_or_zero (value_at (symbols before) (body_of line))) ≡ false
+
+value-faultless : (a : Bool) (here : ℕ) (body : Body) (r : Result ℤ Fault) → fault_of_value a here body r ≡ None
+    → (r ≡ Ok (value_or_zero r)) × (is_backwards here body (value_or_zero r) ≡ false) × (is_past_end a here body (value_or_zero r) ≡ false)
 unfolding fault_of_value
-value-fits a here body (Err f) e = cc
-value-fits a here body (Ok v) e =
+value-faultless a here body (Err f) e = cc
+value-faultless a here body (Ok v) e =
     let first = no_fault (is_negative_space body v) _ _ e in
     let second = no_fault (is_backwards here body v) _ _ first.1 in
-    let third = no_fault (is_past_end a here body v) _ _ second.1 in
-    (second.0, third.0)
+    (refl, second.0, (no_fault (is_past_end a here body v) _ _ second.1).0)
 
-read-fits : (before : List Placed) (line : Reading) → first_fault before line ≡ None
-    → (is_backwards (address before) (body_of line) (value_or_zero (value_at (symbols before) (body_of line))) ≡ false)
-    × (is_past_end (is_aligning before) (address before) (body_of line) (value_or_zero (value_at (symbols before) (body_of line))) ≡ false)
+pub faultless : (before : List Placed) (line : Reading) → first_fault before line ≡ None → Faultless before line
 unfolding first_fault
-read-fits before (bad f) e = cc
-read-fits before (read label body) e =
+faultless before (bad f) e = cc
+faultless before (read label body) e =
     let first = no_fault (is_misplaced before body) _ _ e in
     let second = no_fault (is_redefinition (symbols before) label) _ _ first.1 in
-    value-fits (is_aligning before) (address before) body (value_at (symbols before) body) second.1
+    let third = value-faultless (is_aligning before) (address before) body (value_at (symbols before) body) second.1 in
+    record { new = second.0; value = third.0; forwards = third.1; within = third.2 }
 
-active-fits : (before : List Placed) (line : Reading) (active : Bool) → (active && is_none (cond active (first_fault before line) None)) ≡ true
-    → (is_backwards (address before) (body_of line) (value_or_zero (value_at (symbols before) (body_of line))) ≡ false)
-    × (is_past_end (is_aligning before) (address before) (body_of line) (value_or_zero (value_at (symbols before) (body_of line))) ≡ false)
-active-fits before line true e = read-fits before line (none_from (first_fault before line) e)
-active-fits before line false e = cc
+active-faultless : (before : List Placed) (line : Reading) (active : Bool) → (active && is_none (cond active (first_fault before line) None)) ≡ true → Faultless before line
+active-faultless before line true e = faultless before line (none_from (first_fault before line) e)
+active-faultless before line false e = cc
+
+pub accepted-faultless : (before : List Placed) (line : Reading) → takes_effect (place before line) ≡ true → Faultless before line
+unfolding place
+accepted-faultless before line e = active-faultless before line (is_active before (body_of line)) e
 
 -- where a line stands after these
 record Stands (before : List Placed) (p : Placed) : Type 0 where
   here : p.here ≡ address before
-  size : p.size ≡ cond (takes_effect p) (full_size (is_aligning before) (address before) (body_of p.line) p.value) 0
-  fits : takes_effect p ≡ true → (is_backwards (address before) (body_of p.line) p.value ≡ false) × (is_past_end (is_aligning before) (address before) (body_of p.line) p.value ≡ false)
+  fits : takes_effect p ≡ true → Fits (address before) (body_of p.line) p.value p.size
+  none : takes_effect p ≡ false → p.size ≡ 0
 
 stands : (before : List Placed) (line : Reading) → Stands before (place before line)
 unfolding place
-stands before line = record { here = refl; size = refl; fits = λ e. active-fits before line (is_active before (body_of line)) e }
+stands before line = record {
+  here = refl;
+  fits = λ e. (let f = active-faultless before line (is_active before (body_of line)) e in rw e (fits-by (is_aligning before) (address before) (body_of line) _ f.forwards f.within));
+  none = λ e. rw e refl;
+}
 
 -- within memory
 abbrev pub IsWithinMemory : Placed → Type 0
 IsWithinMemory p = (IMAGE_START ≤ p.here) × (p.here + p.size ≤ MEMORY_BYTES) × (takes_effect p ≡ false → p.size ≡ 0)
 
-abbrev AreWithin : List Placed → Type 0
-AreWithin [] = Unit {0}
-AreWithin (p ∷ before) = IsWithinMemory p × AreWithin before
-
 record Room (before : List Placed) : Type 0 where
   low : IMAGE_START ≤ address before
   high : address before ≤ MEMORY_BYTES
-  lines : AreWithin before
+  lines : All IsWithinMemory before
 
 room-by : (before : List Placed) (p : Placed) (b : Bool) → takes_effect p ≡ b → Stands before p → Room before → Room (p ∷ before)
 room-by before p true e s r =
-    let size : p.size ≡ full_size (is_aligning before) (address before) (body_of p.line) p.value = s.size ∙ (rw e refl) in
-    let parts = s.fits e in
-    let f : Fits (address before) (body_of p.line) p.value p.size = rw size (fits-by (is_aligning before) (address before) (body_of p.line) p.value r.low r.high parts.0 parts.1) in
+    let f = s.fits e in
+    let low = r.low in
     record {
-      low = rw (address-cons p before, e) f.next_low;
-      high = rw (address-cons p before, e) f.next_high;
-      lines = ((rw s.here r.low, rw s.here f.high, λ n. absurd (let bad : true ≡ false = sym e ∙ n in cc)), r.lines);
+      low = rw (address-cons p before, e) (omega (arith, f.after, low));
+      high = rw (address-cons p before, e) f.high;
+      lines = All-cons IsWithinMemory p before (rw s.here low, rw s.here (omega (arith, f.after, f.high)), s.none) r.lines;
     }
 room-by before p false e s r =
-    let size : p.size ≡ 0 = s.size ∙ (rw e refl) in
+    let size = s.none e in
     let low = r.low in
     let high = r.high in
     record {
       low = rw (address-cons p before, e) (omega arith);
       high = rw (address-cons p before, e, size) (omega arith);
-      lines = ((rw s.here r.low, rw (s.here, size) (omega arith), λ n. size), r.lines);
+      lines = All-cons IsWithinMemory p before (rw s.here low, rw (s.here, size) (omega arith), s.none) r.lines;
     }
 
-room-fold : (before : List Placed) (lines : List Reading) → Room before → Room (fold onto before lines)
-room-fold before [] r = r
-room-fold before (line ∷ lines) r = room-fold (onto before line) lines (room-by before (place before line) (takes_effect (place before line)) refl (stands before line) r)
-
-after-by : (a : Bool) (here : ℕ) (body : Body) (v : ℤ) → is_backwards here body v ≡ false → is_past_end a here body v ≡ false
-    → here + full_size a here body v ≤ cond (is_org_body body) (unsigned_abs v) (here + full_size a here body v)
-after-by true here (org e) v b p = let r = (org-range here v b p).0 in omega arith
-after-by false here (org e) v b p = let r = (org-range here v b p).0 in omega arith
-after-by a here body v b p = omega arith
-
-after-accepted : (before : List Placed) (p : Placed) (b : Bool) → takes_effect p ≡ b → Stands before p → p.here + p.size ≤ address (p ∷ before)
-after-accepted before p true e s =
-    let size : p.size ≡ full_size (is_aligning before) (address before) (body_of p.line) p.value = s.size ∙ (rw e refl) in
-    let parts = s.fits e in
-    rw (address-cons p before, e, size, s.here) (after-by (is_aligning before) (address before) (body_of p.line) p.value parts.0 parts.1)
-after-accepted before p false e s =
-    let size : p.size ≡ 0 = s.size ∙ (rw e refl) in
-    rw (address-cons p before, e, size, s.here) (omega arith)
+after-by : (before : List Placed) (p : Placed) (b : Bool) → takes_effect p ≡ b → Stands before p → p.here + p.size ≤ address (p ∷ before)
+after-by before p true e s = rw (address-cons p before, e, s.here) (s.fits e).after
+after-by before p false e s = rw (address-cons p before, e, s.none e, s.here) (omega arith)
 
 -- what follows a line stands past its end
 pub passes : (before : List Placed) (line : Reading) → (place before line).here + (place before line).size ≤ address (place before line ∷ before)
-passes before line = after-accepted before (place before line) (takes_effect (place before line)) refl (stands before line)
+passes before line = after-by before (place before line) (takes_effect (place before line)) refl (stands before line)
 
 no_lines : Room []
 unfolding address
-no_lines = record { low = omega arith; high = omega arith; lines = tt }
+no_lines = record { low = omega arith; high = omega arith; lines = All-nil IsWithinMemory }
 
 room : (lines : List Reading) → Room (placed lines)
-unfolding placed
-room lines = room-fold [] lines no_lines
+room lines = placed-keeps Room (λ before line. room-by before (place before line) (takes_effect (place before line)) refl (stands before line)) no_lines lines
 
 pub end-low : (lines : List Reading) → IMAGE_START ≤ address (placed lines)
 end-low lines = (room lines).low
@@ -547,21 +506,8 @@ end-low lines = (room lines).low
 pub end-high : (lines : List Reading) → address (placed lines) ≤ MEMORY_BYTES
 end-high lines = (room lines).high
 
-within-push : (xs : List Placed) (p : Placed) → AreWithin xs → IsWithinMemory p → AreWithin (xs ++ p ∷ [])
-within-push [] p h k = (k, tt)
-within-push (x ∷ xs) p h k = (h.0, within-push xs p h.1 k)
-
-within-reverse : (xs : List Placed) → AreWithin xs → AreWithin (reverse xs)
-within-reverse [] h = tt
-within-reverse (x ∷ xs) h = rw (reverse-cons x xs) (within-push (reverse xs) x (within-reverse xs h.1) h.0)
-
-within-get : (xs : List Placed) (i : ℕ) (d : Placed) → AreWithin xs → i < length xs → IsWithinMemory (get_or xs i d)
-within-get [] i d h k = absurd (omega arith)
-within-get (x ∷ xs) zero d h k = h.0
-within-get (x ∷ xs) (suc i) d h k = within-get xs i d h.1 (omega arith)
-
 pub within-memory : (lines : List Reading) (i : ℕ) (d : Placed) → i < length (reverse (placed lines)) → IsWithinMemory (get_or (reverse (placed lines)) i d)
-within-memory lines i d h = within-get (reverse (placed lines)) i d (within-reverse (placed lines) (room lines).lines) h
+within-memory lines i d h = All-permutation IsWithinMemory (placed lines) (reverse (placed lines)) (IsPermutation-reverse (placed lines)) (room lines).lines i d h
 
 -- The first lines, which an edit leaves as they are, and what is known of them before and after it.
 

@@ -7,7 +7,7 @@ use Rattle.chip_asm.specs.inner.KeptLine.{KeptLine}
 use Rattle.chip_asm.specs.inner.Placements.{IsLayoutOf}
 use Rattle.chip_asm.specs.Program.{names_of_lines, symbols_of}
 use Rattle.chip_asm.specs.inner.Records.{readings_in, texts_in}
-use Rattle.chip_asm.specs.Work.{needs_count, lines_to_encode, accepted_lines, accepted_of, needs, is_accepted_at}
+use Rattle.chip_asm.specs.Work.{needs_count, lines_to_encode, accepted_lines, needs, is_accepted_at}
 use Rattle.std.specs.List.{enumerate_from}
 use Rattle.std.proofs.lemmas.Bool.{and_parts}
 use Rattle.std.proofs.lemmas.List.Sums.{sum_by-le-sum_by}
@@ -26,10 +26,6 @@ symbols-view lines texts e t = ap names_of_lines (e ∙ ap (map reading_of) t)
 pub needs-view : (old new : List Reading) (before after : List (List ℕ)) (origin : ℕ → Option ℕ) → old ≡ map reading_of before → new ≡ map reading_of after → needs_count old new origin ≡ lines_to_encode before after origin
 unfolding lines_to_encode
 needs-view old new before after origin a b = ap (λ rs. needs_count rs new origin) a ∙ ap (λ rs. needs_count (map reading_of before) rs origin) b
-
-pub accepted-view : (lines : List Reading) (texts : List (List ℕ)) → lines ≡ map reading_of texts → accepted_lines lines ≡ accepted_of texts
-unfolding accepted_of
-accepted-view lines texts e = ap accepted_lines e
 
 -- What is encoded again is needed.
 

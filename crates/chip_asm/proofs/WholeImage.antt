@@ -26,7 +26,7 @@ use Rattle.chip_asm.specs.inner.KeptLine.{KeptLine}
 use Rattle.chip_asm.specs.inner.Placements.{IsLayoutOf, Found, count_of, fault_noted, found, is_accepted, is_accepted_found, nothing, refusal, status_coded}
 use Rattle.chip_asm.specs.inner.Records.{reading_in, readings_in, texts_in}
 use Rattle.chip_asm.proofs.Resumed.{end-high, length-laid}
-use Rattle.chip_asm.proofs.PassSteps.{covering}
+use Rattle.chip_asm.proofs.LinesApart.{covering}
 use Rattle.chip_asm.proofs.LinesByPlace.{AtPlace, accepted-fault, at-place, byte-line, high, low, refused-fault, covered}
 use Rattle.chip_asm.proofs.Placing.{length-numbered}
 use Rattle.chip_asm.proofs.PlacesAgree.{number-at}
@@ -170,13 +170,10 @@ bytes-found image lines i q a m k h =
 
 -- What is told of each line, by what is kept of it.
 
-some-is : {X : Type 0} (x y : X) → Some x ≡ Some y → x ≡ y
-some-is x y e = cc
-
 zip-at : {X Y : Type 0} (xs : List X) (ys : List Y) (i : ℕ) (x : X) (y : Y) → slice_get xs i ≡ Some x → slice_get ys i ≡ Some y → slice_get (zip xs ys) i ≡ Some (x, y)
 zip-at [] ys i x y a b = cc
 zip-at (p ∷ xs) [] i x y a b = cc
-zip-at (p ∷ xs) (t ∷ ys) zero x y a b = rw (some-is p x a, some-is t y b) refl
+zip-at (p ∷ xs) (t ∷ ys) zero x y a b = rw (same_Some p x a, same_Some t y b) refl
 zip-at (p ∷ xs) (t ∷ ys) (suc i) x y a b = zip-at xs ys i x y a b
 
 -- the bytes of a line in the image are its own, and zeros past them
@@ -241,7 +238,7 @@ length-facts texts =
 -- the reading of a kept line is that of its text
 pub read-kept : (kept : Kept) (i : ℕ) (line : KeptLine) → IsKept kept → slice_get kept.lines.items i ≡ Some line → reading_in line ≡ reading_of line.text
 read-kept kept i line k there =
-    some-is (reading_in line) (reading_of line.text)
+    same_Some (reading_in line) (reading_of line.text)
     (sym (slice_get-map reading_in kept.lines.items i ∙ ap (option_map reading_in) there)
     ∙ ap (λ rs. slice_get rs i) k.are_read
     ∙ slice_get-map reading_of (texts_in kept.lines.items) i

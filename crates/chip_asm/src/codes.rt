@@ -134,8 +134,8 @@ pub(crate) fn move_line(
     from: &[u8],
     image: &mut [u8],
 ) -> usize
-    requires was_low { IMAGE_START ≤ line.old.here }
-    requires was_high { line.old.here + line.old.size ≤ length from.now + IMAGE_START }
+    requires was { (IMAGE_START ≤ line.old.here)
+        × (line.old.here + line.old.size ≤ length from.now + IMAGE_START) }
     requires low { IMAGE_START ≤ here }
     requires high { here + size ≤ MEMORY_BYTES }
     requires whole { length image.old ≡ IMAGE_BYTES }

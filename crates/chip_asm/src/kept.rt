@@ -10,7 +10,7 @@ ghost use Rattle.chip_asm.specs.inner.Infos.{AreAlike, AreInfos, AreInfosOf, IsI
 ghost use Rattle.chip_asm.specs.inner.Placements.{IsCounted, nothing};
 ghost use Rattle.chip_asm.specs.inner.Kept.{HasRoomFor, IsAssembled, IsExchanged, IsKept, MayEdit, lines_kept, needed_by, texts_kept};
 ghost use Rattle.chip_asm.specs.inner.Passes.{Change, IsUnderWay, count_again};
-ghost use Rattle.chip_asm.specs.inner.Records.{IsPlaceWithin, count_after, items_after, lines_after, reading_in, readings_in, texts_in};
+ghost use Rattle.chip_asm.specs.inner.Records.{IsPlaceWithin, count_after, items_after, lines_after, reading_in, readings_in, texts_after, texts_in};
 
 use crate::assemble::{encode_lines, steady_lines, walk};
 use crate::block::Block;
@@ -91,8 +91,7 @@ impl Kept {
         edit: Edit,
     ) -> Result<Option<Range<usize>>, AllocError>
         requires { MayEdit self.old edit }
-        ensures ok { OnOk result (texts_kept self.new
-            ≡ texts_in (lines_after self.old.lines.items edit)) }
+        ensures ok { OnOk result (texts_kept self.new ≡ texts_after (texts_kept self.old) edit) }
         ensures err { OnErr result (texts_kept self.new ≡ texts_kept self.old) }
         ensures kept { IsKept self.new }
         ensures encoded { meter.new.encoded ≤ meter.old.encoded + needed_by self.old edit }
@@ -212,8 +211,7 @@ impl Kept {
         edit: Edit,
     ) -> Result<(), AllocError>
         requires { MayEdit self.old edit }
-        ensures ok { OnOk result (texts_kept self.new
-            ≡ texts_in (lines_after self.old.lines.items edit)) }
+        ensures ok { OnOk result (texts_kept self.new ≡ texts_after (texts_kept self.old) edit) }
         ensures err { OnErr result (texts_kept self.new ≡ texts_kept self.old) }
         ensures kept { IsKept self.new }
         ensures encoded { meter.new.encoded ≤ meter.old.encoded + needed_by self.old edit }

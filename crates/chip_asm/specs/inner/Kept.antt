@@ -6,17 +6,17 @@ use Rattle.chip_asm.specs.declared.edit.Edit.{Edit}
 use Rattle.chip_asm.specs.declared.kept.Kept.{Kept}
 use Rattle.chip_symbols.specs.Names.{values_of}
 use Rattle.chip_asm.specs.Program.{names_of_lines}
-use Rattle.chip_asm.specs.Work.{needs_count}
+use Rattle.chip_asm.specs.Work.{lines_to_encode}
 use Rattle.chip_lang.specs.declared.limits.TheConstants.{IMAGE_BYTES, IMAGE_START}
 use Rattle.chip_asm.specs.declared.placement.Status.TheVariants.{Pending}
 use Rattle.chip_asm.specs.declared.placement.Placement.{Placement}
 use Rattle.chip_asm.specs.Layout.{Placed}
 use Rattle.chip_asm.specs.computed.Walk.{address, placed, symbols}
 use Rattle.chip_asm.specs.inner.Codes.{IsImageOf}
-use Rattle.chip_asm.specs.inner.Infos.{AreInfos, AreSteady}
+use Rattle.chip_asm.specs.inner.Infos.{AreInfos, AreSteady, IsInfo}
 use Rattle.chip_asm.specs.inner.Placements.{IsCounted, IsLayoutOf, first_placements, found}
 use Rattle.chip_asm.specs.inner.Passes.{Change, IsChange, IsHeld, IsSlot, is_byte_of, placed_at}
-use Rattle.chip_asm.specs.inner.Records.{IsPlaceWithin, lines_after, place_before, readings_in, texts_in}
+use Rattle.chip_asm.specs.inner.Records.{AllAdded, IsPlaceWithin, IsRead, count_after, lines_after, place_before, reading_in, readings_in, texts_after, texts_in}
 
 -- what is kept is right for the texts
 pub record IsKept (kept : Kept) : Type 0 where
@@ -38,17 +38,18 @@ lines_kept kept = readings_in kept.lines.items
 abbrev pub lines_then : Kept → Edit → List Reading
 lines_then kept edit = readings_in (lines_after kept.lines.items edit)
 
--- the edit is one of these lines, leaves no more than there may be, and its line was read
+-- the edit is one of these lines, leaves no more than there may be, and its lines were read
 pub record MayEdit (old : Kept) (edit : Edit) : Type 0 where
   pub kept : IsKept old
   pub within : IsPlaceWithin (vec_len old.lines) edit
-  pub few : length (lines_after old.lines.items edit) ≤ MOST_LINES
-  pub are_read : lines_then old edit ≡ map reading_of (texts_in (lines_after old.lines.items edit))
-  pub infos : AreInfos old.names.keys (lines_after old.lines.items edit)
+  pub few : count_after (vec_len old.lines) edit ≤ MOST_LINES
+  pub are_read : AllAdded IsRead edit
+  pub infos : AllAdded (λ line. IsInfo old.names.keys line.info line.several (reading_in line)) edit
 
 -- how many lines an edit makes encode
 abbrev pub needed_by : Kept → Edit → ℕ
-needed_by kept edit = needs_count (lines_kept kept) (lines_then kept edit) (place_before edit)
+needed_by kept edit =
+    lines_to_encode (texts_kept kept) (texts_after (texts_kept kept) edit) (place_before edit)
 
 -- an edit, as the two passes see it
 abbrev pub change_of : Kept → Edit → Change

@@ -1,6 +1,6 @@
 -- What is kept of each line, before and after a change of one line (own).
-use Rattle.std.specs.Prelude.{◌≡◌, ℕ, ◌+◌, ◌-◌, ◌<◌, ◌≤◌, List, length, map, insert, remove, replicate, slice_set, Option, None}
-use Rattle.chip_lang.specs.Line.{Reading}
+use Rattle.std.specs.Prelude.{◌≡◌, ℕ, ◌+◌, ◌-◌, ◌<◌, ◌≤◌, All, List, length, map, insert, remove, replicate, slice_set, Option, None}
+use Rattle.chip_lang.specs.Line.{Reading, reading_of}
 use Rattle.chip_lang.specs.SeenLine.{seen_line}
 use Rattle.chip_asm.specs.inner.KeptLine.{KeptLine}
 use Rattle.chip_asm.specs.declared.edit.Edit.{Edit}
@@ -16,6 +16,10 @@ readings_in lines = map reading_in lines
 abbrev pub texts_in : List KeptLine → List (List ℕ)
 texts_in lines = map (λ kept. kept.text) lines
 
+-- what is kept of a line was read from its text
+abbrev pub IsRead : KeptLine → Type 0
+IsRead kept = reading_in kept ≡ reading_of kept.text
+
 -- the place that the edit names is there
 abbrev pub IsPlaceWithin : ℕ → Edit → Type 0
 IsPlaceWithin count (Insert at line) = at ≤ count
@@ -29,6 +33,20 @@ lines_after lines (Insert at line) = insert lines at line
 lines_after lines (Replace at line) = slice_set lines at line
 lines_after lines (Delete at) = remove lines at
 lines_after lines (Open all) = all.items
+
+-- the texts after the edit
+abbrev pub texts_after : List (List ℕ) → Edit → List (List ℕ)
+texts_after texts (Insert at line) = insert texts at line.text
+texts_after texts (Replace at line) = slice_set texts at line.text
+texts_after texts (Delete at) = remove texts at
+texts_after texts (Open all) = texts_in all.items
+
+-- this holds of each line that comes with the edit
+abbrev pub AllAdded : (KeptLine → Type 0) → Edit → Type 0
+AllAdded P (Insert at line) = P line
+AllAdded P (Replace at line) = P line
+AllAdded P (Delete at) = Unit
+AllAdded P (Open all) = All P all.items
 
 -- what is kept of each line after the edit, where this is known of a new one
 abbrev pub items_after : {X : Type 0} → List X → Edit → (new : X) → List X

@@ -7,7 +7,8 @@ use Rattle.chip_asm.specs.computed.Walk.{place, placed}
 use Rattle.chip_asm.specs.inner.Placements.{Follows, placement_of, bare_status, found, is_accepted, is_accepted_found, nothing}
 use Rattle.chip_asm.specs.inner.Infos.{has_code}
 use Rattle.chip_asm.specs.inner.Records.{reading_in}
-use Rattle.chip_asm.proofs.PassSteps.{Copied, StepsOn, bare-accepted, copied, copied-held, copy-room, facing, fresh-held, noted-found, passed-on, value-faced, zeros-next}
+use Rattle.chip_asm.proofs.LinesByPlace.{noted-found}
+use Rattle.chip_asm.proofs.PassSteps.{Copied, StepsOn, bare-accepted, copied, copied-held, copy-room, facing, fresh-held, passed-on, value-faced, zeros-next}
 use Rattle.chip_asm.proofs.assemble.pass_line.Goals.{then-is_accepted+then-is_accepted-2, then-is_accepted+else-is_accepted-2, else-is_accepted}
 use Rattle.chip_asm.proofs.assemble.pass_line.Goals as goal
 

@@ -8,7 +8,8 @@ use Rattle.chip_asm.specs.inner.KeptLine.{KeptLine}
 use Rattle.chip_asm.specs.declared.refusal.OpenError.TheVariants.{LineTooLong}
 use Rattle.chip_asm.specs.Lines.{lines_of, first_text, is_newline, is_long}
 use Rattle.chip_asm.specs.inner.Records.{texts_in}
-use Rattle.chip_asm.proofs.CutSteps.{AllShort, lines-next, too-long, too-many, opens, some-bytes, back-back, part-of, no-lines, long-is, short-is, short-push}
+use Rattle.chip_asm.proofs.CutSteps.{AllShort, lines-next, too-long, too-many, opens, some-bytes, back-back, part-of, no-lines, long-is, short-is}
+use Rattle.std.proofs.lemmas.List.Elements.{All-push}
 use Rattle.chip_asm.proofs.cut.read_lines.Goals as goal
 
 pub returns-then-len-eq-MOST_LINES-clause-err : goal.returns-then-len-eq-MOST_LINES-clause-err
@@ -51,7 +52,7 @@ loop-source-preserved c =
           ∙ ap (λ rs. rs ++ reading_of t ∷ []) c.loop-source.invariant.1
           ∙ sym (map-append reading_of texts (t ∷ []))
           ∙ ap (map reading_of) (sym c.in_ok-push_line.ensures.texts),
-      subst AllShort (sym c.in_ok-push_line.ensures.texts) (short-push texts t c.loop-source.invariant.2 short),
+      subst AllShort (sym c.in_ok-push_line.ensures.texts) (All-push (λ x. is_long x ≡ false) texts t c.loop-source.invariant.2 short),
       omega arith,
       omega (arith, read, c.loop-source.invariant.4),
       ap (λ m. m.encoded) c.push_line.ensures.counted ∙ c.loop-source.invariant.5,

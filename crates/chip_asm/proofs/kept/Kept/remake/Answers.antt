@@ -9,10 +9,10 @@ use Rattle.chip_asm.specs.inner.Kept.{HasRoomFor, IsExchanged, change_of, lines_
 use Rattle.chip_asm.specs.inner.KeptLine.{KeptLine}
 use Rattle.chip_asm.specs.inner.Passes.{Change}
 use Rattle.chip_asm.specs.inner.Placements.{nothing}
-use Rattle.chip_asm.specs.inner.Records.{IsPlaceWithin, count_after, items_after, lines_after, reading_in, readings_in, first_changed}
+use Rattle.chip_asm.specs.inner.Records.{IsPlaceWithin, count_after, items_after, lines_after, reading_in, readings_in, texts_in, first_changed}
 use Rattle.chip_asm.specs.inner.Infos.{AreSteady}
 use Rattle.chip_symbols.specs.Tables.{Tables}
-use Rattle.chip_asm.proofs.KeptSteps.{exchanged, placed-many, begun-kept, kept-edited, within-lines}
+use Rattle.chip_asm.proofs.KeptSteps.{exchanged, placed-many, begun-kept, kept-edited, needs-edited, texts-edited, within-lines}
 use Rattle.chip_asm.proofs.Resumed.{Begun}
 use Rattle.chip_asm.proofs.LinesAfter.{edited-items}
 use Rattle.chip_asm.proofs.Views.{count-needed}
@@ -81,7 +81,11 @@ returns-clause-kept c =
     (ap (λ (v : Vec KeptLine Global). v.items) c.assemble.ensures.lines ∙ new-lines by)
     c.assemble.ensures.settled (c.assemble.ensures.assembled (change_of c.args.self.now c.args.edit) (ready by))
 
+pub returns-clause-ok : goal.returns-clause-ok
+returns-clause-ok c =
+    ap (λ (v : Vec KeptLine Global). texts_in v.items) c.assemble.ensures.lines ∙ ap texts_in (new-lines (goal.at.returns-clause-ok c).After-exchange) ∙ texts-edited c.args.self.now.lines.items c.args.edit
+
 pub returns-clause-encoded : goal.returns-clause-encoded
 returns-clause-encoded c =
     let e : Change = change_of c.args.self.now c.args.edit in
-    omega (arith, c.assemble.ensures.encoded e (ready (goal.at.returns-clause-encoded c).After-exchange), count-needed e.was e.now e.origin)
+    omega (arith, c.assemble.ensures.encoded e (ready (goal.at.returns-clause-encoded c).After-exchange), count-needed e.was e.now e.origin, needs-edited c.args.self.now c.args.edit c.requires)

@@ -1,5 +1,5 @@
-use Rattle.std.proofs.Common.{rules, ◌≡◌, ◌∙◌, not, subst, ◌+◌, ◌≤◌, Bool, ap, arith, false, get_or, length, pos, refl, sym, take, to_z, true, w32}
-use Rattle.std.proofs.lemmas.Bool.{false≢true}
+use Rattle.std.proofs.Common.{rules, ◌≡◌, ◌∙◌, subst, ◌+◌, ◌≤◌, ap, arith, false, get_or, length, pos, refl, sym, take, to_z, true, w32}
+use Rattle.std.proofs.lemmas.Bool.{false≢true, not-true}
 use Rattle.std.proofs.lemmas.List.{length-take-le}
 use Rattle.chip_asm.specs.Layout.{Placed}
 use Rattle.chip_asm.specs.computed.Walk.{place, placed}
@@ -18,10 +18,6 @@ use Rattle.chip_asm.proofs.PassSteps.{Copied, StepsOn, plain-held, plain-stood, 
 use Rattle.chip_asm.proofs.pass.Pass.run_as.Goals.{else-active, else-active-via-else-active, else-active-via-then-active+else-is_accepted, else-loop-place-test, then-active+then-is_accepted, then-loop-place-test+in-Some+then-not-define_new, then-loop-place-test+in_default}
 use Rattle.chip_asm.proofs.pass.Pass.run_as.Goals as goal
 
-negated : (a b : Bool) → a ≡ not b → a ≡ true → b ≡ false
-negated a true e h = let never : true ≡ false = sym h ∙ e in cc
-negated a false e h = refl
-
 pub loop-place-init : goal.loop-place-init
 loop-place-init c = record { high = c.args.self.now.within; after = omega arith; within = c.requires.under_way.1.inside; same = sym c.requires.active; under_way = search rules }
 
@@ -39,25 +35,15 @@ define_new-requires-clause-room c =
     let u = i.under_way i.high c.requires.under_way.0 c.requires.under_way.1 in
     omega (arith, u.room.names, c.loop-place-test.true)
 
-pub move_line-here-requires-clause-was_low : goal.move_line-here-requires-clause-was_low
-move_line-here-requires-clause-was_low c =
+pub move_line-here-requires-clause-was : goal.move_line-here-requires-clause-was
+move_line-here-requires-clause-was c =
     let e = c.requires.under_way.0 in
     let l = c.loop-place in
     let kept = c.index-lines-place.result in
     let u = l.invariant.under_way l.invariant.high e c.requires.under_way.1 in
     let f = facing e _ _ _ _ _ _ _ kept u c.loop-place-test.true c.index-lines-place.is in
     let s = stood-there e _ l.place (reading_in kept) _ u.change f.line (f.slot nothing) (sym c.is_accepted.ensures ∙ c.if-is_accepted.true) in
-    low e.was s.before _ s.at
-
-pub move_line-here-requires-clause-was_high : goal.move_line-here-requires-clause-was_high
-move_line-here-requires-clause-was_high c =
-    let e = c.requires.under_way.0 in
-    let l = c.loop-place in
-    let kept = c.index-lines-place.result in
-    let u = l.invariant.under_way l.invariant.high e c.requires.under_way.1 in
-    let f = facing e _ _ _ _ _ _ _ kept u c.loop-place-test.true c.index-lines-place.is in
-    let s = stood-there e _ l.place (reading_in kept) _ u.change f.line (f.slot nothing) (sym c.is_accepted.ensures ∙ c.if-is_accepted.true) in
-    omega (arith, high e.was s.before _ s.at, u.from_long)
+    (low e.was s.before _ s.at, omega (arith, high e.was s.before _ s.at, u.from_long))
 
 pub move_line-here-requires-clause-low : goal.move_line-here-requires-clause-low
 move_line-here-requires-clause-low c =
@@ -103,7 +89,7 @@ loop-place-preserved c =
           let x : Placed = place (placed (take l.place e.now)) (reading_in kept) in
           let bare : IsPlain keys c.args.active l.self.aligning l.here (reading_in kept) size c.in-Some.defines = c.in-Some.ensures.is keys kept.several (reading_in kept) (rw c.info-info.ensures f.info) in
           let cast : to_z w32 l.here ≡ pos l.here = (let h = i.high in grind arith) in
-          let new = negated c.define_new.result _ c.define_new.ensures.new c.if-not-define_new.false in
+          let new = not-true _ (sym c.define_new.ensures.new ∙ c.if-not-define_new.false) in
           let given = c.define_new.ensures.symbols c.if-not-define_new.false ∙ (rw cast refl) in
           let here : l.place ≡ length (take l.place e.now) = sym (length-take-le l.place e.now (omega (arith, f.inside))) in
           let next : Pass = record pass { here = l.here + size; within = fits; names = c.define_new.new.self } in
