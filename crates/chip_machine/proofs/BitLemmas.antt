@@ -10,7 +10,7 @@ use Rattle.std.proofs.lemmas.Bool.{false≢true, cases_lt, cases_Bool, eqb-true,
 use Rattle.chip_machine.specs.declared.doubled.TheConstants.{DOUBLED}
 use Rattle.chip_machine.specs.inner.Stored.{differ, any_below}
 use Rattle.chip_machine.specs.Points.{lights}
-use Rattle.chip_machine.proofs.PointLemmas.{any_below-false, any_below_none, any_below_same}
+use Rattle.chip_machine.proofs.PointLemmas.{any_below-false, any_below_none, any_below_same, or_none}
 
 -- ---- each bit of a byte twice
 
@@ -185,10 +185,6 @@ module _ (bits n column : ℕ) (on_screen : column < 128) where
 same_or : (b : Bool) → (b || b) ≡ b
 same_or true = refl
 same_or false = refl
-
-or_none : (b : Bool) → (b || false) ≡ b
-or_none true = refl
-or_none false = refl
 
 pub lights_around : (bits start column : ℕ) → bits < 2 ^ 128 → start < 128 → column < 128
     → lights (bit_or (bits / 2 ^ start) (bits * 2 ^ ((128 - start) % 128) % 2 ^ 128)) column ≡ lights bits ((column + 128 - start) % 128)

@@ -10,7 +10,7 @@ use Rattle.chip_machine.specs.declared.limits.TheConstants.{FRAMES}
 use Rattle.chip_machine.specs.declared.stop.Stop.{Stop}
 use Rattle.chip_machine.specs.declared.stop.Stop.TheVariants as cause
 use Rattle.chip_machine.specs.State.{Core, State}
-use Rattle.chip_machine.specs.Step.{Effect, Stops, Changes, Keyed, Loads, Stores, draws_nothing, effect, effect_at, effect_of_word, is_key_down, perform, reg, settle, skip_if, step_of, super_only, take_key}
+use Rattle.chip_machine.specs.Step.{Effect, Stops, Keyed, draws_nothing, effect, effect_at, effect_of_word, is_key_down, perform, reg, settle, skip_if, step_of, super_only, take_key}
 use Rattle.chip_machine.specs.Choices.{IsWithin, IsChoice, Represents}
 use Rattle.chip_machine.specs.inner.KeyRows.{choices_of}
 
@@ -113,58 +113,28 @@ super_represents c allowed some effect h = either_represents c.quirks.has_super_
 row_represents : (allowed : ℕ) (i : Instr) (c : Core) → Acts allowed (choices_of allowed i c) (effect i c)
 unfolding effect
 row_represents allowed (row.ScrollDown n) c = super_represents c allowed 0 _ tt
-row_represents allowed row.ClearScreen c = tt
 row_represents allowed row.Return c = either_represents (length c.frames == 0) allowed 0 _ _ tt tt
 row_represents allowed row.ScrollRight c = super_represents c allowed 0 _ tt
 row_represents allowed row.ScrollLeft c = super_represents c allowed 0 _ tt
 row_represents allowed row.Exit c = super_represents c allowed 0 _ tt
 row_represents allowed row.LowSize c = super_represents c allowed 0 _ tt
 row_represents allowed row.HighSize c = super_represents c allowed 0 _ tt
-row_represents allowed (row.Jump address) c = tt
 row_represents allowed (row.Call address) c = either_represents (length c.frames == FRAMES) allowed 0 _ _ tt tt
-row_represents allowed (row.SkipIfByte x byte) c = tt
-row_represents allowed (row.SkipUnlessByte x byte) c = tt
-row_represents allowed (row.SkipIfEqual x y) c = tt
-row_represents allowed (row.LoadByte x byte) c = tt
-row_represents allowed (row.AddByte x byte) c = tt
-row_represents allowed (row.Copy x y) c = tt
-row_represents allowed (row.Or x y) c = tt
-row_represents allowed (row.And x y) c = tt
-row_represents allowed (row.Xor x y) c = tt
-row_represents allowed (row.Add x y) c = tt
-row_represents allowed (row.Subtract x y) c = tt
-row_represents allowed (row.ShiftRight x y) c = tt
-row_represents allowed (row.SubtractFrom x y) c = tt
-row_represents allowed (row.ShiftLeft x y) c = tt
-row_represents allowed (row.SkipUnlessEqual x y) c = tt
-row_represents allowed (row.LoadIndex address) c = tt
-row_represents allowed (row.JumpOffset address) c = tt
-row_represents allowed (row.Random x byte) c = tt
 row_represents allowed (row.Draw x y n) c = either_represents (draws_nothing n c) allowed 0 _ _ tt tt
 row_represents allowed (row.SkipIfKey x) c = skip_represents allowed (reg c x % 16) (λ down. skip_if down c)
 row_represents allowed (row.SkipUnlessKey x) c = skip_represents allowed (reg c x % 16) (λ down. skip_if (not down) c)
-row_represents allowed (row.ReadDelay x) c = tt
 row_represents allowed (row.WaitKey x) c = wait_represents allowed (range_with_len 0 16) (λ key. take_key key x c)
-row_represents allowed (row.SetDelay x) c = tt
-row_represents allowed (row.SetSound x) c = tt
-row_represents allowed (row.AddIndex x) c = tt
-row_represents allowed (row.SmallDigit x) c = tt
 row_represents allowed (row.BigDigit x) c = super_represents c allowed 0 _ tt
-row_represents allowed (row.StoreDecimal x) c = tt
-row_represents allowed (row.StoreRegisters x) c = tt
-row_represents allowed (row.LoadRegisters x) c = tt
 row_represents allowed (row.StoreFlags x) c = super_represents c allowed 0 _ (either_represents (nat_le (length c.flags) x) allowed 0 _ _ tt tt)
 row_represents allowed (row.LoadFlags x) c = super_represents c allowed 0 _ (either_represents (nat_le (length c.flags) x) allowed 0 _ _ tt tt)
+row_represents allowed i c = tt
 
 perform_acts : (allowed some : ℕ) (s : State) (effect : Effect) → Acts allowed some effect → (keys : ℕ) → IsWithin allowed keys
     → (one : ℕ) × IsChoice some one × (perform keys s effect ≡ perform one s effect)
-perform_acts allowed some s (Stops why) h keys within = (0, inl refl, refl)
-perform_acts allowed some s (Changes core) h keys within = (0, inl refl, refl)
 perform_acts allowed some s (Keyed core_by) h keys within =
     let r = h keys within in
     (r.0, r.1, ap (λ (c : Core). Ok (record s { core = c })) r.2)
-perform_acts allowed some s (Loads count core_by) h keys within = (0, inl refl, refl)
-perform_acts allowed some s (Stores bytes core) h keys within = (0, inl refl, refl)
+perform_acts allowed some s _ h keys within = (0, inl refl, refl)
 
 step_acts : (stopped : Bool) (allowed some : ℕ) (s : State) → Acts allowed some (effect_at s) → (keys : ℕ) → IsWithin allowed keys
     → (one : ℕ) × IsChoice some one × ((tick : Bool) → (if stopped then s else settle tick s (perform keys s (effect_at s))) ≡ (if stopped then s else settle tick s (perform one s (effect_at s))))

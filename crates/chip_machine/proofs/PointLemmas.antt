@@ -186,6 +186,10 @@ any_below_none test (suc n) h = or_from_false (any_below test n) (test n) (any_b
     or_from_false : (a b : Bool) → a ≡ false → b ≡ false → (a || b) ≡ false
     or_from_false a b p q = λ i. p i || q i
 
+pub any_below_first : (test : ℕ → Bool) (b : Bool) → (any_below test 0 || b) ≡ b
+unfolding any_below
+any_below_first test b = refl
+
 pub any_below_more : (test : ℕ → Bool) (n : ℕ) → any_below test (n + 1) ≡ (any_below test n || test n)
 unfolding any_below
 any_below_more test n = rw add-one refl
@@ -195,6 +199,10 @@ unfolding any_below
 any_below_same f g zero h = refl
 any_below_same f g (suc n) h = λ i. any_below_same f g n (λ k lt. h k (omega arith)) i || h n (omega arith) i
 
+pub or_none : (b : Bool) → (b || false) ≡ b
+or_none true = refl
+or_none false = refl
+
 -- a test that passes at no number from n to m
 pub any_below_longer : (test : ℕ → Bool) (n m : ℕ) → n ≤ m → ((k : ℕ) → n ≤ k → k < m → test k ≡ false) → any_below test n ≡ any_below test m
 unfolding any_below
@@ -203,13 +211,9 @@ any_below_longer test n (suc m) h none = ⊎_elim
     (λ (at : n ≡ suc m). ap (any_below test) at)
     (λ (other : n ≡ suc m → ⊥).
     any_below_longer test n m (omega arith) (λ k low high. none k low (omega arith))
-    ∙ (λ i. or_false (any_below test m) i)
+    ∙ sym (or_none (any_below test m))
     ∙ ap (λ b. any_below test m || b) (sym (none m (omega arith) (omega arith))))
     (cases_eq n (suc m))
-  where
-    or_false : (b : Bool) → b ≡ (b || false)
-    or_false true = refl
-    or_false false = refl
 
 -- ---- scrolls
 

@@ -1,10 +1,11 @@
 -- The choices of the parts of a list, one after another.
-use Rattle.std.proofs.Common.{◌≡◌, ◌∙◌, ◌==◌, ℕ, suc, ◌<◌, List, [], ◌∷◌, ◌++◌, length, Option, Some, None, refl, sym, ap, arith, eq-eqb, if◌then◌else◌, Bool, false}
+use Rattle.std.proofs.Common.{◌≡◌, ◌∙◌, ◌==◌, ℕ, suc, ◌<◌, List, [], ◌∷◌, ◌++◌, length, Option, Some, None, option_map, refl, sym, ap, arith, eq-eqb, if◌then◌else◌, Bool, false}
 use Rattle.std.proofs.lemmas.Bool.{ne_eqb}
 use Rattle.memchr.specs.Find.{Nowhere, Passes, is_byte}
-use Rattle.chip_machine.specs.QuirkList.{choice_named, chosen_by, comma, parts_of, with_byte, with_choice}
+use Rattle.chip_machine.specs.QuirkList.{choice_named, chosen_by, comma, parts_of, with_byte, with_choice, with_choices}
 use Rattle.chip_machine.specs.inner.FirstPart.{IsFirstPart}
 use Rattle.chip_machine.specs.declared.quirks.Chosen.{Chosen}
+use Rattle.chip_machine.specs.declared.quirks.Quirks.{Quirks}
 
 no_comma : (byte : ℕ) (part : List ℕ) → Nowhere (Passes (is_byte comma) (byte ∷ part)) 0 (length (byte ∷ part)) → (byte == comma) ≡ false
 no_comma byte part none = ne_eqb byte comma (λ same. none 0 (omega arith) (omega arith) (eq-eqb byte comma same))
@@ -36,10 +37,12 @@ goes_on start text rest part next chosen more completes first is =
     ∙ ap (λ (c : Option Chosen). chosen_by c (parts_of next)) (sym is)
 
 -- the last part
-pub ends : (start : Option Chosen) (text rest part : List ℕ) (chosen more : Option Chosen) → Completes start text rest chosen →
-    IsFirstPart rest part None → more ≡ with_choice chosen (choice_named part) → more ≡ chosen_by start (parts_of text)
-ends start text rest part chosen more completes first is =
-    is ∙ sym (completes ∙ ap (λ (t : List ℕ). chosen_by chosen (parts_of t)) first.0 ∙ ap (chosen_by chosen) (last_part part first.1))
+pub ends : (q : Quirks) (text rest part : List ℕ) (chosen more now : Option Chosen) → Completes (Some (record { quirks = q; taken = 0 })) text rest chosen →
+    IsFirstPart rest part None → more ≡ with_choice chosen (choice_named part) → more ≡ now → option_map (λ (k : Chosen). k.quirks) now ≡ with_choices text q
+ends q text rest part chosen more now completes first is same =
+    let all : chosen_by (Some (record { quirks = q; taken = 0 })) (parts_of text) ≡ more =
+    completes ∙ ap (λ (t : List ℕ). chosen_by chosen (parts_of t)) first.0 ∙ ap (chosen_by chosen) (last_part part first.1) ∙ sym is in
+    ap (option_map (λ (k : Chosen). k.quirks)) (sym (all ∙ same))
 
 -- what follows a comma is shorter
 pub shorter : (text part rest : List ℕ) → IsFirstPart text part (Some rest) → length rest < length text

@@ -4,7 +4,7 @@ use Rattle.std.proofs.Common.{◌≡◌, ◌≢◌, ℕ, ◌+◌, ◌-◌, ◌*�
 use Rattle.std.specs.FinSet as set
 use Rattle.std.specs.List.{list_all, range_with_len}
 use Rattle.std.proofs.Math.Nat.{mod-add-div', add-mul-mod_self_right}
-use Rattle.std.proofs.lemmas.Bool.{and_from, and_parts, and_right, cases_Bool, cases_lt, eqb-true, le-leb, leb-false, leb-true, lt-ltb, ltb-false, ltb-true, or_cases, or_left, or_right}
+use Rattle.std.proofs.lemmas.Bool.{and_from, and_parts, and_right, cases_Bool, eqb-true, leb-false, lt-ltb, ltb-false, ltb-true, or_cases, or_left, or_right}
 use Rattle.std.proofs.lemmas.Grind.{same_number_lists}
 use Rattle.std.proofs.lemmas.List.{get_or-drop, get_or-take, length-append, length-drop, length-take}
 use Rattle.std.proofs.lemmas.Nat.Bits.{bit_at-zero}
@@ -25,7 +25,7 @@ use Rattle.chip_machine.specs.Sprite.{covered, row_bytes, sprite_bytes}
 use Rattle.chip_machine.specs.State.{Core, State, IsProper, overwrite}
 use Rattle.chip_machine.specs.Step.{Effect, Stops, Changes, Keyed, Loads, Stores, bit_of, call, decimal_digits, draws_nothing, effect, effect_at, effect_of_word, go_to, has_wide_sixteen, index_past, is_key_down, is_past, load_flags, load_registers, next, perform, reg, resized, return, scrolled_by, settle, skip_if, step_of, store_flags, super_only, take_key, ticked, with_flag, with_index, with_lit, with_reg, with_size, with_sprite, word_at}
 use Rattle.chip_machine.specs.inner.FrameTheorem.{step_keeps_proper}
-use Rattle.chip_machine.specs.inner.Overwritten.{get_or-overwrite_before, get_or-overwrite_past, get_or-overwrite_within}
+use Rattle.chip_machine.specs.inner.Overwritten.{get_or-overwrite, in_row_true}
 use Rattle.chip_machine.proofs.Agree.{Agree, both, first_known, in_row, known_at, less, load, none_forgotten, none_known, off_by, put, reindex, relight, unset}
 
 -- ---- cores and effects
@@ -478,10 +478,6 @@ same_length : (m n : List ℕ) (i : ℕ) (bytes others : List ℕ) → length m 
 same_length m n i bytes others size many =
     written_length m i bytes ∙ both (λ k count. min i k + count + (k - (i + count))) size many ∙ sym (written_length n i others)
 
-in_row_true : (i count at : ℕ) → is_in_row i count at ≡ true → (i ≤ at) × (at < i + count)
-in_row_true i count at h =
-    let parts = and_parts (nat_le i at) (nat_lt at (i + count)) h in (leb-true i at parts.0, ltb-true at (i + count) parts.1)
-
 none_in_row : (i at : ℕ) → is_in_row i 0 at ≡ false
 none_in_row i at =
     elim (cases_Bool (is_in_row i 0 at)) [
@@ -494,19 +490,13 @@ same_written : (m n : List ℕ) (i : ℕ) (bytes others : List ℕ) (at : ℕ) �
     → (i ≤ at → at < i + length bytes → slice_index bytes (at - i) ≡ slice_index others (at - i)) → (is_in_row i (length bytes) at ≡ false → slice_index m at ≡ slice_index n at)
     → slice_index (overwrite m i bytes) at ≡ slice_index (overwrite n i others) at
 same_written m n i bytes others at size many fits put same =
+    let mine = get_or-overwrite m i bytes at fits in
+    let theirs = get_or-overwrite n i others at (omega arith) in
     elim (cases_Bool (is_in_row i (length bytes) at)) [
       | inl on ↦
           let within = in_row_true i (length bytes) at on in
-          get_or-overwrite_within m i bytes at fits within.0 within.1 ∙ put within.0 within.1 ∙ sym (get_or-overwrite_within n i others at (omega arith) within.0 (omega arith))
-      | inr off ↦
-          elim (cases_lt at i) [
-            | inl low ↦ get_or-overwrite_before m i bytes at fits low ∙ same off ∙ sym (get_or-overwrite_before n i others at (omega arith) low)
-            | inr high ↦
-                elim (cases_lt at (i + length bytes)) [
-                  | inl below ↦ absurd (let on = and_from (nat_le i at) (nat_lt at (i + length bytes)) (le-leb i at high) (lt-ltb at (i + length bytes) below) in cc)
-                  | inr past ↦ get_or-overwrite_past m i bytes at fits past ∙ same off ∙ sym (get_or-overwrite_past n i others at (omega arith) (omega arith))
-                ]
-          ]
+          mine ∙ rw (← many, on) (put within.0 within.1) ∙ sym theirs
+      | inr off ↦ mine ∙ rw (← many, off) (same off) ∙ sym theirs
     ]
 
 -- ---- outcomes and states

@@ -1,18 +1,18 @@
 -- 64 rows of bits as the pixels of the screen, and the bits that a sprite covers.
-use Rattle.std.proofs.Common.{◌≡◌, ℕ, ◌+◌, ◌-◌, ◌*◌, ◌/◌, ◌%◌, ◌^◌, ◌<◌, ◌≤◌, Bool, true, false, ◌&&◌, ◌==◌, nat_eq, nat_le, length, List, get_or, refl, sym, ap, subst, ◌∙◌, arith, add-zero, bit_or, set, get_or-set_same, get_or-set_other, ⊎_elim}
+use Rattle.std.proofs.Common.{◌≡◌, ℕ, ◌+◌, ◌-◌, ◌*◌, ◌/◌, ◌%◌, ◌^◌, ◌<◌, ◌≤◌, Bool, true, false, not, ◌&&◌, ◌||◌, ◌==◌, nat_eq, nat_le, length, List, get_or, refl, sym, ap, subst, ◌∙◌, arith, add-zero, bit_and, bit_or, set, get_or-set_same, get_or-set_other, ⊎_elim}
 use Rattle.std.specs.Int.{bit_at}
 use Rattle.std.specs.Prelude.{bit_xor}
-use Rattle.std.proofs.lemmas.Bool.{cases_lt, and_left, lt-leb, le-leb, cond_both, cond-true, cond-false, cases_eq, eq-eqb, ne_eqb}
+use Rattle.std.proofs.lemmas.Bool.{cases_lt, and_left, and_right, lt-leb, le-leb, cond_both, cond-true, cond-false, eq-eqb, ne_eqb}
 use Rattle.std.proofs.lemmas.Nat.{shl_whole, or_shifted, pow_pos}
 use Rattle.std.proofs.lemmas.Nat.Bits.{bit_at-zero, bit_at_cat_low, bit_at_cat_high}
 use Rattle.chip_machine.specs.Scroll.{scrolled_down, scrolled_right, scrolled_left}
 use Rattle.chip_machine.specs.Points.{points_where, symmetric_difference, meets, lights}
-use Rattle.chip_machine.specs.inner.Stored.{in_rows, differ, any_below}
+use Rattle.chip_machine.specs.inner.Stored.{in_rows, differ, any_below, AreTurned}
 use Rattle.chip_machine.specs.Sprite.{is_set, scale}
 use Rattle.chip_machine.specs.inner.SpriteBytes.{covers_by_length, row_bytes_by_length}
-use Rattle.chip_machine.proofs.PointLemmas.{toggled_where, meets_where, any_below-false, any_below_none, scrolled_down_where, scrolled_right_where, scrolled_left_where}
-use Rattle.chip_machine.proofs.SpriteLemmas.{covers-inside, covers_left, is_set_right, is_set-inside}
-use Rattle.chip_machine.proofs.BitLemmas.{lights-bit_xor, lights_shr, lights_shl, lights_shl_out, stripe_inside, stripe_left, stripe_right}
+use Rattle.chip_machine.proofs.PointLemmas.{toggled_where, meets_where, any_below-false, any_below_first, any_below_longer, any_below_more, any_below_none, any_below_same, or_none, scrolled_down_where, scrolled_right_where, scrolled_left_where}
+use Rattle.chip_machine.proofs.SpriteLemmas.{before_pixel, covers-inside, covers_left, from_pixel, is_set_right, is_set-inside}
+use Rattle.chip_machine.proofs.BitLemmas.{common_column, either_some, lights-bit_xor, lights_shr, lights_shl, lights_shl_out, stripe_inside, stripe_left, stripe_right}
 
 pub row_bytes_few : (high : Bool) (sprite : List ℕ) → row_bytes_by_length high sprite ≤ 2
 unfolding row_bytes_by_length
@@ -27,47 +27,39 @@ row_bytes-low sprite = refl
 abbrev pub IsPattern : ℕ → Bool → List ℕ → ℕ → Type 0
 IsPattern bits high sprite j = (i : ℕ) → i < 16 → (bit_at bits (15 - i) == 1) ≡ is_set (row_bytes_by_length high sprite) sprite (i / scale high) j
 
-module _ (high : Bool) (x y : ℕ) (sprite : List ℕ) (bits column row : ℕ) (fits : bits < 2 ^ 16) (on_screen : column < 128) where
-  -- at one size: the premises say how a stored column goes with a point's
-  covers_at : (s left : ℕ) → s ≡ scale high → left ≡ x % (128 / s) → y % (64 / s) ≤ row / s → IsPattern bits high sprite (row / s - y % (64 / s))
-      → (column < s * left → column / s < left)
-      → (s * left ≤ column → (left ≤ column / s) × ((column - s * left) / s ≡ column / s - left))
-      → (s * left + 16 ≤ column → 8 * row_bytes_by_length high sprite ≤ column / s - left)
-      → lights (bits * 2 ^ 112 % 2 ^ 128 / 2 ^ (s * left)) column ≡ covers_by_length high x y sprite column row
-  covers_at s left e is_left below pattern before inside after = ⊎_elim
-      (λ (out : column < s * left).
-      ap (λ bit. bit == 1) (stripe_left bits (s * left) column fits on_screen out)
-      ∙ sym (covers_left high x y sprite column row s e (subst (λ l. column / s < l) is_left (before out))))
-      (λ (low : s * left ≤ column).
-      let within : x % (128 / s) ≤ column / s = subst (λ l. l ≤ column / s) is_left (inside low).0 in
-      let covered = ap (λ l. is_set (row_bytes_by_length high sprite) sprite (column / s - l) (row / s - y % (64 / s))) is_left ∙ covers-inside high x y sprite column row s e within below in
-      ⊎_elim
-      (λ (near : column < s * left + 16).
-      ap (λ bit. bit == 1) (stripe_inside bits (s * left) column fits on_screen low near)
-      ∙ pattern (column - s * left) (omega arith)
-      ∙ ap (λ k. is_set (row_bytes_by_length high sprite) sprite ((column - s * left) / k) (row / s - y % (64 / s))) (sym e)
-      ∙ ap (λ i. is_set (row_bytes_by_length high sprite) sprite i (row / s - y % (64 / s))) (inside low).1
-      ∙ covered)
-      (λ (far : s * left + 16 ≤ column).
-      ap (λ bit. bit == 1) (stripe_right bits (s * left) column fits on_screen far)
-      ∙ sym (is_set_right (row_bytes_by_length high sprite) sprite (column / s - left) (row / s - y % (64 / s)) (after far))
-      ∙ covered)
-      (cases_lt column (s * left + 16)))
-      (cases_lt column (s * left))
+-- past them it has none
+past_columns : (high : Bool) (sprite : List ℕ) (s left column : ℕ) → s ≡ scale high → s * left + 16 ≤ column → 8 * row_bytes_by_length high sprite ≤ column / s - left
+past_columns true sprite s left column e =
+    let few = row_bytes_few true sprite in subst (λ (s : ℕ). s * left + 16 ≤ column → 8 * row_bytes_by_length true sprite ≤ column / s - left) (sym e) (λ far. omega arith)
+past_columns false sprite s left column e =
+    let one = row_bytes-low sprite in subst (λ (s : ℕ). s * left + 16 ≤ column → 8 * row_bytes_by_length false sprite ≤ column / s - left) (sym e) (λ far. omega arith)
 
 -- the bits of a row of the sprite, moved to where it starts, light the columns that it covers
 pub lights_covered : (high : Bool) (x y : ℕ) (sprite : List ℕ) (bits column row s : ℕ) → bits < 2 ^ 16 → column < 128 → s ≡ scale high → y % (64 / s) ≤ row / s → IsPattern bits high sprite (row / s - y % (64 / s))
     → lights (bits * 2 ^ 112 % 2 ^ 128 / 2 ^ (s * (x % (128 / s)))) column ≡ covers_by_length high x y sprite column row
-lights_covered true x y sprite bits column row s fits on_screen e =
-    subst (λ s. y % (64 / s) ≤ row / s → IsPattern bits true sprite (row / s - y % (64 / s)) → lights (bits * 2 ^ 112 % 2 ^ 128 / 2 ^ (s * (x % (128 / s)))) column ≡ covers_by_length true x y sprite column row) (sym e)
-    (λ below pattern. let few = row_bytes_few true sprite in
-    covers_at true x y sprite bits column row fits on_screen 1 (x % 128) refl refl below pattern
-    (λ out. omega arith) (λ low. (omega arith, omega arith)) (λ far. omega arith))
-lights_covered false x y sprite bits column row s fits on_screen e =
-    subst (λ s. y % (64 / s) ≤ row / s → IsPattern bits false sprite (row / s - y % (64 / s)) → lights (bits * 2 ^ 112 % 2 ^ 128 / 2 ^ (s * (x % (128 / s)))) column ≡ covers_by_length false x y sprite column row) (sym e)
-    (λ below pattern. let one = row_bytes-low sprite in
-    covers_at false x y sprite bits column row fits on_screen 2 (x % 64) refl refl below pattern
-    (λ out. omega arith) (λ low. (omega arith, omega arith)) (λ far. omega arith))
+lights_covered high x y sprite bits column row s fits on_screen e below pattern =
+    let left = x % (128 / s) in
+    let line = row / s - y % (64 / s) in
+    ⊎_elim
+    (λ (out : column < s * left).
+    ap (λ bit. bit == 1) (stripe_left bits (s * left) column fits on_screen out)
+    ∙ sym (covers_left high x y sprite column row s e (before_pixel high s left column e out)))
+    (λ (low : s * left ≤ column).
+    let inside = from_pixel high s left column e low in
+    let covered = covers-inside high x y sprite column row s e inside.0 below in
+    ⊎_elim
+    (λ (near : column < s * left + 16).
+    ap (λ bit. bit == 1) (stripe_inside bits (s * left) column fits on_screen low near)
+    ∙ pattern (column - s * left) (omega arith)
+    ∙ ap (λ k. is_set (row_bytes_by_length high sprite) sprite ((column - s * left) / k) line) (sym e)
+    ∙ ap (λ i. is_set (row_bytes_by_length high sprite) sprite i line) inside.1
+    ∙ covered)
+    (λ (far : s * left + 16 ≤ column).
+    ap (λ bit. bit == 1) (stripe_right bits (s * left) column fits on_screen far)
+    ∙ sym (is_set_right (row_bytes_by_length high sprite) sprite (column / s - left) line (past_columns high sprite s left column e far))
+    ∙ covered)
+    (cases_lt column (s * left + 16)))
+    (cases_lt column (s * left))
 
 -- ---- a row of a sprite as sixteen bits
 
@@ -125,50 +117,81 @@ module _ (sprite : List ℕ) (j : ℕ) where
 
 -- ---- whole screens
 
-pub toggled_rows : (old new : List ℕ) (cover : ℕ → ℕ → Bool)
-    → ((row column : ℕ) → row < 64 → column < 128 → lights (get_or new row 0) column ≡ differ (lights (get_or old row 0) column) (cover column row))
-    → in_rows new ≡ symmetric_difference (in_rows old) (points_where cover)
-toggled_rows old new cover turned =
-    toggled_where (λ c r. lights (get_or new r 0) c) (λ c r. lights (get_or old r 0) c) cover (λ c r left high. turned r c high left)
+module _ (old new : List ℕ) (cover : ℕ → ℕ → Bool) (met : Bool) (all : AreTurned 0 64 cover old new met) where
+  pub toggled_rows : in_rows new ≡ symmetric_difference (in_rows old) (points_where cover)
+  toggled_rows =
+      toggled_where (λ c r. lights (get_or new r 0) c) (λ c r. lights (get_or old r 0) c) cover (λ c r left high. all.turned r c (omega arith) high left)
 
-pub hit_rows : (old : List ℕ) (cover : ℕ → ℕ → Bool) (hit : Bool)
-    → hit ≡ any_below (λ row. any_below (λ column. lights (get_or old row 0) column && cover column row) 128) 64
-    → hit ≡ meets (in_rows old) (points_where cover)
-hit_rows old cover hit e =
-    meets_where (λ c r. lights (get_or old r 0) c) cover hit
-    (λ none c r left high. any_below-false _ 128 (any_below-false (λ row. any_below (λ column. lights (get_or old row 0) column && cover column row) 128) 64 (sym e ∙ none) r high) c left)
-    (λ none. e ∙ any_below_none (λ row. any_below (λ column. lights (get_or old row 0) column && cover column row) 128) 64 (λ r high. any_below_none _ 128 (λ c left. none c r left high)))
+  pub hit_rows : met ≡ meets (in_rows old) (points_where cover)
+  hit_rows =
+      let found : ℕ → Bool = λ row. any_below (λ column. lights (get_or old row 0) column && cover column row) 128 in
+      let e : met ≡ any_below found 64 = sym (any_below_first found met) ∙ all.hit found (λ _ _ _. refl) in
+      meets_where (λ c r. lights (get_or old r 0) c) cover met
+      (λ none c r left high. any_below-false _ 128 (any_below-false found 64 (sym e ∙ none) r high) c left)
+      (λ none. e ∙ any_below_none found 64 (λ r high. any_below_none _ 128 (λ c left. none c r left high)))
 
--- one row more is turned
-pub turned_more : (rows old : List ℕ) (from place stripe : ℕ) → place < length rows → get_or rows place 0 ≡ get_or old place 0
-    → ((row column : ℕ) → from ≤ row → row < place → column < 128 → lights (get_or rows row 0) column ≡ differ (lights (get_or old row 0) column) (lights stripe column))
-    → (row column : ℕ) → from ≤ row → row < place + 1 → column < 128
-    → lights (get_or (set rows place (bit_xor (get_or rows place 0) stripe)) row 0) column ≡ differ (lights (get_or old row 0) column) (lights stripe column)
-turned_more rows old from place stripe within ahead before row column low below on_screen = ⊎_elim
-    (λ (here : row ≡ place).
-    let turned = bit_xor (get_or rows place 0) stripe in
-    ap (λ r. lights (get_or (set rows place turned) r 0) column) here
-    ∙ ap (λ bits. lights bits column) (get_or-set_same rows place turned 0 within)
-    ∙ lights-bit_xor (get_or rows place 0) stripe column
-    ∙ ap (λ bits. differ (lights bits column) (lights stripe column)) ahead
-    ∙ ap (λ r. differ (lights (get_or old r 0) column) (lights stripe column)) (sym here))
-    (λ (other : row ≡ place → ⊥).
-    ap (λ bits. lights bits column) (get_or-set_other rows place row (bit_xor (get_or rows place 0) stripe) 0 other)
-    ∙ before row column low (omega arith) on_screen)
-    (cases_eq row place)
+-- ---- rows whose pixels are turned
 
--- the rows of one line more are turned
-pub line_turned : (from count stripe : ℕ) (old rows new : List ℕ) (cover : ℕ → ℕ → Bool)
-    → ((row column : ℕ) → from ≤ row → row < from + count → column < 128 → lights (get_or new row 0) column ≡ differ (lights (get_or rows row 0) column) (lights stripe column))
-    → ((row : ℕ) → row < from → get_or new row 0 ≡ get_or rows row 0)
-    → ((column row : ℕ) → column < 128 → from ≤ row → row < from + count → lights stripe column ≡ cover column row)
-    → ((row column : ℕ) → row < from → column < 128 → lights (get_or rows row 0) column ≡ differ (lights (get_or old row 0) column) (cover column row))
-    → ((row : ℕ) → from ≤ row → get_or rows row 0 ≡ get_or old row 0)
-    → (row column : ℕ) → row < from + count → column < 128 → lights (get_or new row 0) column ≡ differ (lights (get_or old row 0) column) (cover column row)
-line_turned from count stripe old rows new cover turned before covered held ahead row column below within = ⊎_elim
-    (λ (above : row < from). ap (λ bits. lights bits column) (before row above) ∙ held row column above within)
-    (λ (low : from ≤ row). turned row column low below within ∙ (λ i. differ (lights (ahead row low i) column) (covered column row within low below i)))
-    (cases_lt row from)
+or_groups : (a b d : Bool) → (a || (b || d)) ≡ ((a || b) || d)
+or_groups true b d = refl
+or_groups false b d = refl
+
+-- those of some rows, and then those of the next ones
+pub turned_on : (start from end : ℕ) (cover other : ℕ → ℕ → Bool) (old rows new : List ℕ) (met more : ℕ) → start ≤ from → from ≤ end
+    → ((column row : ℕ) → column < 128 → from ≤ row → row < end → other column row ≡ cover column row)
+    → AreTurned start from cover old rows (not (nat_eq met 0)) → AreTurned from end other rows new (not (nat_eq more 0))
+    → AreTurned start end cover old new (not (nat_eq (bit_or met more) 0))
+turned_on start from end cover other old rows new met more low high same first rest =
+    record {
+      turned = λ row column above below within. ⊎_elim
+          (λ (early : row < from). ap (λ bits. lights bits column) (rest.before row early) ∙ first.turned row column above early within)
+          (λ (late : from ≤ row). rest.turned row column late below within ∙ (λ i. differ (lights (first.after row late i) column) (same column row within late below i)))
+          (cases_lt row from);
+      before = λ row above. rest.before row (omega arith) ∙ first.before row above;
+      after = λ row below. rest.after row below ∙ first.after row (omega arith);
+      hit = λ test is.
+          ap (λ found. any_below test start || found) (either_some met more)
+          ∙ or_groups (any_below test start) (not (nat_eq met 0)) (not (nat_eq more 0))
+          ∙ ap (λ found. found || not (nat_eq more 0)) (first.hit test (λ row above below. is row above (omega arith)))
+          ∙ rest.hit test (λ row late below.
+          is row (omega arith) below ∙ any_below_same _ _ 128 (λ column within i. lights (sym (first.after row late) i) column && sym (same column row within late below) i));
+    }
+
+-- those of one row
+pub turned_row : (rows : List ℕ) (place stripe : ℕ) → place < length rows → stripe < 2 ^ 128
+    → AreTurned place (place + 1) (λ column row. lights stripe column) rows (set rows place (bit_xor (get_or rows place 0) stripe)) (not (nat_eq (bit_and (get_or rows place 0) stripe) 0))
+turned_row rows place stripe within fits =
+    let bits = bit_xor (get_or rows place 0) stripe in
+    record {
+      turned = λ row column above below _.
+          let here : row ≡ place = omega arith in
+          ap (λ r. lights (get_or (set rows place bits) r 0) column) here
+          ∙ ap (λ bits. lights bits column) (get_or-set_same rows place bits 0 within)
+          ∙ lights-bit_xor (get_or rows place 0) stripe column
+          ∙ ap (λ r. differ (lights (get_or rows r 0) column) (lights stripe column)) (sym here);
+      before = λ row above. get_or-set_other rows place row bits 0 (omega arith);
+      after = λ row below. get_or-set_other rows place row bits 0 (omega arith);
+      hit = λ test is.
+          ap (λ found. any_below test place || found) (common_column (get_or rows place 0) stripe fits ∙ sym (is place (omega arith) (omega arith)))
+          ∙ sym (any_below_more test place);
+    }
+
+unturned : (lit covered : Bool) → covered ≡ false → lit ≡ differ lit covered
+unturned true covered e = ap (λ b. differ true b) (sym e)
+unturned false covered e = ap (λ b. differ false b) (sym e)
+
+-- none where nothing is covered
+pub turned_nowhere : (start end : ℕ) (cover : ℕ → ℕ → Bool) (rows : List ℕ) → start ≤ end → ((column row : ℕ) → start ≤ row → row < end → cover column row ≡ false)
+    → AreTurned start end cover rows rows false
+turned_nowhere start end cover rows low none =
+    record {
+      turned = λ row column above below _. unturned _ _ (none column row above below);
+      before = λ _ _. refl;
+      after = λ _ _. refl;
+      hit = λ test is.
+          or_none (any_below test start)
+          ∙ any_below_longer test start end low (λ row above below. is row above below ∙ any_below_none _ 128 (λ column _. and_right _ _ (none column row above below)));
+    }
 
 -- ---- scrolls
 

@@ -11,33 +11,22 @@ use Rattle.chip_machine.specs.declared.quirks.LowSixteen.{LowSixteen}
 use Rattle.chip_machine.specs.declared.quirks.LowSixteen.TheVariants as sixteen
 use Rattle.chip_machine.specs.declared.quirks.Quirks.{Quirks}
 
-same_bools : (a b : Bool) → beq a b ≡ true → a ≡ b
+pub same_bools : (a b : Bool) → beq a b ≡ true → a ≡ b
 same_bools true true is = refl
-same_bools true false is = absurd (false≢true is)
-same_bools false true is = absurd (false≢true is)
 same_bools false false is = refl
+same_bools _ _ is = absurd (false≢true is)
 
 same_moves : (a b : IndexMove) → is_move a b ≡ true → a ≡ b
 same_moves index.Stays index.Stays is = refl
-same_moves index.Stays index.AtLast is = absurd (false≢true is)
-same_moves index.Stays index.PastLast is = absurd (false≢true is)
-same_moves index.AtLast index.Stays is = absurd (false≢true is)
 same_moves index.AtLast index.AtLast is = refl
-same_moves index.AtLast index.PastLast is = absurd (false≢true is)
-same_moves index.PastLast index.Stays is = absurd (false≢true is)
-same_moves index.PastLast index.AtLast is = absurd (false≢true is)
 same_moves index.PastLast index.PastLast is = refl
+same_moves _ _ is = absurd (false≢true is)
 
 same_sixteens : (a b : LowSixteen) → is_sixteen a b ≡ true → a ≡ b
 same_sixteens sixteen.Nothing sixteen.Nothing is = refl
-same_sixteens sixteen.Nothing sixteen.Narrow is = absurd (false≢true is)
-same_sixteens sixteen.Nothing sixteen.Wide is = absurd (false≢true is)
-same_sixteens sixteen.Narrow sixteen.Nothing is = absurd (false≢true is)
 same_sixteens sixteen.Narrow sixteen.Narrow is = refl
-same_sixteens sixteen.Narrow sixteen.Wide is = absurd (false≢true is)
-same_sixteens sixteen.Wide sixteen.Nothing is = absurd (false≢true is)
-same_sixteens sixteen.Wide sixteen.Narrow is = absurd (false≢true is)
 same_sixteens sixteen.Wide sixteen.Wide is = refl
+same_sixteens _ _ is = absurd (false≢true is)
 
 -- machines with the same quirks are the same
 pub same_machine : (q other : Quirks) → are_same_quirks q other ≡ true → q ≡ other

@@ -30,6 +30,18 @@ is_set_below w n sprite i j few h =
     let along : n * w ≤ j * w = mul-le-mul_right w h in
     is_set_past w sprite i j (omega (arith, along, few, mul_comm w n, mul_comm w j))
 
+-- what holds where a pixel is one stored one, and where it is two by two
+pub at_scale : (P : (scaled s : ℕ) → Type 0) → P 1 1 → P 2 2 → (high : Bool) (s : ℕ) → s ≡ scale high → P (scale high) s
+at_scale P one two true s e = subst (P 1) (sym e) one
+at_scale P one two false s e = subst (P 2) (sym e) two
+
+-- stored columns or rows before those of a pixel, and from it on
+pub before_pixel : (high : Bool) (s n k : ℕ) → s ≡ scale high → k < s * n → k / s < n
+before_pixel high s n k e = at_scale (λ _ s. k < s * n → k / s < n) (λ low. omega arith) (λ low. omega arith) high s e
+
+pub from_pixel : (high : Bool) (s n k : ℕ) → s ≡ scale high → s * n ≤ k → (n ≤ k / s) × ((k - s * n) / s ≡ k / s - n)
+from_pixel high s n k e = at_scale (λ _ s. s * n ≤ k → (n ≤ k / s) × ((k - s * n) / s ≡ k / s - n)) (λ up. (omega arith, omega arith)) (λ up. (omega arith, omega arith)) high s e
+
 -- a test of three parts, of which two are known
 three_tests : (a b c : Bool) → a ≡ true → b ≡ true → (a && b && c) ≡ c
 three_tests a b c p q = λ i. p i && q i && c
@@ -63,29 +75,18 @@ module _ (high : Bool) (x y : ℕ) (sprite : List ℕ) (column row : ℕ) where
 
 -- above the first line of a sprite nothing is covered
 pub covers_before : (high : Bool) (x y : ℕ) (sprite : List ℕ) (column row : ℕ) → row < scale high * (y % (64 / scale high)) → covers_by_length high x y sprite column row ≡ false
-covers_before true x y sprite column row before = covers_above true x y sprite column row 1 refl (omega arith)
-covers_before false x y sprite column row before = covers_above false x y sprite column row 2 refl (omega arith)
+covers_before high x y sprite column row before = covers_above high x y sprite column row (scale high) refl (before_pixel high (scale high) _ row refl before)
 
 -- nor from the line on where its n rows or the screen end
 pub covers_after : (high : Bool) (x y : ℕ) (sprite : List ℕ) (column row count n s : ℕ) → row < 64 → length sprite ≤ row_bytes_by_length high sprite * n → s ≡ scale high → count ≡ min n (64 / s - y % (64 / s)) → scale high * (y % (64 / s) + count) ≤ row → covers_by_length high x y sprite column row ≡ false
-covers_after true x y sprite column row count n s on_screen few scaled e after =
-    let e1 : count ≡ min n (64 / 1 - y % (64 / 1)) = subst (λ s. count ≡ min n (64 / s - y % (64 / s))) scaled e in
-    let after1 : 1 * (y % (64 / 1) + count) ≤ row = subst (λ s. 1 * (y % (64 / s) + count) ≤ row) scaled after in
-    covers_below true x y sprite column row 1 n refl few (omega (arith, e1, after1))
-covers_after false x y sprite column row count n s on_screen few scaled e after =
-    let e2 : count ≡ min n (64 / 2 - y % (64 / 2)) = subst (λ s. count ≡ min n (64 / s - y % (64 / s))) scaled e in
-    let after2 : 2 * (y % (64 / 2) + count) ≤ row = subst (λ s. 2 * (y % (64 / s) + count) ≤ row) scaled after in
-    covers_below false x y sprite column row 2 n refl few (omega (arith, e2, after2))
+covers_after high x y sprite column row count n s on_screen few scaled e after =
+    covers_below high x y sprite column row (scale high) n refl few
+    (at_scale (λ h s. count ≡ min n (64 / s - y % (64 / s)) → h * (y % (64 / s) + count) ≤ row → n ≤ row / h - y % (64 / h))
+    (λ e after. omega (arith, e, after)) (λ e after. omega (arith, e, after)) high s scaled e after)
 
 pub lines_on_screen : (high : Bool) (y count n s : ℕ) → s ≡ scale high → count ≡ min n (64 / s - y % (64 / s)) → scale high * (y % (64 / s) + count) ≤ 64
-lines_on_screen true y count n s scaled e =
-    let e1 : count ≡ min n (64 / 1 - y % (64 / 1)) = subst (λ s. count ≡ min n (64 / s - y % (64 / s))) scaled e in
-    let within : 1 * (y % (64 / 1) + count) ≤ 64 = omega (arith, e1) in
-    subst (λ s. 1 * (y % (64 / s) + count) ≤ 64) (sym scaled) within
-lines_on_screen false y count n s scaled e =
-    let e2 : count ≡ min n (64 / 2 - y % (64 / 2)) = subst (λ s. count ≡ min n (64 / s - y % (64 / s))) scaled e in
-    let within : 2 * (y % (64 / 2) + count) ≤ 64 = omega (arith, e2) in
-    subst (λ s. 2 * (y % (64 / s) + count) ≤ 64) (sym scaled) within
+lines_on_screen high y count n s scaled e =
+    at_scale (λ h s. count ≡ min n (64 / s - y % (64 / s)) → h * (y % (64 / s) + count) ≤ 64) (λ e. omega (arith, e)) (λ e. omega (arith, e)) high s scaled e
 
 -- the line of a row
 pub line_of : (high : Bool) (line row : ℕ) → scale high * line ≤ row → row < scale high * line + scale high → row / scale high ≡ line

@@ -9,7 +9,7 @@ use Rattle.chip_machine.specs.Sprite.{clipped_over, is_set, scale, wrapped_over}
 use Rattle.chip_machine.specs.inner.SpriteBytes.{covers, sprite_row_bytes}
 use Rattle.chip_machine.proofs.BitLemmas.{lights_shl, lights_shl_out, lights_shr}
 use Rattle.chip_machine.proofs.RowLemmas.{IsPattern, point_at}
-use Rattle.chip_machine.proofs.SpriteLemmas.{is_set_right, row_bytes-clipped}
+use Rattle.chip_machine.proofs.SpriteLemmas.{at_scale, before_pixel, from_pixel, is_set_right, line_of, row_bytes-clipped}
 
 -- the 32 bits that a row of the sprite has
 abbrev pub IsWidePattern : ℕ → Bool → List ℕ → ℕ → Type 0
@@ -94,57 +94,38 @@ module _ (x y : ℕ) (sprite : List ℕ) (bits column at line : ℕ) (on_screen 
       → scale high * line ≤ at → at < scale high * line + scale high
       → lights bits ((column + 128 - scale high * (x % (128 / scale high))) % 128) ≡ wrapped_over high x y (sprite_row_bytes sprite) sprite column at
   unfolding wrapped_over
-  wrapped_by true row low up =
-      let across : (column + 128 - 1 * (x % (128 / 1))) % 128 / 1 ≡ (column / 1 + 128 / 1 - x % (128 / 1)) % (128 / 1) = omega arith in
-      let down : (line + 64 / 1 - y % (64 / 1)) % (64 / 1) ≡ (at / 1 + 64 / 1 - y % (64 / 1)) % (64 / 1) = omega arith in
-      row _ (omega arith) ∙ (λ i. is_set (sprite_row_bytes sprite) sprite (across i) (down i))
-  wrapped_by false row low up =
-      let across : (column + 128 - 2 * (x % (128 / 2))) % 128 / 2 ≡ (column / 2 + 128 / 2 - x % (128 / 2)) % (128 / 2) = omega arith in
-      let down : (line + 64 / 2 - y % (64 / 2)) % (64 / 2) ≡ (at / 2 + 64 / 2 - y % (64 / 2)) % (64 / 2) = omega arith in
-      row _ (omega arith) ∙ (λ i. is_set (sprite_row_bytes sprite) sprite (across i) (down i))
+  wrapped_by high row low up =
+      let s = scale high in
+      let across = at_scale (λ s _. (column + 128 - s * (x % (128 / s))) % 128 / s ≡ (column / s + 128 / s - x % (128 / s)) % (128 / s)) (omega arith) (omega arith) high s refl in
+      row _ (omega arith) ∙ (λ i. is_set (sprite_row_bytes sprite) sprite (across i) ((sym (line_of high line at low up) i + 64 / s - y % (64 / s)) % (64 / s)))
 
   clipped_by : (high : Bool) → bits < 2 ^ 128 → LightsRow bits high sprite (line - y % (64 / scale high)) → y % (64 / scale high) ≤ line
       → scale high * line ≤ at → at < scale high * line + scale high
       → lights (bits / 2 ^ (scale high * (x % (128 / scale high)))) column ≡ clipped_over high x y (sprite_row_bytes sprite) sprite column at
   unfolding clipped_over
-  clipped_by true fits row below low up =
-      lights_shr bits (1 * (x % (128 / 1))) column fits (omega arith) on_screen ∙ ⊎_elim
-      (λ (out : column < 1 * (x % (128 / 1))).
-      let left : column / 1 < x % (128 / 1) = omega arith in
-      and_left _ _ (lt-leb (1 * (x % (128 / 1))) column out) ∙ sym (and_left _ _ (and_left _ _ (lt-leb (x % (128 / 1)) (column / 1) left))))
-      (λ (kept : 1 * (x % (128 / 1)) ≤ column).
-      let inside : x % (128 / 1) ≤ column / 1 = omega arith in
-      let down : y % (64 / 1) ≤ at / 1 = omega arith in
-      let across : (column - 1 * (x % (128 / 1))) / 1 ≡ column / 1 - x % (128 / 1) = omega arith in
-      let under : line - y % (64 / 1) ≡ at / 1 - y % (64 / 1) = omega arith in
-      ap (λ b. b && lights bits (column - 1 * (x % (128 / 1)))) (le-leb (1 * (x % (128 / 1))) column kept)
-      ∙ row _ (omega arith) ∙ (λ i. is_set (sprite_row_bytes sprite) sprite (across i) (under i))
-      ∙ (λ i. sym (le-leb (x % (128 / 1)) (column / 1) inside) i && sym (le-leb (y % (64 / 1)) (at / 1) down) i && is_set (sprite_row_bytes sprite) sprite (column / 1 - x % (128 / 1)) (at / 1 - y % (64 / 1))))
-      (cases_lt column (1 * (x % (128 / 1))))
-  clipped_by false fits row below low up =
-      lights_shr bits (2 * (x % (128 / 2))) column fits (omega arith) on_screen ∙ ⊎_elim
-      (λ (out : column < 2 * (x % (128 / 2))).
-      let left : column / 2 < x % (128 / 2) = omega arith in
-      and_left _ _ (lt-leb (2 * (x % (128 / 2))) column out) ∙ sym (and_left _ _ (and_left _ _ (lt-leb (x % (128 / 2)) (column / 2) left))))
-      (λ (kept : 2 * (x % (128 / 2)) ≤ column).
-      let inside : x % (128 / 2) ≤ column / 2 = omega arith in
-      let down : y % (64 / 2) ≤ at / 2 = omega arith in
-      let across : (column - 2 * (x % (128 / 2))) / 2 ≡ column / 2 - x % (128 / 2) = omega arith in
-      let under : line - y % (64 / 2) ≡ at / 2 - y % (64 / 2) = omega arith in
-      ap (λ b. b && lights bits (column - 2 * (x % (128 / 2)))) (le-leb (2 * (x % (128 / 2))) column kept)
-      ∙ row _ (omega arith) ∙ (λ i. is_set (sprite_row_bytes sprite) sprite (across i) (under i))
-      ∙ (λ i. sym (le-leb (x % (128 / 2)) (column / 2) inside) i && sym (le-leb (y % (64 / 2)) (at / 2) down) i && is_set (sprite_row_bytes sprite) sprite (column / 2 - x % (128 / 2)) (at / 2 - y % (64 / 2))))
-      (cases_lt column (2 * (x % (128 / 2))))
+  clipped_by high fits row below low up =
+      let s = scale high in
+      let left = x % (128 / s) in
+      let top = y % (64 / s) in
+      let here : at / s ≡ line = line_of high line at low up in
+      let down : top ≤ at / s = omega (arith, here, below) in
+      lights_shr bits (s * left) column fits (at_scale (λ s _. s * (x % (128 / s)) ≤ 128) (omega arith) (omega arith) high s refl) on_screen ∙ ⊎_elim
+      (λ (out : column < s * left).
+      and_left _ _ (lt-leb (s * left) column out) ∙ sym (and_left _ _ (and_left _ _ (lt-leb left (column / s) (before_pixel high s left column refl out)))))
+      (λ (kept : s * left ≤ column).
+      let inside = from_pixel high s left column refl kept in
+      ap (λ b. b && lights bits (column - s * left)) (le-leb (s * left) column kept)
+      ∙ row _ (omega arith) ∙ (λ i. is_set (sprite_row_bytes sprite) sprite (inside.1 i) (sym here i - top))
+      ∙ (λ i. sym (le-leb left (column / s) inside.0) i && sym (le-leb top (at / s) down) i && is_set (sprite_row_bytes sprite) sprite (column / s - left) (at / s - top)))
+      (cases_lt column (s * left))
 
   above_by : (high : Bool) → line < y % (64 / scale high) → at < scale high * line + scale high
       → lights 0 column ≡ clipped_over high x y (sprite_row_bytes sprite) sprite column at
   unfolding clipped_over
-  above_by true out up =
-      let above : at / 1 < y % (64 / 1) = omega arith in
-      ap (λ bit. bit == 1) (bit_at-zero (127 - column)) ∙ sym (and_left _ _ (and_right (nat_le (x % (128 / 1)) (column / 1)) _ (lt-leb (y % (64 / 1)) (at / 1) above)))
-  above_by false out up =
-      let above : at / 2 < y % (64 / 2) = omega arith in
-      ap (λ bit. bit == 1) (bit_at-zero (127 - column)) ∙ sym (and_left _ _ (and_right (nat_le (x % (128 / 2)) (column / 2)) _ (lt-leb (y % (64 / 2)) (at / 2) above)))
+  above_by high out up =
+      let s = scale high in
+      let above = at_scale (λ s _. line < y % (64 / s) → at < s * line + s → at / s < y % (64 / s)) (λ out up. omega arith) (λ out up. omega arith) high s refl out up in
+      ap (λ bit. bit == 1) (bit_at-zero (127 - column)) ∙ sym (and_left _ _ (and_right (nat_le (x % (128 / s)) (column / s)) _ (lt-leb (y % (64 / s)) (at / s) above)))
 
   module _ (wraps high : Bool) (s : ℕ) (e : s ≡ scale high) (low : scale high * line ≤ at) (up : at < scale high * line + scale high) where
     pub stripe_around : (stripe : ℕ) → wraps ≡ true → LightsRow bits high sprite ((line + 64 / s - y % (64 / s)) % (64 / s))

@@ -14,9 +14,9 @@ use Rattle.chip_machine.specs.declared.quirks.LowSixteen.{LowSixteen}
 use Rattle.chip_machine.specs.declared.quirks.LowSixteen.TheVariants as sixteen
 use Rattle.chip_machine.specs.declared.quirks.Quirks.{Quirks}
 
--- the quirks of each
-abbrev pub quirks : Profile → Quirks
-quirks profile.Schip =
+-- the quirks of SUPER-CHIP 1.1
+abbrev pub schip : Quirks
+schip =
     record {
       shifts_second = false;
       index_move = index.Stays;
@@ -29,70 +29,41 @@ quirks profile.Schip =
       flags_overflow = false;
       has_super_instructions = true;
     }
+
+-- the quirks of each: those of SUPER-CHIP 1.1, but for these
+abbrev pub quirks : Profile → Quirks
+quirks profile.Schip = schip
 quirks profile.Vip =
-    record {
+    record schip {
       shifts_second = true;
       index_move = index.PastLast;
       jumps_by_first = true;
       clears_flag = true;
-      wraps = false;
       low_sixteen = sixteen.Nothing;
-      scrolls_whole = false;
-      clears_at_size = false;
-      flags_overflow = false;
       has_super_instructions = false;
     }
 quirks profile.Chip48 =
-    record {
-      shifts_second = false;
+    record schip {
       index_move = index.AtLast;
-      jumps_by_first = false;
-      clears_flag = false;
-      wraps = false;
       low_sixteen = sixteen.Nothing;
-      scrolls_whole = false;
-      clears_at_size = false;
-      flags_overflow = false;
       has_super_instructions = false;
     }
-quirks profile.Schip10 =
-    record {
-      shifts_second = false;
-      index_move = index.AtLast;
-      jumps_by_first = false;
-      clears_flag = false;
-      wraps = false;
-      low_sixteen = sixteen.Narrow;
-      scrolls_whole = false;
-      clears_at_size = false;
-      flags_overflow = false;
-      has_super_instructions = true;
-    }
+quirks profile.Schip10 = record schip { index_move = index.AtLast }
 quirks profile.SchipModern =
-    record {
-      shifts_second = false;
-      index_move = index.Stays;
-      jumps_by_first = false;
-      clears_flag = false;
-      wraps = false;
+    record schip {
       low_sixteen = sixteen.Wide;
       scrolls_whole = true;
       clears_at_size = true;
-      flags_overflow = false;
-      has_super_instructions = true;
     }
 quirks profile.Octo =
-    record {
+    record schip {
       shifts_second = true;
       index_move = index.PastLast;
       jumps_by_first = true;
-      clears_flag = false;
       wraps = true;
       low_sixteen = sixteen.Wide;
       scrolls_whole = true;
       clears_at_size = true;
-      flags_overflow = false;
-      has_super_instructions = true;
     }
 
 -- the name of a profile

@@ -1,8 +1,8 @@
 //! The effect of one instruction.
 
-ghost use Rattle.std.specs.Prelude.{◌≡◌, ◌+◌, ◌-◌, ◌<◌, ◌≤◌, ◌^◌, [], length, OnOk, OnErr, IfOk, IfErr, Ok, Err};
-ghost use Rattle.chip_machine.specs.Step.{effect, effect_of_word, perform, accessed};
-ghost use Rattle.chip_machine.specs.Touched.{IsNoted, is_among};
+ghost use Rattle.std.specs.Prelude.{◌≡◌, ◌+◌, ◌-◌, ◌<◌, ◌≤◌, ◌^◌, [], length, OnErr, IfOk};
+ghost use Rattle.chip_machine.specs.Step.{effect, accessed};
+ghost use Rattle.chip_machine.specs.inner.Performs.{Performs};
 
 use crate::keys::HeldKeys;
 use crate::limits::{LAST_WORD, MEMORY_BYTES};
@@ -25,14 +25,8 @@ pub(crate) fn execute<K: HeldKeys>(
     requires pc { processor.old.pc ≤ LAST_WORD }
     requires in_range { step < 2 ^ 32 - 1 }
     requires ready { K.is_ready keys.old step }
-    ensures ok { OnOk result
-        (perform (K.held keys.old step) (record { core = processor.old; memory = memory.old })
-        (effect instr processor.old) ≡ Ok (record { core = processor.new; memory = memory.new })) }
-    ensures why { IfErr result
-        (λ why. perform (K.held keys.old step)
-        (record { core = processor.old; memory = memory.old }) (effect instr processor.old)
-        ≡ Err why) }
-    ensures same { OnErr result ((processor.new ≡ processor.old) × (memory.new ≡ memory.old)) }
+    ensures done { Performs (K.held keys.old step) (effect instr processor.old) processor.old
+        processor.new memory.old memory.new result }
     ensures touched { IfOk result (λ span. span
         ≡ accessed processor.old.index (effect instr processor.old)) }
     ensures untouched { OnErr result (accessed processor.old.index (effect instr processor.old)

@@ -69,11 +69,7 @@ impl Forgotten {
     pub fn nothing() -> Forgotten
         ensures { result ≡ 0 }
     {
-        Forgotten {
-            parts: 0,
-            window: 0,
-            bytes: 0,
-        }
+        Forgotten::parts_alone(0)
     }
 
     /// I, the screen and all registers, and no byte.
@@ -98,13 +94,8 @@ impl Forgotten {
 
     /// So many bytes at an address, of which a window has room for `WINDOW_BYTES`.
     pub fn bytes(at: u16, count: u16) -> Forgotten {
-        let bytes = if count == 0 {
-            0
-        } else if count < WINDOW_BYTES {
-            u64::MAX >> (WINDOW_BYTES - count)
-        } else {
-            u64::MAX
-        };
+        let missing = WINDOW_BYTES.saturating_sub(count);
+        let bytes = u64::MAX.checked_shr(u32::from(missing)).unwrap_or(0);
         Forgotten {
             parts: 0,
             window: at,
@@ -112,7 +103,9 @@ impl Forgotten {
         }
     }
 
-    fn parts_alone(parts: u32) -> Forgotten {
+    fn parts_alone(parts: u32) -> Forgotten
+        ensures { result ≡ parts }
+    {
         Forgotten {
             parts,
             window: 0,
@@ -196,21 +189,12 @@ impl Forgotten {
 
     /// The bytes as those of another window, but for those that it has no room for.
     fn bytes_from(self, window: u16) -> u64 {
-        if window >= self.window {
-            let past = window - self.window;
-            if past < WINDOW_BYTES {
-                self.bytes >> past
-            } else {
-                0
-            }
+        let moved = if window >= self.window {
+            self.bytes.checked_shr(u32::from(window - self.window))
         } else {
-            let before = self.window - window;
-            if before < WINDOW_BYTES {
-                self.bytes << before
-            } else {
-                0
-            }
-        }
+            self.bytes.checked_shl(u32::from(self.window - window))
+        };
+        moved.unwrap_or(0)
     }
 
     /// The first address of the bytes that may be among them.
@@ -583,28 +567,17 @@ fn set_by(instr: &Instr, quirks: Quirks, moved: bool) -> u32
 {
     match *instr {
         Instr::ClearScreen => SCREEN,
-        Instr::LowSize => set_by_size(quirks),
-        Instr::HighSize => set_by_size(quirks),
-        Instr::LoadByte(x, _byte) => register(x),
-        Instr::Copy(x, _y) => register(x),
-        Instr::Or(x, _y) => set_by_logic(x, quirks),
-        Instr::And(x, _y) => set_by_logic(x, quirks),
-        Instr::Xor(x, _y) => set_by_logic(x, quirks),
-        Instr::Add(x, _y) => FLAG | register(x),
-        Instr::Subtract(x, _y) => FLAG | register(x),
-        Instr::ShiftRight(x, _y) => FLAG | register(x),
-        Instr::SubtractFrom(x, _y) => FLAG | register(x),
-        Instr::ShiftLeft(x, _y) => FLAG | register(x),
-        Instr::LoadIndex(_address) => INDEX | FAR,
-        Instr::Random(x, _byte) => register(x),
+        Instr::LowSize | Instr::HighSize => set_by_size(quirks),
+        Instr::LoadByte(x, _) | Instr::Copy(x, _) | Instr::Random(x, _) => register(x),
+        Instr::Or(x, _) | Instr::And(x, _) | Instr::Xor(x, _) => set_by_logic(x, quirks),
+        Instr::Add(x, _) | Instr::Subtract(x, _) | Instr::SubtractFrom(x, _) => FLAG | register(x),
+        Instr::ShiftRight(x, _) | Instr::ShiftLeft(x, _) => FLAG | register(x),
+        Instr::LoadIndex(_) | Instr::SmallDigit(_) | Instr::BigDigit(_) => INDEX | FAR,
         Instr::Draw(_x, _y, _n) => FLAG,
         Instr::ReadDelay(x) => register(x),
         Instr::WaitKey(x) => { if moved { register(x) } else { 0 } }
         Instr::AddIndex(_x) => { if quirks.flags_overflow { FLAG } else { 0 } }
-        Instr::SmallDigit(_x) => INDEX | FAR,
-        Instr::BigDigit(_x) => INDEX | FAR,
-        Instr::LoadRegisters(x) => first_registers(x),
-        Instr::LoadFlags(x) => first_registers(x),
+        Instr::LoadRegisters(x) | Instr::LoadFlags(x) => first_registers(x),
         _ => 0,
     }
 }
@@ -616,18 +589,12 @@ fn needs_of(instr: &Instr, quirks: Quirks) -> u32
     ensures { result ≡ mask_of (needs quirks instr.now) }
 {
     match *instr {
-        Instr::SkipIfByte(x, _byte) => register(x),
-        Instr::SkipUnlessByte(x, _byte) => register(x),
-        Instr::SkipIfEqual(x, y) => registers(x, y),
-        Instr::SkipUnlessEqual(x, y) => registers(x, y),
+        Instr::SkipIfByte(x, _) | Instr::SkipUnlessByte(x, _) => register(x),
+        Instr::SkipIfEqual(x, y) | Instr::SkipUnlessEqual(x, y) => registers(x, y),
         Instr::JumpOffset(address) => offset_register(address, quirks),
         Instr::Draw(_x, _y, _n) => FAR,
-        Instr::SkipIfKey(x) => register(x),
-        Instr::SkipUnlessKey(x) => register(x),
-        Instr::SetDelay(x) => register(x),
-        Instr::StoreDecimal(_x) => INDEX | FAR,
-        Instr::StoreRegisters(_x) => INDEX | FAR,
-        Instr::LoadRegisters(_x) => INDEX | FAR,
+        Instr::SkipIfKey(x) | Instr::SkipUnlessKey(x) | Instr::SetDelay(x) => register(x),
+        Instr::StoreDecimal(_) | Instr::StoreRegisters(_) | Instr::LoadRegisters(_) => INDEX | FAR,
         Instr::StoreFlags(x) => first_registers(x),
         _ => 0,
     }
@@ -641,18 +608,12 @@ fn uses_of(instr: &Instr, quirks: Quirks) -> u32
 {
     match *instr {
         Instr::Copy(_x, y) => register(y),
-        Instr::Or(x, y) => registers(x, y),
-        Instr::And(x, y) => registers(x, y),
-        Instr::Xor(x, y) => registers(x, y),
-        Instr::Add(x, y) => registers(x, y),
-        Instr::Subtract(x, y) => registers(x, y),
-        Instr::ShiftRight(x, y) => shifted(x, y, quirks),
-        Instr::SubtractFrom(x, y) => registers(x, y),
-        Instr::ShiftLeft(x, y) => shifted(x, y, quirks),
+        Instr::Or(x, y) | Instr::And(x, y) | Instr::Xor(x, y) => registers(x, y),
+        Instr::Add(x, y) | Instr::Subtract(x, y) | Instr::SubtractFrom(x, y) => registers(x, y),
+        Instr::ShiftRight(x, y) | Instr::ShiftLeft(x, y) => shifted(x, y, quirks),
         Instr::Draw(x, y, _n) => INDEX | (SCREEN | registers(x, y)),
         Instr::AddIndex(x) => INDEX | register(x),
-        Instr::SmallDigit(x) => register(x),
-        Instr::BigDigit(x) => register(x),
+        Instr::SmallDigit(x) | Instr::BigDigit(x) => register(x),
         _ => 0,
     }
 }
@@ -663,19 +624,13 @@ fn spoils_of(instr: &Instr, quirks: Quirks) -> u32
     ensures { result ≡ mask_of (spoils quirks instr.now) }
 {
     match *instr {
-        Instr::Copy(x, _y) => register(x),
-        Instr::Or(x, _y) => register(x),
-        Instr::And(x, _y) => register(x),
-        Instr::Xor(x, _y) => register(x),
-        Instr::Add(x, _y) => FLAG | register(x),
-        Instr::Subtract(x, _y) => FLAG | register(x),
-        Instr::ShiftRight(x, _y) => FLAG | register(x),
-        Instr::SubtractFrom(x, _y) => FLAG | register(x),
-        Instr::ShiftLeft(x, _y) => FLAG | register(x),
+        Instr::Copy(x, _) => register(x),
+        Instr::Or(x, _) | Instr::And(x, _) | Instr::Xor(x, _) => register(x),
+        Instr::Add(x, _) | Instr::Subtract(x, _) | Instr::SubtractFrom(x, _) => FLAG | register(x),
+        Instr::ShiftRight(x, _) | Instr::ShiftLeft(x, _) => FLAG | register(x),
         Instr::Draw(_x, _y, _n) => FLAG | SCREEN,
         Instr::AddIndex(_x) => spoilt_by_sum(quirks),
-        Instr::SmallDigit(_x) => INDEX,
-        Instr::BigDigit(_x) => INDEX,
+        Instr::SmallDigit(_) | Instr::BigDigit(_) => INDEX,
         _ => 0,
     }
 }

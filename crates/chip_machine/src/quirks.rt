@@ -149,45 +149,20 @@ impl Choice {
     fn put_in(self, quirks: Quirks) -> Quirks
         ensures { result ≡ with_quirk self quirks }
     {
+        let mut changed = quirks;
         match self {
-            Choice::ShiftsSecond(shifts_second) => Quirks {
-                shifts_second,
-                ..quirks
-            },
-            Choice::IndexMove(index_move) => Quirks {
-                index_move,
-                ..quirks
-            },
-            Choice::JumpsByFirst(jumps_by_first) => Quirks {
-                jumps_by_first,
-                ..quirks
-            },
-            Choice::ClearsFlag(clears_flag) => Quirks {
-                clears_flag,
-                ..quirks
-            },
-            Choice::Wraps(wraps) => Quirks { wraps, ..quirks },
-            Choice::LowSixteen(low_sixteen) => Quirks {
-                low_sixteen,
-                ..quirks
-            },
-            Choice::ScrollsWhole(scrolls_whole) => Quirks {
-                scrolls_whole,
-                ..quirks
-            },
-            Choice::ClearsAtSize(clears_at_size) => Quirks {
-                clears_at_size,
-                ..quirks
-            },
-            Choice::FlagsOverflow(flags_overflow) => Quirks {
-                flags_overflow,
-                ..quirks
-            },
-            Choice::HasSuperInstructions(has_super_instructions) => Quirks {
-                has_super_instructions,
-                ..quirks
-            },
+            Choice::ShiftsSecond(value) => changed.shifts_second = value,
+            Choice::IndexMove(value) => changed.index_move = value,
+            Choice::JumpsByFirst(value) => changed.jumps_by_first = value,
+            Choice::ClearsFlag(value) => changed.clears_flag = value,
+            Choice::Wraps(value) => changed.wraps = value,
+            Choice::LowSixteen(value) => changed.low_sixteen = value,
+            Choice::ScrollsWhole(value) => changed.scrolls_whole = value,
+            Choice::ClearsAtSize(value) => changed.clears_at_size = value,
+            Choice::FlagsOverflow(value) => changed.flags_overflow = value,
+            Choice::HasSuperInstructions(value) => changed.has_super_instructions = value,
         }
+        changed
     }
 }
 
@@ -210,37 +185,7 @@ impl Quirks {
     pub(crate) fn is_same(self, other: Quirks) -> bool
         ensures { IsTrue result → self ≡ other }
     {
-        if self.shifts_second != other.shifts_second {
-            return false;
-        }
-        if self.index_move != other.index_move {
-            return false;
-        }
-        if self.jumps_by_first != other.jumps_by_first {
-            return false;
-        }
-        if self.clears_flag != other.clears_flag {
-            return false;
-        }
-        if self.wraps != other.wraps {
-            return false;
-        }
-        if self.low_sixteen != other.low_sixteen {
-            return false;
-        }
-        if self.scrolls_whole != other.scrolls_whole {
-            return false;
-        }
-        if self.clears_at_size != other.clears_at_size {
-            return false;
-        }
-        if self.flags_overflow != other.flags_overflow {
-            return false;
-        }
-        if self.has_super_instructions != other.has_super_instructions {
-            return false;
-        }
-        true
+        self == other
     }
 
     /// Whether this machine has a choice.
@@ -286,12 +231,7 @@ impl Quirks {
             chosen = with_choice(chosen, Choice::from_name(part));
             match more {
                 Some(next) => rest = next,
-                None => {
-                    return match chosen {
-                        Some(chosen) => Some(chosen.quirks),
-                        None => None,
-                    };
-                }
+                None => return Some(chosen?.quirks),
             }
         }
     }

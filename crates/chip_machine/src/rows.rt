@@ -1,7 +1,8 @@
 //! The rows of the instruction table, a method for each.
 
-ghost use Rattle.std.specs.Prelude.{◌≡◌, ℕ, ◌≤◌, List, [], length, OnOk, OnErr, IfOk, IfErr, Ok, Err};
-ghost use Rattle.chip_machine.specs.Step.{effect, Changes, Stops, perform, accessed};
+ghost use Rattle.std.specs.Prelude.{◌≡◌, ◌≤◌, length};
+ghost use Rattle.chip_machine.specs.Step.{effect, Changes, Stops};
+ghost use Rattle.chip_machine.specs.inner.Performs.{Accessing, Changing, Asking};
 
 use crate::keys::{is_down, least_down};
 use crate::limits::{FLAGS, FRAMES, LAST_WORD, MEMORY_BYTES};
@@ -12,9 +13,9 @@ use crate::touch::Span;
 use chip_lang::instr::Instr;
 use chip_lang::number::{Addr, Nibble, Reg};
 
+#[tactic(auto, unfolding(crate::specs::Step::effect))]
 impl Processor {
     /// `1NNN`, `JP a`: goes to a.
-    #[tactic(auto, unfolding(crate::specs::Step::effect))]
     pub(crate) fn row_jump(&mut self, address: Addr)
         ensures { effect (Instr.Jump address) self.old ≡ Changes self.new }
     {
@@ -22,7 +23,6 @@ impl Processor {
     }
 
     /// `3XKK`, `SE Vx, kk`: skips if Vx is kk.
-    #[tactic(auto, unfolding(crate::specs::Step::effect))]
     pub(crate) fn row_skip_if_byte(&mut self, x: Reg, byte: u8)
         requires { self.old.pc ≤ LAST_WORD }
         ensures { effect (Instr.SkipIfByte x byte) self.old ≡ Changes self.new }
@@ -32,7 +32,6 @@ impl Processor {
     }
 
     /// `4XKK`, `SNE Vx, kk`: skips if Vx is not kk.
-    #[tactic(auto, unfolding(crate::specs::Step::effect))]
     pub(crate) fn row_skip_unless_byte(&mut self, x: Reg, byte: u8)
         requires { self.old.pc ≤ LAST_WORD }
         ensures { effect (Instr.SkipUnlessByte x byte) self.old ≡ Changes self.new }
@@ -42,7 +41,6 @@ impl Processor {
     }
 
     /// `5XY0`, `SE Vx, Vy`: skips if Vx is Vy.
-    #[tactic(auto, unfolding(crate::specs::Step::effect))]
     pub(crate) fn row_skip_if_equal(&mut self, x: Reg, y: Reg)
         requires { self.old.pc ≤ LAST_WORD }
         ensures { effect (Instr.SkipIfEqual x y) self.old ≡ Changes self.new }
@@ -52,7 +50,6 @@ impl Processor {
     }
 
     /// `9XY0`, `SNE Vx, Vy`: skips if they differ.
-    #[tactic(auto, unfolding(crate::specs::Step::effect))]
     pub(crate) fn row_skip_unless_equal(&mut self, x: Reg, y: Reg)
         requires { self.old.pc ≤ LAST_WORD }
         ensures { effect (Instr.SkipUnlessEqual x y) self.old ≡ Changes self.new }
@@ -62,7 +59,6 @@ impl Processor {
     }
 
     /// `6XKK`, `LD Vx, kk`: Vx becomes kk.
-    #[tactic(auto, unfolding(crate::specs::Step::effect))]
     pub(crate) fn row_load_byte(&mut self, x: Reg, byte: u8)
         requires { self.old.pc ≤ LAST_WORD }
         ensures { effect (Instr.LoadByte x byte) self.old ≡ Changes self.new }
@@ -72,7 +68,6 @@ impl Processor {
     }
 
     /// `7XKK`, `ADD Vx, kk`: adds kk to Vx, with no flag.
-    #[tactic(auto, unfolding(crate::specs::Step::effect))]
     pub(crate) fn row_add_byte(&mut self, x: Reg, byte: u8)
         requires { self.old.pc ≤ LAST_WORD }
         ensures { effect (Instr.AddByte x byte) self.old ≡ Changes self.new }
@@ -83,7 +78,6 @@ impl Processor {
     }
 
     /// `8XY0`, `LD Vx, Vy`: Vx becomes Vy.
-    #[tactic(auto, unfolding(crate::specs::Step::effect))]
     pub(crate) fn row_copy(&mut self, x: Reg, y: Reg)
         requires { self.old.pc ≤ LAST_WORD }
         ensures { effect (Instr.Copy x y) self.old ≡ Changes self.new }
@@ -94,7 +88,6 @@ impl Processor {
     }
 
     /// `8XY1`, `OR Vx, Vy`: or; VF stays, or is 0 then.
-    #[tactic(auto, unfolding(crate::specs::Step::effect))]
     pub(crate) fn row_or(&mut self, x: Reg, y: Reg)
         requires { self.old.pc ≤ LAST_WORD }
         ensures { effect (Instr.Or x y) self.old ≡ Changes self.new }
@@ -105,7 +98,6 @@ impl Processor {
     }
 
     /// `8XY2`, `AND Vx, Vy`: and; VF stays, or is 0 then.
-    #[tactic(auto, unfolding(crate::specs::Step::effect))]
     pub(crate) fn row_and(&mut self, x: Reg, y: Reg)
         requires { self.old.pc ≤ LAST_WORD }
         ensures { effect (Instr.And x y) self.old ≡ Changes self.new }
@@ -116,7 +108,6 @@ impl Processor {
     }
 
     /// `8XY3`, `XOR Vx, Vy`: exclusive or; VF stays, or is 0 then.
-    #[tactic(auto, unfolding(crate::specs::Step::effect))]
     pub(crate) fn row_xor(&mut self, x: Reg, y: Reg)
         requires { self.old.pc ≤ LAST_WORD }
         ensures { effect (Instr.Xor x y) self.old ≡ Changes self.new }
@@ -127,7 +118,6 @@ impl Processor {
     }
 
     /// `8XY4`, `ADD Vx, Vy`: adds Vy to Vx; VF says whether the sum passes 255.
-    #[tactic(auto, unfolding(crate::specs::Step::effect))]
     pub(crate) fn row_add(&mut self, x: Reg, y: Reg)
         requires { self.old.pc ≤ LAST_WORD }
         ensures { effect (Instr.Add x y) self.old ≡ Changes self.new }
@@ -140,7 +130,6 @@ impl Processor {
     }
 
     /// `8XY5`, `SUB Vx, Vy`: takes Vy from Vx; VF says whether Vx was at least Vy.
-    #[tactic(auto, unfolding(crate::specs::Step::effect))]
     pub(crate) fn row_subtract(&mut self, x: Reg, y: Reg)
         requires { self.old.pc ≤ LAST_WORD }
         ensures { effect (Instr.Subtract x y) self.old ≡ Changes self.new }
@@ -152,7 +141,6 @@ impl Processor {
     }
 
     /// `8XY7`, `SUBN Vx, Vy`: Vx becomes Vy less Vx; VF says whether Vy was at least Vx.
-    #[tactic(auto, unfolding(crate::specs::Step::effect))]
     pub(crate) fn row_subtract_from(&mut self, x: Reg, y: Reg)
         requires { self.old.pc ≤ LAST_WORD }
         ensures { effect (Instr.SubtractFrom x y) self.old ≡ Changes self.new }
@@ -164,7 +152,6 @@ impl Processor {
     }
 
     /// `8XY6`, `SHR Vx, Vy`: Vx becomes Vx or Vy moved right by a bit, which VF gets.
-    #[tactic(auto, unfolding(crate::specs::Step::effect))]
     pub(crate) fn row_shift_right(&mut self, x: Reg, y: Reg)
         requires { self.old.pc ≤ LAST_WORD }
         ensures { effect (Instr.ShiftRight x y) self.old ≡ Changes self.new }
@@ -175,7 +162,6 @@ impl Processor {
     }
 
     /// `8XYE`, `SHL Vx, Vy`: Vx becomes Vx or Vy moved left by a bit, which VF gets.
-    #[tactic(auto, unfolding(crate::specs::Step::effect))]
     pub(crate) fn row_shift_left(&mut self, x: Reg, y: Reg)
         requires { self.old.pc ≤ LAST_WORD }
         ensures { effect (Instr.ShiftLeft x y) self.old ≡ Changes self.new }
@@ -186,7 +172,6 @@ impl Processor {
     }
 
     /// `ANNN`, `LD I, a`: I becomes a.
-    #[tactic(auto, unfolding(crate::specs::Step::effect))]
     pub(crate) fn row_load_index(&mut self, address: Addr)
         requires { self.old.pc ≤ LAST_WORD }
         ensures { effect (Instr.LoadIndex address) self.old ≡ Changes self.new }
@@ -196,7 +181,6 @@ impl Processor {
     }
 
     /// `BNNN`, `JP V0, a`: goes to a and Vx more, where x is the top digit of a, or 0.
-    #[tactic(auto, unfolding(crate::specs::Step::effect))]
     pub(crate) fn row_jump_offset(&mut self, address: Addr)
         ensures { effect (Instr.JumpOffset address) self.old ≡ Changes self.new }
     {
@@ -205,7 +189,6 @@ impl Processor {
     }
 
     /// `CXKK`, `RND Vx, kk`: Vx becomes the next random byte, masked by kk.
-    #[tactic(auto, unfolding(crate::specs::Step::effect))]
     pub(crate) fn row_random(&mut self, x: Reg, byte: u8)
         requires { self.old.pc ≤ LAST_WORD }
         ensures { effect (Instr.Random x byte) self.old ≡ Changes self.new }
@@ -216,7 +199,6 @@ impl Processor {
     }
 
     /// `FX07`, `LD Vx, DT`: Vx becomes the delay timer.
-    #[tactic(auto, unfolding(crate::specs::Step::effect))]
     pub(crate) fn row_read_delay(&mut self, x: Reg)
         requires { self.old.pc ≤ LAST_WORD }
         ensures { effect (Instr.ReadDelay x) self.old ≡ Changes self.new }
@@ -227,7 +209,6 @@ impl Processor {
     }
 
     /// `FX15`, `LD DT, Vx`: the delay timer becomes Vx.
-    #[tactic(auto, unfolding(crate::specs::Step::effect))]
     pub(crate) fn row_set_delay(&mut self, x: Reg)
         requires { self.old.pc ≤ LAST_WORD }
         ensures { effect (Instr.SetDelay x) self.old ≡ Changes self.new }
@@ -238,7 +219,6 @@ impl Processor {
     }
 
     /// `FX18`, `LD ST, Vx`: the sound timer becomes Vx.
-    #[tactic(auto, unfolding(crate::specs::Step::effect))]
     pub(crate) fn row_set_sound(&mut self, x: Reg)
         requires { self.old.pc ≤ LAST_WORD }
         ensures { effect (Instr.SetSound x) self.old ≡ Changes self.new }
@@ -249,7 +229,6 @@ impl Processor {
     }
 
     /// `FX1E`, `ADD I, Vx`: adds Vx to I; VF stays, or says whether the sum is above 0FFF.
-    #[tactic(auto, unfolding(crate::specs::Step::effect))]
     pub(crate) fn row_add_index(&mut self, x: Reg)
         requires { self.old.pc ≤ LAST_WORD }
         ensures { effect (Instr.AddIndex x) self.old ≡ Changes self.new }
@@ -260,7 +239,6 @@ impl Processor {
     }
 
     /// `FX29`, `LD F, Vx`: I points at a small digit.
-    #[tactic(auto, unfolding(crate::specs::Step::effect))]
     pub(crate) fn row_small_digit(&mut self, x: Reg)
         requires { self.old.pc ≤ LAST_WORD }
         ensures { effect (Instr.SmallDigit x) self.old ≡ Changes self.new }
@@ -271,12 +249,9 @@ impl Processor {
     }
 
     /// `FX30`, `LD HF, Vx`: I points at a large digit.
-    #[tactic(auto, unfolding(crate::specs::Step::effect))]
     pub(crate) fn row_big_digit(&mut self, x: Reg) -> Result<(), Stop>
         requires { self.old.pc ≤ LAST_WORD }
-        ensures ok { OnOk result (effect (Instr.BigDigit x) self.old ≡ Changes self.new) }
-        ensures why { IfErr result (λ why. effect (Instr.BigDigit x) self.old ≡ Stops why) }
-        ensures same { OnErr result (self.new ≡ self.old) }
+        ensures { Changing (effect (Instr.BigDigit x) self.old) self.old self.new result }
     {
         self.needs_super_instructions()?;
         let digit = u16::from(self.reg(x) % 16);
@@ -286,12 +261,9 @@ impl Processor {
     }
 
     /// `00CN`, `SCD n`: scrolls down by n rows, stored ones or those of the size.
-    #[tactic(auto, unfolding(crate::specs::Step::effect))]
     pub(crate) fn row_scroll_down(&mut self, n: Nibble) -> Result<(), Stop>
         requires { self.old.pc ≤ LAST_WORD }
-        ensures ok { OnOk result (effect (Instr.ScrollDown n) self.old ≡ Changes self.new) }
-        ensures why { IfErr result (λ why. effect (Instr.ScrollDown n) self.old ≡ Stops why) }
-        ensures same { OnErr result (self.new ≡ self.old) }
+        ensures { Changing (effect (Instr.ScrollDown n) self.old) self.old self.new result }
     {
         self.needs_super_instructions()?;
         let rows = self.scrolled_by(n.number());
@@ -301,7 +273,6 @@ impl Processor {
     }
 
     /// `00E0`, `CLS`: makes all pixels dark.
-    #[tactic(auto, unfolding(crate::specs::Step::effect))]
     pub(crate) fn row_clear_screen(&mut self)
         requires { self.old.pc ≤ LAST_WORD }
         ensures { effect Instr.ClearScreen self.old ≡ Changes self.new }
@@ -311,12 +282,9 @@ impl Processor {
     }
 
     /// `00FB`, `SCR`: scrolls right by 4 columns, stored ones or those of the size.
-    #[tactic(auto, unfolding(crate::specs::Step::effect))]
     pub(crate) fn row_scroll_right(&mut self) -> Result<(), Stop>
         requires { self.old.pc ≤ LAST_WORD }
-        ensures ok { OnOk result (effect Instr.ScrollRight self.old ≡ Changes self.new) }
-        ensures why { IfErr result (λ why. effect Instr.ScrollRight self.old ≡ Stops why) }
-        ensures same { OnErr result (self.new ≡ self.old) }
+        ensures { Changing (effect Instr.ScrollRight self.old) self.old self.new result }
     {
         self.needs_super_instructions()?;
         let columns = self.scrolled_by(4);
@@ -326,12 +294,9 @@ impl Processor {
     }
 
     /// `00FC`, `SCL`: scrolls left by 4 columns, stored ones or those of the size.
-    #[tactic(auto, unfolding(crate::specs::Step::effect))]
     pub(crate) fn row_scroll_left(&mut self) -> Result<(), Stop>
         requires { self.old.pc ≤ LAST_WORD }
-        ensures ok { OnOk result (effect Instr.ScrollLeft self.old ≡ Changes self.new) }
-        ensures why { IfErr result (λ why. effect Instr.ScrollLeft self.old ≡ Stops why) }
-        ensures same { OnErr result (self.new ≡ self.old) }
+        ensures { Changing (effect Instr.ScrollLeft self.old) self.old self.new result }
     {
         self.needs_super_instructions()?;
         let columns = self.scrolled_by(4);
@@ -341,7 +306,6 @@ impl Processor {
     }
 
     /// `00FD`, `EXIT`: ends the program.
-    #[tactic(auto, unfolding(crate::specs::Step::effect))]
     pub(crate) fn row_exit(&self) -> Stop
         ensures { effect Instr.Exit self.now ≡ Stops result }
     {
@@ -352,12 +316,9 @@ impl Processor {
     }
 
     /// `00FE`, `LOW`: takes the low size; the pixels stay, or all are dark then.
-    #[tactic(auto, unfolding(crate::specs::Step::effect))]
     pub(crate) fn row_low_size(&mut self) -> Result<(), Stop>
         requires { self.old.pc ≤ LAST_WORD }
-        ensures ok { OnOk result (effect Instr.LowSize self.old ≡ Changes self.new) }
-        ensures why { IfErr result (λ why. effect Instr.LowSize self.old ≡ Stops why) }
-        ensures same { OnErr result (self.new ≡ self.old) }
+        ensures { Changing (effect Instr.LowSize self.old) self.old self.new result }
     {
         self.needs_super_instructions()?;
         self.resize(false);
@@ -366,12 +327,9 @@ impl Processor {
     }
 
     /// `00FF`, `HIGH`: takes the high size; the pixels stay, or all are dark then.
-    #[tactic(auto, unfolding(crate::specs::Step::effect))]
     pub(crate) fn row_high_size(&mut self) -> Result<(), Stop>
         requires { self.old.pc ≤ LAST_WORD }
-        ensures ok { OnOk result (effect Instr.HighSize self.old ≡ Changes self.new) }
-        ensures why { IfErr result (λ why. effect Instr.HighSize self.old ≡ Stops why) }
-        ensures same { OnErr result (self.new ≡ self.old) }
+        ensures { Changing (effect Instr.HighSize self.old) self.old self.new result }
     {
         self.needs_super_instructions()?;
         self.resize(true);
@@ -380,11 +338,8 @@ impl Processor {
     }
 
     /// `00EE`, `RET`: returns to the newest frame, which is taken off.
-    #[tactic(auto, unfolding(crate::specs::Step::effect))]
     pub(crate) fn row_return(&mut self) -> Result<(), Stop>
-        ensures ok { OnOk result (effect Instr.Return self.old ≡ Changes self.new) }
-        ensures why { IfErr result (λ why. effect Instr.Return self.old ≡ Stops why) }
-        ensures same { OnErr result (self.new ≡ self.old) }
+        ensures { Changing (effect Instr.Return self.old) self.old self.new result }
     {
         if self.frames().is_empty() {
             return Err(Stop::NoFrame);
@@ -394,12 +349,9 @@ impl Processor {
     }
 
     /// `2NNN`, `CALL a`: makes next the newest frame, and goes to a.
-    #[tactic(auto, unfolding(crate::specs::Step::effect))]
     pub(crate) fn row_call(&mut self, address: Addr) -> Result<(), Stop>
         requires { self.old.pc ≤ LAST_WORD }
-        ensures ok { OnOk result (effect (Instr.Call address) self.old ≡ Changes self.new) }
-        ensures why { IfErr result (λ why. effect (Instr.Call address) self.old ≡ Stops why) }
-        ensures same { OnErr result (self.new ≡ self.old) }
+        ensures { Changing (effect (Instr.Call address) self.old) self.old self.new result }
     {
         if self.frames().len() == FRAMES {
             return Err(Stop::FramesFull);
@@ -409,12 +361,9 @@ impl Processor {
     }
 
     /// `FX75`, `LD R, Vx`: copies V0 to Vx into the flag registers.
-    #[tactic(auto, unfolding(crate::specs::Step::effect))]
     pub(crate) fn row_store_flags(&mut self, x: Reg) -> Result<(), Stop>
         requires { self.old.pc ≤ LAST_WORD }
-        ensures ok { OnOk result (effect (Instr.StoreFlags x) self.old ≡ Changes self.new) }
-        ensures why { IfErr result (λ why. effect (Instr.StoreFlags x) self.old ≡ Stops why) }
-        ensures same { OnErr result (self.new ≡ self.old) }
+        ensures { Changing (effect (Instr.StoreFlags x) self.old) self.old self.new result }
     {
         self.needs_super_instructions()?;
         if x.number() as usize >= self.flags().len() {
@@ -426,12 +375,9 @@ impl Processor {
     }
 
     /// `FX85`, `LD Vx, R`: copies the flag registers into V0 to Vx.
-    #[tactic(auto, unfolding(crate::specs::Step::effect))]
     pub(crate) fn row_load_flags(&mut self, x: Reg) -> Result<(), Stop>
         requires { self.old.pc ≤ LAST_WORD }
-        ensures ok { OnOk result (effect (Instr.LoadFlags x) self.old ≡ Changes self.new) }
-        ensures why { IfErr result (λ why. effect (Instr.LoadFlags x) self.old ≡ Stops why) }
-        ensures same { OnErr result (self.new ≡ self.old) }
+        ensures { Changing (effect (Instr.LoadFlags x) self.old) self.old self.new result }
     {
         self.needs_super_instructions()?;
         if x.number() as usize >= self.flags().len() {
@@ -443,41 +389,27 @@ impl Processor {
     }
 
     /// `EX9E`, `SKP Vx`: skips if the key is down.
-    #[tactic(auto, unfolding(crate::specs::Step::effect))]
     pub(crate) fn row_skip_if_key(&mut self, x: Reg, keys: u16)
         requires { self.old.pc ≤ LAST_WORD }
-        ensures done { (memory : List ℕ)
-            → perform keys (record { core = self.old; memory = memory })
-            (effect (Instr.SkipIfKey x) self.old)
-            ≡ Ok (record { core = self.new; memory = memory }) }
-        ensures untouched { accessed self.old.index (effect (Instr.SkipIfKey x) self.old) ≡ [] }
+        ensures { Asking (effect (Instr.SkipIfKey x) self.old) keys self.old self.new }
     {
         let down = is_down(keys, self.reg(x) % 16);
         self.skip_if(down);
     }
 
     /// `EXA1`, `SKNP Vx`: skips if the key is up.
-    #[tactic(auto, unfolding(crate::specs::Step::effect))]
     pub(crate) fn row_skip_unless_key(&mut self, x: Reg, keys: u16)
         requires { self.old.pc ≤ LAST_WORD }
-        ensures done { (memory : List ℕ)
-            → perform keys (record { core = self.old; memory = memory })
-            (effect (Instr.SkipUnlessKey x) self.old)
-            ≡ Ok (record { core = self.new; memory = memory }) }
-        ensures untouched { accessed self.old.index (effect (Instr.SkipUnlessKey x) self.old) ≡ [] }
+        ensures { Asking (effect (Instr.SkipUnlessKey x) self.old) keys self.old self.new }
     {
         let down = is_down(keys, self.reg(x) % 16);
         self.skip_if(!down);
     }
 
     /// `FX0A`, `LD Vx, K`: Vx becomes the least key that is down; with none the machine waits.
-    #[tactic(auto, unfolding(crate::specs::Step::effect))]
     pub(crate) fn row_wait_key(&mut self, x: Reg, keys: u16)
         requires { self.old.pc ≤ LAST_WORD }
-        ensures done { (memory : List ℕ)
-            → perform keys (record { core = self.old; memory = memory })
-            (effect (Instr.WaitKey x) self.old) ≡ Ok (record { core = self.new; memory = memory }) }
-        ensures untouched { accessed self.old.index (effect (Instr.WaitKey x) self.old) ≡ [] }
+        ensures { Asking (effect (Instr.WaitKey x) self.old) keys self.old self.new }
     {
         if let Some(key) = least_down(keys) {
             self.set(x, key);
@@ -488,7 +420,6 @@ impl Processor {
     /// `DXYN`, `DRW Vx, Vy, n`: draws the sprite at I; VF says whether it met a lit pixel. Of 0
     /// rows it may be none.
     #[inline(always)]
-    #[tactic(auto, unfolding(crate::specs::Step::effect))]
     pub(crate) fn row_draw(
         &mut self,
         x: Reg,
@@ -498,18 +429,8 @@ impl Processor {
     ) -> Result<Span, Stop>
         requires size { length memory.now ≡ MEMORY_BYTES }
         requires pc { self.old.pc ≤ LAST_WORD }
-        ensures ok { OnOk result ((keys : ℕ)
-            → perform keys (record { core = self.old; memory = memory.now })
-            (effect (Instr.Draw x y n) self.old)
-            ≡ Ok (record { core = self.new; memory = memory.now })) }
-        ensures why { IfErr result (λ why. (keys : ℕ)
-            → perform keys (record { core = self.old; memory = memory.now })
-            (effect (Instr.Draw x y n) self.old) ≡ Err why) }
-        ensures same { OnErr result (self.new ≡ self.old) }
-        ensures touched { IfOk result (λ span. span
-            ≡ accessed self.old.index (effect (Instr.Draw x y n) self.old)) }
-        ensures untouched { OnErr result
-            (accessed self.old.index (effect (Instr.Draw x y n) self.old) ≡ []) }
+        ensures { Accessing (effect (Instr.Draw x y n) self.old) self.old self.new memory.now
+            memory.now result }
     {
         if self.draws_nothing(n) {
             self.clear_flag();
@@ -528,22 +449,11 @@ impl Processor {
 
     /// `FX33`, `LD B, Vx`: stores the three decimal digits of Vx at I.
     #[inline(always)]
-    #[tactic(auto, unfolding(crate::specs::Step::effect))]
     pub(crate) fn row_store_decimal(&mut self, x: Reg, memory: &mut [u8]) -> Result<Span, Stop>
         requires size { length memory.old ≡ MEMORY_BYTES }
         requires pc { self.old.pc ≤ LAST_WORD }
-        ensures ok { OnOk result ((keys : ℕ)
-            → perform keys (record { core = self.old; memory = memory.old })
-            (effect (Instr.StoreDecimal x) self.old)
-            ≡ Ok (record { core = self.new; memory = memory.new })) }
-        ensures why { IfErr result (λ why. (keys : ℕ)
-            → perform keys (record { core = self.old; memory = memory.old })
-            (effect (Instr.StoreDecimal x) self.old) ≡ Err why) }
-        ensures same { OnErr result ((self.new ≡ self.old) × (memory.new ≡ memory.old)) }
-        ensures touched { IfOk result (λ span. span
-            ≡ accessed self.old.index (effect (Instr.StoreDecimal x) self.old)) }
-        ensures untouched { OnErr result
-            (accessed self.old.index (effect (Instr.StoreDecimal x) self.old) ≡ []) }
+        ensures { Accessing (effect (Instr.StoreDecimal x) self.old) self.old self.new memory.old
+            memory.new result }
     {
         let value = self.reg(x);
         let digits = [value / 100, value / 10 % 10, value % 10];
@@ -555,22 +465,11 @@ impl Processor {
 
     /// `FX55`, `LD [I], Vx`: stores V0 to Vx at I, which stays or moves on.
     #[inline(always)]
-    #[tactic(auto, unfolding(crate::specs::Step::effect))]
     pub(crate) fn row_store_registers(&mut self, x: Reg, memory: &mut [u8]) -> Result<Span, Stop>
         requires size { length memory.old ≡ MEMORY_BYTES }
         requires pc { self.old.pc ≤ LAST_WORD }
-        ensures ok { OnOk result ((keys : ℕ)
-            → perform keys (record { core = self.old; memory = memory.old })
-            (effect (Instr.StoreRegisters x) self.old)
-            ≡ Ok (record { core = self.new; memory = memory.new })) }
-        ensures why { IfErr result (λ why. (keys : ℕ)
-            → perform keys (record { core = self.old; memory = memory.old })
-            (effect (Instr.StoreRegisters x) self.old) ≡ Err why) }
-        ensures same { OnErr result ((self.new ≡ self.old) × (memory.new ≡ memory.old)) }
-        ensures touched { IfOk result (λ span. span
-            ≡ accessed self.old.index (effect (Instr.StoreRegisters x) self.old)) }
-        ensures untouched { OnErr result
-            (accessed self.old.index (effect (Instr.StoreRegisters x) self.old) ≡ []) }
+        ensures { Accessing (effect (Instr.StoreRegisters x) self.old) self.old self.new memory.old
+            memory.new result }
     {
         let count = x.number() as usize + 1;
         let registers = self.registers();
@@ -583,22 +482,11 @@ impl Processor {
 
     /// `FX65`, `LD Vx, [I]`: loads V0 to Vx from I, which stays or moves on.
     #[inline(always)]
-    #[tactic(auto, unfolding(crate::specs::Step::effect))]
     pub(crate) fn row_load_registers(&mut self, x: Reg, memory: &[u8]) -> Result<Span, Stop>
         requires size { length memory.now ≡ MEMORY_BYTES }
         requires pc { self.old.pc ≤ LAST_WORD }
-        ensures ok { OnOk result ((keys : ℕ)
-            → perform keys (record { core = self.old; memory = memory.now })
-            (effect (Instr.LoadRegisters x) self.old)
-            ≡ Ok (record { core = self.new; memory = memory.now })) }
-        ensures why { IfErr result (λ why. (keys : ℕ)
-            → perform keys (record { core = self.old; memory = memory.now })
-            (effect (Instr.LoadRegisters x) self.old) ≡ Err why) }
-        ensures same { OnErr result (self.new ≡ self.old) }
-        ensures touched { IfOk result (λ span. span
-            ≡ accessed self.old.index (effect (Instr.LoadRegisters x) self.old)) }
-        ensures untouched { OnErr result
-            (accessed self.old.index (effect (Instr.LoadRegisters x) self.old) ≡ []) }
+        ensures { Accessing (effect (Instr.LoadRegisters x) self.old) self.old self.new memory.now
+            memory.now result }
     {
         let count = x.number() as usize + 1;
         let bytes = load(memory, self.index(), count)?;

@@ -1,9 +1,9 @@
 //! The screen as 64 rows of 128 bits, the leftmost column the highest bit.
 
-ghost use Rattle.std.specs.Prelude.{◌≡◌, ℕ, ◌+◌, ◌-◌, ◌*◌, ◌/◌, ◌%◌, ◌<◌, ◌≤◌, Bool, true, false, not, ◌&&◌, ◌||◌, ◌==◌, length, slice_index, slice_index_or, IfOk, ◌^◌, IsTrue, ◌↔◌};
+ghost use Rattle.std.specs.Prelude.{◌≡◌, ℕ, ◌+◌, ◌-◌, ◌*◌, ◌/◌, ◌%◌, ◌<◌, ◌≤◌, false, not, ◌&&◌, ◌||◌, ◌==◌, length, slice_index, slice_index_or, IfOk, ◌^◌, IsTrue, ◌↔◌};
 ghost use Rattle.std.specs.FinSet as set;
 ghost use Rattle.chip_machine.specs.Points.{Points, points_code, is_lit, IsOnScreen, symmetric_difference, meets, lights};
-ghost use Rattle.chip_machine.specs.inner.Stored.{in_rows, differ, any_below};
+ghost use Rattle.chip_machine.specs.inner.Stored.{in_rows, AreTurned};
 ghost use Rattle.chip_machine.specs.Sprite.{scale};
 ghost use Rattle.chip_machine.specs.inner.SpriteBytes.{LiesIn, covered_by_bytes, covers, covers_by_length, first_column};
 ghost use Rattle.chip_machine.specs.Scroll.{scrolled_down, scrolled_right, scrolled_left};
@@ -221,18 +221,8 @@ fn shift_left(rows: &mut [u128], n: usize)
 /// them was lit.
 fn turn(rows: &mut [u128], from: usize, count: usize, stripe: u128) -> u128
     requires { from + count ≤ length rows.old }
-    ensures turned { (row column : ℕ) → from ≤ row → row < from + count → column < 128
-        → lights (slice_index rows.new row) column
-        ≡ differ (lights (slice_index rows.old row) column) (lights stripe column) }
-    ensures same_before { (row : ℕ) → row < from
-        → slice_index rows.new row ≡ slice_index rows.old row }
-    ensures same_after { (row : ℕ) → from + count ≤ row
-        → slice_index rows.new row ≡ slice_index rows.old row }
-    ensures hit { (test : ℕ → Bool)
-        → ((row : ℕ) → from ≤ row → row < from + count
-        → test row ≡ any_below
-        (λ column. lights (slice_index rows.old row) column && lights stripe column) 128)
-        → (any_below test from || not (result == 0)) ≡ any_below test (from + count) }
+    ensures { AreTurned from (from + count) (λ column row. lights stripe column) rows.old rows.new
+        (not (result == 0)) }
 {
     let mut met = 0;
     for row in from..from + count {
@@ -247,13 +237,7 @@ fn turn(rows: &mut [u128], from: usize, count: usize, stripe: u128) -> u128
 #[inline(always)]
 fn toggle(rows: &mut [u128], wraps: bool, high: bool, x: u8, y: u8, sprite: &[u8]) -> bool
     requires { length rows.old ≡ 64 }
-    ensures turned { (row column : ℕ) → row < 64 → column < 128
-        → lights (slice_index rows.new row) column
-        ≡ differ (lights (slice_index rows.old row) column)
-        (covers wraps high x y sprite.now column row) }
-    ensures hit { result ≡ any_below
-        (λ row. any_below (λ column. lights (slice_index rows.old row) column
-        && covers wraps high x y sprite.now column row) 128) 64 }
+    ensures { AreTurned 0 64 (covers wraps high x y sprite.now) rows.old rows.new result }
 {
     if is_clipped(wraps, high, sprite) {
         toggle_clipped(rows, high, x, y, sprite)
@@ -275,13 +259,7 @@ fn is_clipped(wraps: bool, high: bool, sprite: &[u8]) -> bool
 #[inline(never)]
 fn toggle_all_lines(rows: &mut [u128], wraps: bool, high: bool, x: u8, y: u8, sprite: &[u8]) -> bool
     requires { length rows.old ≡ 64 }
-    ensures turned { (row column : ℕ) → row < 64 → column < 128
-        → lights (slice_index rows.new row) column
-        ≡ differ (lights (slice_index rows.old row) column)
-        (covers wraps high x y sprite.now column row) }
-    ensures hit { result ≡ any_below
-        (λ row. any_below (λ column. lights (slice_index rows.old row) column
-        && covers wraps high x y sprite.now column row) 128) 64 }
+    ensures { AreTurned 0 64 (covers wraps high x y sprite.now) rows.old rows.new result }
 {
     let scale = scale_of(high);
     let mut met = 0;
@@ -297,13 +275,7 @@ fn toggle_all_lines(rows: &mut [u128], wraps: bool, high: bool, x: u8, y: u8, sp
 #[inline(never)]
 fn toggle_clipped(rows: &mut [u128], high: bool, x: u8, y: u8, sprite: &[u8]) -> bool
     requires { length rows.old ≡ 64 }
-    ensures turned { (row column : ℕ) → row < 64 → column < 128
-        → lights (slice_index rows.new row) column
-        ≡ differ (lights (slice_index rows.old row) column)
-        (covers_by_length high x y sprite.now column row) }
-    ensures hit { result ≡ any_below
-        (λ row. any_below (λ column. lights (slice_index rows.old row) column
-        && covers_by_length high x y sprite.now column row) 128) 64 }
+    ensures { AreTurned 0 64 (covers_by_length high x y sprite.now) rows.old rows.new result }
 {
     // A loop for each size, width and half: there all are constants, which is faster than one for
     // all.
@@ -320,13 +292,7 @@ fn toggle_clipped(rows: &mut [u128], high: bool, x: u8, y: u8, sprite: &[u8]) ->
 #[inline(always)]
 fn toggle_in(rows: &mut [u128], high: bool, x: u8, y: u8, sprite: &[u8]) -> bool
     requires { length rows.old ≡ 64 }
-    ensures turned { (row column : ℕ) → row < 64 → column < 128
-        → lights (slice_index rows.new row) column
-        ≡ differ (lights (slice_index rows.old row) column)
-        (covers_by_length high x y sprite.now column row) }
-    ensures hit { result ≡ any_below
-        (λ row. any_below (λ column. lights (slice_index rows.old row) column
-        && covers_by_length high x y sprite.now column row) 128) 64 }
+    ensures { AreTurned 0 64 (covers_by_length high x y sprite.now) rows.old rows.new result }
 {
     match half_of(high, x) {
         Half::Left => toggle_lines(rows, high, Half::Left, x, y, sprite),
@@ -340,13 +306,7 @@ fn toggle_in(rows: &mut [u128], high: bool, x: u8, y: u8, sprite: &[u8]) -> bool
 fn toggle_lines(rows: &mut [u128], high: bool, half: Half, x: u8, y: u8, sprite: &[u8]) -> bool
     requires size { length rows.old ≡ 64 }
     requires half { LiesIn half (first_column high x) }
-    ensures turned { (row column : ℕ) → row < 64 → column < 128
-        → lights (slice_index rows.new row) column
-        ≡ differ (lights (slice_index rows.old row) column)
-        (covers_by_length high x y sprite.now column row) }
-    ensures hit { result ≡ any_below
-        (λ row. any_below (λ column. lights (slice_index rows.old row) column
-        && covers_by_length high x y sprite.now column row) 128) 64 }
+    ensures { AreTurned 0 64 (covers_by_length high x y sprite.now) rows.old rows.new result }
 {
     let scale = scale_of(high);
     let (first, count) = lines_under(high, y, sprite);

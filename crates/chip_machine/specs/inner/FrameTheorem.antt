@@ -1,9 +1,9 @@
 -- Proofs, which a reader may skip: the frame law holds, by what the instruction needs of the memory
 -- (nothing, bytes that it reads, or bytes that it writes), and a step keeps a state proper.
 -- Source: own.
-use Rattle.std.proofs.Common.{◌≡◌, ℕ, ◌+◌, ◌-◌, ◌<◌, ◌≤◌, Bool, true, false, IsFalse, List, [], ◌∷◌, length, take, drop, get_or, refl, sym, ap, ◌∙◌, arith, Some, suc, subst, Result, Ok, Err, nat_lt, is_some, ⊎_elim, if◌then◌else◌}
+use Rattle.std.proofs.Common.{◌≡◌, ℕ, ◌+◌, ◌-◌, ◌<◌, ◌≤◌, Bool, true, false, IsFalse, List, [], ◌∷◌, length, take, drop, get_or, refl, sym, ap, ◌∙◌, arith, Some, suc, subst, Result, Ok, Err, nat_lt, is_some, if◌then◌else◌, inl, inr}
 use Rattle.std.specs.List.{range_with_len}
-use Rattle.std.proofs.lemmas.Bool.{cases_lt}
+use Rattle.std.proofs.lemmas.Bool.{cases_Bool}
 use Rattle.std.proofs.lemmas.Bool.Decides.{nat_tests}
 use Rattle.std.proofs.lemmas.List.{places}
 use Rattle.std.proofs.lemmas.List.FromFn.{get_or-range_with_len, length-range_with_len}
@@ -16,7 +16,8 @@ use Rattle.chip_machine.specs.declared.stop.Stop.TheVariants as cause
 use Rattle.chip_machine.specs.State.{Core, State, overwrite}
 use Rattle.chip_machine.specs.Step.{Effect, Stops, Changes, Keyed, Loads, Stores, perform, accessed, is_past, settle, step_of, touches, effect_at, effect_of_word, word_at, ticked}
 use Rattle.chip_machine.specs.Frame.{FrameLaw, StepKeepsProper, SameOff, SameOn, Misses, DifferOnlyAt, IsFramed}
-use Rattle.chip_machine.specs.inner.Overwritten.{get_or-overwrite_within, get_or-overwrite_before, get_or-overwrite_past, length-overwrite}
+use Rattle.chip_machine.specs.inner.Overwritten.{get_or-overwrite, in_row_true, length-overwrite}
+use Rattle.chip_machine.specs.Forgotten.{is_in_row}
 
 -- two outcomes are alike, and each kept its bytes in the set
 abbrev AreAlike : (ℕ → Bool) → List ℕ → List ℕ → Result State Stop → Result State Stop → Type 0
@@ -24,8 +25,7 @@ AreAlike set m n (Ok x) (Ok y) =
     (x.core ≡ y.core) × SameOff set x.memory y.memory × SameOn set x.memory m
     × SameOn set y.memory n
 AreAlike set m n (Err v) (Err w) = v ≡ w
-AreAlike set m n (Ok x) (Err w) = ⊥
-AreAlike set m n (Err v) (Ok y) = ⊥
+AreAlike set m n _ _ = ⊥
 
 -- an address of a span that misses the set
 missed : (set : ℕ → Bool) (i count at : ℕ) → Misses set (range_with_len i count) → i ≤ at
@@ -50,32 +50,21 @@ writes_alike : (set : ℕ → Bool) (m n : List ℕ) (i : ℕ) (bytes : List ℕ
     → i + length bytes ≤ MEMORY_BYTES → length m ≡ MEMORY_BYTES → length n ≡ MEMORY_BYTES
     → SameOff set m n → SameOff set (overwrite m i bytes) (overwrite n i bytes)
 writes_alike set m n i bytes fits lm ln same at off =
-    let e = same at off in
-    ⊎_elim
-    (λ (low : at < i). get_or-overwrite_before m i bytes at (omega arith) low ∙ e
-    ∙ sym (get_or-overwrite_before n i bytes at (omega arith) low))
-    (λ (low : i ≤ at).
-    ⊎_elim
-    (λ (high : at < i + length bytes). get_or-overwrite_within m i bytes at (omega arith) low high
-    ∙ sym (get_or-overwrite_within n i bytes at (omega arith) low high))
-    (λ (high : i + length bytes ≤ at). get_or-overwrite_past m i bytes at (omega arith) high ∙ e
-    ∙ sym (get_or-overwrite_past n i bytes at (omega arith) high))
-    (cases_lt at (i + length bytes)))
-    (cases_lt at i)
+    get_or-overwrite m i bytes at (omega arith)
+    ∙ ap (λ (b : ℕ). if is_in_row i (length bytes) at then get_or bytes (at - i) 0 else b)
+    (same at off) ∙ sym (get_or-overwrite n i bytes at (omega arith))
 
 writes_keep : (set : ℕ → Bool) (m : List ℕ) (i : ℕ) (bytes : List ℕ)
     → i + length bytes ≤ MEMORY_BYTES → length m ≡ MEMORY_BYTES
     → Misses set (range_with_len i (length bytes)) → SameOn set (overwrite m i bytes) m
 writes_keep set m i bytes fits lm misses at on =
-    ⊎_elim
-    (λ (low : at < i). get_or-overwrite_before m i bytes at (omega arith) low)
-    (λ (low : i ≤ at).
-    ⊎_elim
-    (λ (high : at < i + length bytes). let off = missed set i (length bytes) at misses low high in
-    cc)
-    (λ (high : i + length bytes ≤ at). get_or-overwrite_past m i bytes at (omega arith) high)
-    (cases_lt at (i + length bytes)))
-    (cases_lt at i)
+    elim (cases_Bool (is_in_row i (length bytes) at)) [
+      | inl there ↦
+          let within = in_row_true i (length bytes) at there in
+          let off = missed set i (length bytes) at misses within.0 within.1 in
+          absurd (cc)
+      | inr other ↦ get_or-overwrite m i bytes at (omega arith) ∙ rw other refl
+    ]
 
 load_alike : (set : ℕ → Bool) (c : Core) (m n : List ℕ) (count : ℕ) (core_by : List ℕ → Core)
     → length m ≡ MEMORY_BYTES → length n ≡ MEMORY_BYTES → SameOff set m n → (past : Bool)
@@ -138,8 +127,7 @@ settle_alike set tick c m n (Err v) (Err w) same h = (
   λ _ _. refl,
   λ _ _. refl,
 )
-settle_alike set tick c m n (Ok x) (Err w) same h = absurd h
-settle_alike set tick c m n (Err v) (Ok y) same h = absurd h
+settle_alike set tick c m n _ _ same h = absurd h
 
 -- what stands at pc is the same, and so is its effect
 effect_alike : (set : ℕ → Bool) (c : Core) (m n : List ℕ) (rest : List ℕ) (past : Bool)

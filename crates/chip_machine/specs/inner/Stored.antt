@@ -1,6 +1,6 @@
--- Which pixels 64 rows of 128 bits light.
+-- Which pixels 64 rows of 128 bits light, and rows whose pixels were turned.
 -- Source: own.
-use Rattle.std.specs.Prelude.{ℕ, zero, suc, ◌||◌, Bool, true, false, not, List, slice_index}
+use Rattle.std.specs.Prelude.{◌≡◌, ℕ, zero, suc, ◌<◌, ◌≤◌, ◌&&◌, ◌||◌, Bool, true, false, not, List, slice_index}
 use Rattle.chip_machine.specs.Points.{Points, points_where, lights}
 
 -- the pixels that 64 rows of bits light
@@ -16,3 +16,17 @@ differ false b = b
 unfoldable pub any_below : (ℕ → Bool) → ℕ → Bool
 any_below test zero = false
 any_below test (suc n) = any_below test n || test n
+
+-- the rows from `start` up to `end` after the pixels that a test covers were turned there, and whether
+-- one of these was lit: all other rows are as they were
+pub record AreTurned (start end : ℕ) (cover : ℕ → ℕ → Bool) (old new : List ℕ)
+    (met : Bool) : Type 0 where
+  pub turned : (row column : ℕ) → start ≤ row → row < end → column < 128
+      → lights (slice_index new row) column
+      ≡ differ (lights (slice_index old row) column) (cover column row)
+  pub before : (row : ℕ) → row < start → slice_index new row ≡ slice_index old row
+  pub after : (row : ℕ) → end ≤ row → slice_index new row ≡ slice_index old row
+  pub hit : (test : ℕ → Bool)
+      → ((row : ℕ) → start ≤ row → row < end → test row
+      ≡ any_below (λ column. lights (slice_index old row) column && cover column row) 128)
+      → (any_below test start || met) ≡ any_below test end

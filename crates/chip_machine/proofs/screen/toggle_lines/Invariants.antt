@@ -1,12 +1,7 @@
-use Rattle.std.proofs.Common.{◌≡◌, ℕ, not, ◌==◌, ◌+◌, ◌*◌, ◌<◌, ◌≤◌, ◌&&◌, get_or}
-use Rattle.chip_machine.specs.inner.Stored.{differ, any_below}
-use Rattle.chip_machine.specs.Points.{lights}
+use Rattle.std.proofs.Common.{not, ◌==◌, ◌+◌, ◌*◌}
+use Rattle.chip_machine.specs.inner.Stored.{AreTurned}
 use Rattle.chip_machine.specs.inner.SpriteBytes.{covers_by_length}
 use Rattle.chip_machine.proofs.screen.toggle_lines.Given as goal
 
 abbrev pub invariant-loop-row : goal.invariant-loop-row
-invariant-loop-row l = record {
-  turned : (row column : ℕ) → row < l.scale * (l.first + l.row) → column < 128 → lights (get_or l.rows row 0) column ≡ differ (lights (get_or l.initial.rows row 0) column) (covers_by_length l.high l.x l.y l.sprite column row);
-  ahead : (row : ℕ) → l.scale * (l.first + l.row) ≤ row → get_or l.rows row 0 ≡ get_or l.initial.rows row 0;
-  met : not (l.met == 0) ≡ any_below (λ row. any_below (λ column. lights (get_or l.initial.rows row 0) column && covers_by_length l.high l.x l.y l.sprite column row) 128) (l.scale * (l.first + l.row));
-}
+invariant-loop-row l = AreTurned 0 (l.scale * (l.first + l.row)) (covers_by_length l.high l.x l.y l.sprite) l.initial.rows l.rows (not (l.met == 0))

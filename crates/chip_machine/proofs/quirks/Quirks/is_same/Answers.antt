@@ -1,35 +1,34 @@
-use Rattle.std.proofs.Common.{rules, ◌≡◌, Bool, true, false, not, refl, sym}
-use Rattle.std.proofs.Math.Bool.{beq}
-use Rattle.std.proofs.lemmas.Bool.{false≢true}
+use Rattle.std.proofs.Common.{rules, sym, ◌∙◌}
+use Rattle.std.specs.Bool.{beq}
+use Rattle.std.proofs.lemmas.Bool.{and_parts}
+use denote.Enum.Bare.{sameb, same_true}
+use Rattle.chip_machine.specs.contracts.quirks.IndexMove as moves
+use Rattle.chip_machine.specs.contracts.quirks.LowSixteen as sixteens
+use Rattle.chip_machine.proofs.SameMachine.{same_bools}
 use Rattle.chip_machine.proofs.quirks.Quirks.is_same.Goals as goal
 
-same_bools : (a b : Bool) → not (beq a b) ≡ false → a ≡ b
-same_bools true true h = refl
-same_bools true false h = absurd (false≢true (sym h))
-same_bools false true h = absurd (false≢true (sym h))
-same_bools false false h = refl
-
 pub returns : goal.returns
-returns c = λ _.
-    let shifts = same_bools c.args.self.shifts_second c.args.other.shifts_second c.if-self-other.false in
-    let move : c.args.self.index_move ≡ c.args.other.index_move = search rules in
-    let jumps = same_bools c.args.self.jumps_by_first c.args.other.jumps_by_first c.if-self-other-2.false in
-    let clears = same_bools c.args.self.clears_flag c.args.other.clears_flag c.if-self-other-3.false in
-    let wraps = same_bools c.args.self.wraps c.args.other.wraps c.if-self-other-4.false in
-    let sixteen : c.args.self.low_sixteen ≡ c.args.other.low_sixteen = search rules in
-    let scrolls = same_bools c.args.self.scrolls_whole c.args.other.scrolls_whole c.if-self-other-5.false in
-    let size = same_bools c.args.self.clears_at_size c.args.other.clears_at_size c.if-self-other-6.false in
-    let flags = same_bools c.args.self.flags_overflow c.args.other.flags_overflow c.if-self-other-7.false in
-    let super = same_bools c.args.self.has_super_instructions c.args.other.has_super_instructions c.if-self-other-8.false in
+returns c = λ on.
+    let s = c.args.self in
+    let o = c.args.other in
+    let shifts = and_parts (beq s.shifts_second o.shifts_second) _ (sym c.eq.ensures ∙ on) in
+    let move = and_parts (sameb moves.the_type s.index_move o.index_move) _ shifts.1 in
+    let jumps = and_parts (beq s.jumps_by_first o.jumps_by_first) _ move.1 in
+    let clears = and_parts (beq s.clears_flag o.clears_flag) _ jumps.1 in
+    let wraps = and_parts (beq s.wraps o.wraps) _ clears.1 in
+    let sixteen = and_parts (sameb sixteens.the_type s.low_sixteen o.low_sixteen) _ wraps.1 in
+    let scrolls = and_parts (beq s.scrolls_whole o.scrolls_whole) _ sixteen.1 in
+    let size = and_parts (beq s.clears_at_size o.clears_at_size) _ scrolls.1 in
+    let flags = and_parts (beq s.flags_overflow o.flags_overflow) (beq s.has_super_instructions o.has_super_instructions) size.1 in
     λ i. record {
-      shifts_second = shifts i;
-      index_move = move i;
-      jumps_by_first = jumps i;
-      clears_flag = clears i;
-      wraps = wraps i;
-      low_sixteen = sixteen i;
-      scrolls_whole = scrolls i;
-      clears_at_size = size i;
-      flags_overflow = flags i;
-      has_super_instructions = super i;
+      shifts_second = same_bools s.shifts_second o.shifts_second shifts.0 i;
+      index_move = same_true moves.the_type (search rules) s.index_move o.index_move move.0 i;
+      jumps_by_first = same_bools s.jumps_by_first o.jumps_by_first jumps.0 i;
+      clears_flag = same_bools s.clears_flag o.clears_flag clears.0 i;
+      wraps = same_bools s.wraps o.wraps wraps.0 i;
+      low_sixteen = same_true sixteens.the_type (search rules) s.low_sixteen o.low_sixteen sixteen.0 i;
+      scrolls_whole = same_bools s.scrolls_whole o.scrolls_whole scrolls.0 i;
+      clears_at_size = same_bools s.clears_at_size o.clears_at_size size.0 i;
+      flags_overflow = same_bools s.flags_overflow o.flags_overflow flags.0 i;
+      has_super_instructions = same_bools s.has_super_instructions o.has_super_instructions flags.1 i;
     }
