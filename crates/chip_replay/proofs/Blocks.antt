@@ -1,10 +1,10 @@
 -- Some steps of a run at once.
-use Rattle.std.proofs.Common.{◌≡◌, ℕ, zero, suc, ◌+◌, ◌<◌, ◌≤◌, min, max, Bool, true, false, cond, List, slice_index, refl, sym, ap, ◌∙◌, subst, arith, inl, inr}
+use Rattle.std.proofs.Common.{◌≡◌, ℕ, zero, suc, ◌+◌, ◌<◌, ◌≤◌, min, max, Bool, true, false, cond, List, length, slice_index, refl, sym, ap, ◌∙◌, subst, arith, inl, inr}
 use Rattle.std.proofs.lemmas.Bool.{cases_lt, false≢true}
 use Rattle.chip_machine.specs.Block.{block, first_noted, ticks}
 use Rattle.chip_replay.specs.Limits.{last_step, memory_size, never}
 use Rattle.chip_replay.specs.Run.{run}
-use Rattle.chip_replay.specs.inner.Kept.{IsFirst, AreFirst}
+use Rattle.chip_replay.specs.inner.Kept.{IsFirst, IsTouched}
 
 -- a step no later than n is noted where it passes
 noted_by : (b : Bool) (p : ℕ → Bool) (n t v w : ℕ) → p t ≡ b → IsFirst p n v → t ≤ n → t < never → w ≡ cond b (min v t) v → IsFirst p (max n (t + 1)) w
@@ -36,12 +36,13 @@ module _ {S : Type 0} (after : S → ℕ → Bool → S) (touches : S → ℕ �
       let place : suc (at + n) ≡ at + suc n = omega arith in
       ap (λ x. after x (held (at + n)) (ticks rate (at + n))) (block_is n) ∙ ap state place
 
-  first_is : (reach a v n : ℕ) → at ≤ reach → at + n ≤ last_step → IsFirst (λ t. touches (state t) a) reach v → IsFirst (λ t. touches (state t) a) (max reach (at + n)) (first_noted after rate held at s touches a v n)
-  first_is reach a v zero low small f =
-      let same : reach ≡ max reach (at + 0) = omega arith in
+  first_is : (reach a v n : ℕ) → at + n ≤ last_step → IsFirst (λ t. touches (state t) a) (max reach at) v → IsFirst (λ t. touches (state t) a) (max reach (at + n))
+      (first_noted after rate held at s touches a v n)
+  first_is reach a v zero small f =
+      let same : max reach at ≡ max reach (at + 0) = omega arith in
       subst (λ m. IsFirst (λ t. touches (state t) a) m v) same f
-  first_is reach a v (suc n) low small f =
-      let known = first_is reach a v n low (omega arith) f in
+  first_is reach a v (suc n) small f =
+      let known = first_is reach a v n (omega arith) f in
       let known_now = first_noted after rate held at s touches a v n in
       let later = first_noted after rate held at s touches a v (suc n) in
       let is : touches (block after rate held at s n) a ≡ touches (state (at + n)) a = ap (λ x. touches x a) (block_is n) in
@@ -50,7 +51,13 @@ module _ {S : Type 0} (after : S → ℕ → Bool → S) (touches : S → ℕ �
       subst (λ m. IsFirst (λ t. touches (state t) a) m later) same more
 
   -- the table after n steps
-  pub first_block : (reach n : ℕ) (first later : List ℕ) → at ≤ reach → at + n ≤ last_step → ((a : ℕ) → a < memory_size → slice_index later a ≡ first_noted after rate held at s touches a (slice_index first a) n) → AreFirst touches state reach first → AreFirst touches state (max reach (at + n)) later
-  first_block reach n first later low small table f a l =
-      subst (λ v. IsFirst (λ t. touches (state t) a) (max reach (at + n)) v) (sym (table a l))
-      (first_is reach a (slice_index first a) n low small (f a l))
+  pub table_block : (reach n : ℕ) (table later : List ℕ) → at + n ≤ last_step → length later ≡ memory_size
+      → ((a : ℕ) → a < memory_size → slice_index later a ≡ first_noted after rate held at s touches a (slice_index table a) n) → IsTouched touches state (max reach at) table
+      → IsTouched touches state (max reach (at + n)) later
+  table_block reach n table later small size noted known =
+      record {
+        size = size;
+        first = λ a l.
+            subst (λ v. IsFirst (λ t. touches (state t) a) (max reach (at + n)) v) (sym (noted a l))
+            (first_is reach a (slice_index table a) n small (known.first a l));
+      }

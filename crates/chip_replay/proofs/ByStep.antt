@@ -1,12 +1,11 @@
 -- The key events in the order of their steps, entry by entry.
-use Rattle.std.proofs.Common.{◌≡◌, ◌≢◌, ℕ, zero, suc, ◌+◌, ◌-◌, ◌<◌, ◌≤◌, Bool, false, add-one, List, [], ◌∷◌, length, length-set, set, get_or, slice_index_or, Option, Some, None, refl, sym, ap, ◌∙◌, subst, arith, inl, inr, get_or-set_same, get_or-set_other}
+use Rattle.std.proofs.Common.{◌≡◌, ◌≢◌, ℕ, zero, suc, ◌+◌, ◌-◌, ◌<◌, ◌≤◌, Bool, false, add-one, List, [], ◌∷◌, length, length-set, set, get_or, slice_index_or, Some, None, refl, sym, ap, ◌∙◌, subst, arith, inl, inr, get_or-set_same, get_or-set_other}
 use Rattle.std.proofs.lemmas.Bool.{cases_eq, cases_lt}
 use Rattle.std.proofs.lemmas.List.{get_or_default}
-use Rattle.std.specs.Prelude.{IfSome, min}
+use Rattle.std.specs.Prelude.{min}
 use Rattle.chip_replay.proofs.LastEvent.{is_down-stays, is_down-none, is_down-last}
 use Rattle.chip_replay.proofs.InOrder.{change_none, change_there, steps_rise}
 use Rattle.chip_replay.specs.inner.Changes.{IsInOrder, IsFirstFrom, SaysTheSame, after_events, change_at, was_down, KnowsKeys, HoldsKeys}
-use Rattle.chip_replay.specs.inner.Kept.{IsHolding}
 use Rattle.chip_replay.specs.declared.by_step.Event.{Event}
 use Rattle.chip_replay.specs.declared.keys.Holding.{Holding}
 use Rattle.chip_replay.specs.Mask.{mask}
@@ -162,14 +161,12 @@ was_down-same : (events later : Events) (from t k : ℕ) → t ≤ from → ((s 
 was_down-same events later from zero k l same = refl
 was_down-same events later from (suc t) k l same = same t (omega arith) k
 
--- what is known of the keys at the current state's step, under events that are alike in the steps
--- below from
-pub holding_cut : (events later : Events) (m from : ℕ) (h : Holding) (step step' : Option ℕ) → m ≤ from → IsHolding events step h → ((s : ℕ) → s < from → (k : ℕ) → is_down later k s ≡ is_down events k s) → IfSome step' (λ t. (t ≤ m) × (step ≡ Some t)) → IsHolding later step' (record h { until = min h.until from })
-holding_cut events later m from h step None within known same kept = tt
-holding_cut events later m from h step (Some t) within known same kept =
-    let before : KnowsKeys events t h = subst (λ o. IsHolding events o h) kept.1 known in
+-- what is known of the keys when a step begins, under events that are alike in the steps below from
+pub knows_cut : (events later : Events) (t from : ℕ) (h : Holding) → t ≤ from → ((s : ℕ) → s < from → (k : ℕ) → is_down later k s ≡ is_down events k s) → KnowsKeys events t h
+    → KnowsKeys later t (record h { until = min h.until from })
+knows_cut events later t from h within same before =
     record {
       size = before.size;
       as_mask = before.as_mask;
-      before = λ s k ls lu l. was_down-same events later from s k (omega arith) same ∙ before.before s k (omega (arith, kept.0)) (omega arith) l;
+      before = λ s k ls lu l. was_down-same events later from s k (omega arith) same ∙ before.before s k (omega arith) (omega arith) l;
     }

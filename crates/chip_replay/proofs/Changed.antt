@@ -1,11 +1,11 @@
 -- What is kept after a change of the image is sound for the new run.
-use Rattle.std.proofs.Common.{◌≡◌, ℕ, zero, suc, ◌+◌, ◌*◌, ◌/◌, ◌<◌, ◌≤◌, min, Bool, true, false, cond, not, ltb, List, [], ◌∷◌, map, take, length, get_or, slice_index, slice_index_or, Option, Some, None, refl, sym, ap, ◌∙◌, subst, arith, ◌⊎◌, inl, inr, get_or-take, length-take, ◌&&◌}
+use Rattle.std.proofs.Common.{◌≡◌, ℕ, zero, suc, ◌+◌, ◌*◌, ◌/◌, ◌<◌, ◌≤◌, min, Bool, true, false, cond, not, ltb, List, [], ◌∷◌, map, take, length, get_or, slice_index, slice_index_or, refl, sym, ap, ◌∙◌, subst, arith, ◌⊎◌, inl, inr, get_or-take, length-take, ◌&&◌}
 use Rattle.std.proofs.Math.Nat.{suc-mul}
 use Rattle.std.proofs.lemmas.List.Sums.{prefix_len-le-length}
 use Rattle.std.proofs.lemmas.List.{length-map, map-id, get_or-map}
-use Rattle.std.proofs.lemmas.Bool.{cases_lt, false≢true}
+use Rattle.std.proofs.lemmas.Bool.{and_from, cases_lt, false≢true}
 use Rattle.std.proofs.lemmas.Bool.Decides.{nat_tests}
-use Rattle.std.specs.Prelude.{IfSome}
+use Rattle.std.proofs.lemmas.Option.{IfSome_then}
 use Rattle.std.specs.List.{position_or_len, range_with_len}
 use Rattle.std.proofs.lemmas.List.FromFn.{get_or-range_with_len, length-range_with_len}
 use Rattle.std.proofs.lemmas.List.Folds.{list_any_at}
@@ -16,9 +16,14 @@ use Rattle.chip_machine.specs.Block.{ticks}
 use Rattle.chip_replay.specs.Run.{run, first_below, IsStill}
 use Rattle.chip_replay.specs.Image.{affected, touches_change, patched}
 use Rattle.chip_machine.specs.State.{differs}
-use Rattle.chip_replay.specs.inner.Kept.{IsFirst, AreFirst, IsSound, IsCurrent, IsCutBack}
+use Rattle.chip_replay.specs.inner.Kept.{IsFirst, IsTouched, AreCheckpoints, IsRight}
+use Rattle.chip_replay.specs.inner.Changes.{KnowsKeys}
+use Rattle.chip_replay.specs.Keys.{Events, held, is_down}
+use Rattle.chip_replay.specs.declared.kept.Kept.{Kept}
+use Rattle.chip_replay.proofs.ByStep.{knows_cut}
+use Rattle.chip_replay.proofs.KeyFacts.{held-by}
 use Rattle.chip_replay.proofs.Patched.{AllUntouched, run-patched, run-proper, patched-proper, after-patched, same_touches}
-use Rattle.chip_replay.specs.Limits.{image_room, image_start, memory_size, never}
+use Rattle.chip_replay.specs.Limits.{image_room, image_start, last_step, memory_size, never}
 
 -- a first step, or none, if only the steps below m are known
 first_cut_by : (b : Bool) (p q : ℕ → Bool) (n m v : ℕ) → ltb v m ≡ b → IsFirst p n v → m ≤ n → ((s : ℕ) → s < m → q s ≡ p s) → IsFirst q m (cond b v never)
@@ -38,13 +43,6 @@ first_cut_by false p q n m v e f l same =
 pub first_cut : (p q : ℕ → Bool) (n m v : ℕ) → IsFirst p n v → m ≤ n → ((s : ℕ) → s < m → q s ≡ p s) → IsFirst q m (cond (ltb v m) v never)
 first_cut p q n m v f l same = first_cut_by (ltb v m) p q n m v refl f l same
 
-first-le : {X : Type 0} (p : X → Bool) (xs : List X) → position_or_len p xs ≤ length xs
-first-le p xs = prefix_len-le-length (λ x. not (p x)) xs
-
-here_at_most : (b : Bool) (place : ℕ) → b ≡ true → cond (not b) (1 + place) 0 ≤ 0
-here_at_most true place h = omega arith
-here_at_most false place h = absurd (false≢true h)
-
 later_at_most : (b : Bool) (place i : ℕ) → place ≤ i → cond (not b) (1 + place) 0 ≤ suc i
 later_at_most true place i l = omega arith
 later_at_most false place i l = omega arith
@@ -52,12 +50,12 @@ later_at_most false place i l = omega arith
 -- the first place that passes is no later than one that does
 first-hit : {X : Type 0} (p : X → Bool) (xs : List X) (i : ℕ) (d : X) → i < length xs → p (get_or xs i d) ≡ true → position_or_len p xs ≤ i
 first-hit p [] i d l h = absurd (omega arith)
-first-hit p (x ∷ xs) zero d l h = here_at_most (p x) (position_or_len p xs) h
+first-hit p (x ∷ xs) zero d l h = rw h (omega arith)
 first-hit p (x ∷ xs) (suc i) d l h = later_at_most (p x) (position_or_len p xs) i (first-hit p xs i d (omega arith) h)
 
 pub first_below-le : (p : ℕ → Bool) (f : ℕ) → first_below p f ≤ f
 unfolding first_below
-first_below-le p f = omega (arith, first-le p (range_with_len 0 f), length-range_with_len 0 f)
+first_below-le p f = omega (arith, prefix_len-le-length (λ r. not (p r)) (range_with_len 0 f), length-range_with_len 0 f)
 
 pub first_below-hit : (p : ℕ → Bool) (f r : ℕ) → r < f → p r ≡ true → first_below p f ≤ r
 unfolding first_below
@@ -65,146 +63,118 @@ first_below-hit p f r l h =
     let place : get_or (range_with_len 0 f) r 0 ≡ r = get_or-range_with_len 0 f r 0 l ∙ omega arith in
     first-hit p (range_with_len 0 f) r 0 (omega (arith, length-range_with_len 0 f)) (ap p place ∙ h)
 
-both : (a b : Bool) → a ≡ true → b ≡ true → (a && b) ≡ true
-both true true p q = refl
-both true false p q = q
-both false b p q = p
-
 pub touches_change-at : {S : Type 0} (touches : S → List ℕ) (old new : List ℕ) (s : S) (i : ℕ) → i < image_room → differs old new i ≡ true → touched touches s (image_start + i) ≡ true → touches_change touches old new s ≡ true
 unfolding touches_change
 touches_change-at touches old new s i l d t =
     let place : get_or (range_with_len 0 image_room) i 0 ≡ i = get_or-range_with_len 0 image_room i 0 l ∙ omega arith in
     list_any_at (λ i. differs old new i && touched touches s (image_start + i)) (range_with_len 0 image_room) i 0 (omega (arith, length-range_with_len 0 image_room))
-    (ap (λ j. differs old new j && touched touches s (image_start + j)) place ∙ both _ _ d t)
+    (ap (λ j. differs old new j && touched touches s (image_start + j)) place ∙ and_from _ _ d t)
 
--- the kept run, cut off at m
-pub sound_cut : {M : Type 0} (p : ℕ) (above : 0 < p) (proper : M → Type 0) (touches : M → ℕ → Bool) (state : ℕ → M) (cs cs' : List M) (first first' : List ℕ) (reach m : ℕ) → IsSound p proper touches state cs first reach → m ≤ reach → cs' ≡ take (m / p) cs → (length first' ≡ memory_size) × AreFirst touches state m first' → IsSound p proper touches state cs' first' m
-sound_cut p above proper touches state cs cs' first first' reach m sound l cut table =
-    let few : length cs' ≡ min (m / p) (length cs) = ap length cut ∙ length-take (m / p) cs in
+-- the checkpoints, cut off at m
+pub checkpoints_cut : {M : Type 0} (proper : M → Type 0) (after : M → ℕ → Bool → M) (state : ℕ → M) (p reach m : ℕ) (cs cs' : List M) → 0 < p → AreCheckpoints proper after state p reach cs
+    → m ≤ reach → cs' ≡ take (m / p) cs → AreCheckpoints proper after state p m cs'
+checkpoints_cut proper after state p reach m cs cs' above are l cut =
+    let size : length cs' ≡ min (m / p) (length cs) = ap length cut ∙ length-take (m / p) cs in
     record {
-      proper_start = sound.proper_start;
-      in_range = omega (arith, sound.in_range);
-      few = omega (arith, few);
-      checkpoint = λ i d li.
-          (let inside : i < m / p = omega (arith, few) in
-          let there : i < length cs = omega (arith, few) in
-          ap (λ xs. slice_index_or xs i d) cut ∙ get_or-take (m / p) cs i d inside ∙ sound.checkpoint i d there);
-      each_address = table.0;
-      first = table.1;
+      proper_start = are.proper_start;
+      in_range = omega (arith, are.in_range);
+      few = omega (arith, size);
+      each = λ i d li.
+          (let inside : i < m / p = omega (arith, size) in
+          let there : i < length cs = omega (arith, size) in
+          ap (λ xs. slice_index_or xs i d) cut ∙ get_or-take (m / p) cs i d inside ∙ are.each i d there);
+      ends_still = λ fewer.
+          (let same : length cs ≡ length cs' = omega arith in
+          subst (λ n. IsStill after (state (n * p))) same (are.ends_still (omega (arith, div_mono m reach p above l))));
     }
 
 -- the table
-pub table_cut : {M : Type 0} (touches : M → ℕ → Bool) (state : ℕ → M) (first first' : List ℕ) (known m : ℕ) → length first ≡ memory_size → AreFirst touches state known first → m ≤ known → first' ≡ map (λ v. cond (ltb v m) v never) first → (length first' ≡ memory_size) × AreFirst touches state m first'
-table_cut touches state first first' known m size firsts l e = (
-  ap length e ∙ length-map _ _ ∙ size,
-  λ at la. subst (λ v. IsFirst (λ s. touches (state s) at) m v) (sym (ap (λ xs. slice_index xs at) e ∙ get_or-map _ first at 0 0 (omega (arith, size))))
-      (first_cut _ _ known m _ (firsts at la) l (λ s ls. refl)),
-)
+pub table_cut : {M : Type 0} (touches : M → ℕ → Bool) (state : ℕ → M) (table table' : List ℕ) (known m : ℕ) → IsTouched touches state known table → m ≤ known
+    → table' ≡ map (λ v. cond (ltb v m) v never) table → IsTouched touches state m table'
+table_cut touches state table table' known m was l e =
+    record {
+      size = ap length e ∙ length-map _ _ ∙ was.size;
+      first = λ at la. subst (λ v. IsFirst (λ s. touches (state s) at) m v) (sym (ap (λ xs. slice_index xs at) e ∙ get_or-map _ table at 0 0 (omega (arith, was.size))))
+          (first_cut _ _ known m _ (was.first at la) l (λ s ls. refl));
+    }
 
 -- no step from m on touches anything
-pub table_stays : {M : Type 0} (touches : M → ℕ → Bool) (state : ℕ → M) (first : List ℕ) (known m : ℕ) → length first ≡ memory_size → AreFirst touches state known first → m ≤ known → ((s a : ℕ) → m ≤ s → touches (state s) a ≡ false) → (length first ≡ memory_size) × AreFirst touches state m first
-table_stays touches state first known m size firsts l none = (
-  size,
-  λ at la. (
-      let was = firsts at la in
-      record {
-        none_before = λ s ls h. was.none_before s (omega arith) h;
-        passes = λ lv. (
-            let before = was.passes lv in
-            elim (cases_lt (slice_index first at) m) [
-              | inl a ↦ (a, before.1)
-              | inr a ↦ absurd (false≢true (sym (none (slice_index first at) at a) ∙ before.1))
-            ]);
-      }),
-)
-
--- where fewer are kept than are due
-pub ends_cut : {M : Type 0} (p : ℕ) (above : 0 < p) (after : M → ℕ → Bool → M) (state : ℕ → M) (cs cs' : List M) (reach m : ℕ) → (length cs < reach / p → IsStill after (state (length cs * p))) → m ≤ reach → cs' ≡ take (m / p) cs → length cs' < m / p → IsStill after (state (length cs' * p))
-ends_cut p above after state cs cs' reach m ends l cut fewer =
-    let size : length cs' ≡ min (m / p) (length cs) = ap length cut ∙ length-take (m / p) cs in
-    let same : length cs ≡ length cs' = omega arith in
-    subst (λ n. IsStill after (state (n * p))) same (ends (omega (arith, div_mono m reach p above l)))
-
--- the kept run with its checkpoints changed, for another run that is alike up to there
-pub sound_changed : {M : Type 0} (p : ℕ) (proper : M → Type 0) (touches : M → ℕ → Bool) (state later : ℕ → M) (change : M → M) (cs : List M) (first : List ℕ) (reach : ℕ) → IsSound p proper touches state cs first reach → proper (later 0) → ((t : ℕ) → t ≤ reach → later t ≡ change (state t)) → ((t a : ℕ) → t < reach → touches (later t) a ≡ touches (state t) a) → IsSound p proper touches later (map change cs) first reach
-sound_changed p proper touches state later change cs first reach sound start same alike =
+pub table_stays : {M : Type 0} (touches : M → ℕ → Bool) (state : ℕ → M) (table : List ℕ) (known m : ℕ) → IsTouched touches state known table → m ≤ known
+    → ((s a : ℕ) → m ≤ s → touches (state s) a ≡ false) → IsTouched touches state m table
+table_stays touches state table known m was l none =
     record {
-      proper_start = start;
-      in_range = sound.in_range;
-      few = omega (arith, length-map cs change, sound.few);
-      checkpoint = λ i d li.
-          (let there : i < length cs = omega (arith, length-map cs change) in
-          let inside : i < reach / p = omega (arith, sound.few) in
-          get_or-map change cs i d d there ∙ ap change (sound.checkpoint i d there)
-          ∙ sym (same ((i + 1) * p) (multiple_within i reach p inside)));
-      each_address = sound.each_address;
+      size = was.size;
       first = λ at la.
-          (let was = sound.first at la in
+          (let firsts = was.first at la in
           record {
-            none_before = λ s ls h. was.none_before s ls (sym (alike s at ls) ∙ h);
-            passes = λ lv. (let before = was.passes lv in (before.0, alike (slice_index first at) at before.0 ∙ before.1));
+            none_before = λ s ls h. firsts.none_before s (omega arith) h;
+            passes = λ lv. (
+                let before = firsts.passes lv in
+                elim (cases_lt (slice_index table at) m) [
+                  | inl a ↦ (a, before.1)
+                  | inr a ↦ absurd (false≢true (sym (none (slice_index table at) at a) ∙ before.1))
+                ]);
           });
     }
 
--- the current state's step after a cut
-pub step_kept : {M : Type 0} (state : ℕ → M) (reach m : ℕ) (current : M) (step step' : Option ℕ) → IsCurrent state reach current step → IsCutBack reach m step step' → IfSome step' (λ t. (t ≤ m) × (step ≡ Some t))
-step_kept state reach m current step None known kept = tt
-step_kept state reach m current step (Some t) known kept =
-    let before : (t ≤ reach) × (current ≡ state t) = subst (λ o. IsCurrent state reach current o) kept.0 known in
-    (kept.1 before.0, kept.0)
-
--- likewise the current state
-pub current_cut : {M : Type 0} (state later : ℕ → M) (change : M → M) (reach m : ℕ) (current : M) (step step' : Option ℕ) → IsCurrent state reach current step → ((t : ℕ) → t ≤ m → later t ≡ change (state t)) → IfSome step' (λ t. (t ≤ m) × (step ≡ Some t)) → IsCurrent later m (change current) step'
-current_cut state later change reach m current step None known same kept = tt
-current_cut state later change reach m current step (Some t) known same kept =
-    let before : (t ≤ reach) × (current ≡ state t) = subst (λ o. IsCurrent state reach current o) kept.1 known in
-    (kept.0, ap change before.1 ∙ sym (same t kept.0))
-
 -- no step below m touches a byte that no step below it is the first to touch
-pub not_touched : {M : Type 0} (p : ℕ) (proper : M → Type 0) (touches : M → ℕ → Bool) (state : ℕ → M) (cs : List M) (first : List ℕ) (reach m : ℕ) → IsSound p proper touches state cs first reach → m ≤ reach → (at : ℕ) → at < memory_size → m ≤ slice_index first at → (s : ℕ) → s < m → touches (state s) at ≡ false
-not_touched p proper touches state cs first reach m sound within at la least s l =
+pub not_touched : {M : Type 0} (touches : M → ℕ → Bool) (state : ℕ → M) (table : List ℕ) (reach m : ℕ) → IsTouched touches state reach table → m ≤ reach → (at : ℕ) → at < memory_size
+    → m ≤ slice_index table at → (s : ℕ) → s < m → touches (state s) at ≡ false
+not_touched touches state table reach m was within at la least s l =
     elim (touches (state s) at) as (λ b. touches (state s) at ≡ b → b ≡ false) [
-      | true ↦ λ e. absurd (omega (arith, least, (sound.first at la).none_before s (omega arith) e))
+      | true ↦ λ e. absurd (omega (arith, least, (was.first at la).none_before s (omega arith) e))
       | false ↦ λ e. refl
     ] refl
 
-module _ {S : Type 0} (p : ℕ) (memory : S → List ℕ) (with_memory : S → List ℕ → S) (proper : S → Type 0) (touches : S → List ℕ) (after : S → ℕ → Bool → S) (laws : IsTraced memory with_memory proper touches after) (rate : ℕ) (held : ℕ → ℕ) (start : S) (cs : List S) (first : List ℕ) (reach : ℕ) (sound : IsSound p proper (touched touches) (run after rate held start) cs first reach) (old new : List ℕ) where
-  pub affected_le : (m : ℕ) → m ≤ reach → (m ≡ reach) ⊎ ((i : ℕ) × (i < image_room) × (differs old new i ≡ true) × (m ≡ slice_index first (image_start + i))) → affected touches after rate held old new start reach ≤ m
-  affected_le m within (inl e) = omega (arith, first_below-le (λ s. touches_change touches old new (run after rate held start s)) reach)
-  affected_le m within (inr (i, li, d, e)) =
-      elim (cases_lt m reach) [
-        | inl a ↦
-            (let hit = (sound.first (image_start + i) (omega arith)).passes (omega (arith, sound.in_range)) in
-            first_below-hit (λ s. touches_change touches old new (run after rate held start s)) reach m a
-            (touches_change-at touches old new (run after rate held start m) i li d (ap (λ s. touched touches (run after rate held start s) (image_start + i)) e ∙ hit.1)))
-        | inr a ↦ omega (arith, first_below-le (λ s. touches_change touches old new (run after rate held start s)) reach)
-      ]
-
-  -- where no step touches a byte at which the images differ
-  module _ (untouched : (s : ℕ) → s < reach → AllUntouched memory with_memory proper touches after laws old new (run after rate held start s)) where
-    pub later_is : (t : ℕ) → t ≤ reach → run after rate held (patched memory with_memory old new start) t ≡ patched memory with_memory old new (run after rate held start t)
-    later_is t l = run-patched memory with_memory proper touches after laws old new rate held start sound.proper_start t (λ r lr. untouched r (omega arith))
-
-    pub sound_patched : IsSound p proper (touched touches) (run after rate held (patched memory with_memory old new start)) (map (patched memory with_memory old new) cs) first reach
-    sound_patched =
-        sound_changed p proper (touched touches) (run after rate held start) (run after rate held (patched memory with_memory old new start)) (patched memory with_memory old new) cs first reach sound
-        (patched-proper memory with_memory proper touches after laws old new start sound.proper_start) later_is
-        (λ t a l. ap (λ s. touched touches s a) (later_is t (omega arith)) ∙ ap (λ xs. is_among xs a) (same_touches memory with_memory proper touches after laws old new (run after rate held start t) (run-proper memory with_memory proper touches after laws rate held start sound.proper_start t) (untouched t l)))
-
-    pub ends_patched : 0 < p → (cs' : List S) → cs' ≡ map (patched memory with_memory old new) cs → (length cs < reach / p → IsStill after (run after rate held start (length cs * p))) → length cs' < reach / p → IsStill after (run after rate held (patched memory with_memory old new start) (length cs' * p))
-    ends_patched above cs' changed ends fewer =
-        let size : length cs ≡ length cs' = sym (ap length changed ∙ length-map cs _) in
-        let few : length cs < reach / p = omega arith in
-        let place = length cs * p in
-        let early : place < reach = omega (arith, multiple_within (length cs) reach p few, suc-mul (length cs) p) in
-        subst (λ n. IsStill after (run after rate held (patched memory with_memory old new start) (n * p))) size (λ keys tick.
-        ap (λ s. after s keys tick) (later_is place (omega arith))
-        ∙ after-patched memory with_memory proper touches after laws old new (run after rate held start place) keys tick (run-proper memory with_memory proper touches after laws rate held start sound.proper_start place) (untouched place early)
-        ∙ ap (patched memory with_memory old new) (ends few keys tick)
-        ∙ sym (later_is place (omega arith)))
-
-    pub current_patched : (before : ℕ) (current : S) (step step' : Option ℕ) → IsCurrent (run after rate held start) before current step → IfSome step' (λ t. (t ≤ reach) × (step ≡ Some t)) → IsCurrent (run after rate held (patched memory with_memory old new start)) reach (patched memory with_memory old new current) step'
-    current_patched before current step step' known kept = current_cut (run after rate held start) (run after rate held (patched memory with_memory old new start)) (patched memory with_memory old new) before reach current step step' known later_is kept
+-- what is kept, for another run that is alike up to there once the states are changed
+pub right_changed : {M : Type 0} (proper : M → Type 0) (touches : M → List ℕ) (after : M → ℕ → Bool → M) (rate : ℕ) (start start' : M) (events events' : Events) (kept kept' : Kept M)
+    (change : M → M) → 0 < kept.spacing → IsRight proper touches after rate start events kept
+    → kept'.checkpoints.items ≡ map change kept.checkpoints.items
+    → kept' ≡ record kept { checkpoints = kept'.checkpoints; current = change kept.current; holding = kept'.holding }
+    → proper start'
+    → ((t : ℕ) → t ≤ kept.reach → run after rate (held events') start' t ≡ change (run after rate (held events) start t))
+    → ((t : ℕ) → t < kept.reach → touches (change (run after rate (held events) start t)) ≡ touches (run after rate (held events) start t))
+    → ((t : ℕ) → t < kept.reach → IsStill after (run after rate (held events) start t) → IsStill after (change (run after rate (held events) start t)))
+    → ((t : ℕ) → t ≤ kept.reach → KnowsKeys events t kept.holding → KnowsKeys events' t kept'.holding)
+    → IsRight proper touches after rate start' events' kept'
+right_changed {M} proper touches after rate start start' events events' kept kept' change above right changed others start_proper same alike still knows =
+    let cs = kept.checkpoints.items in
+    let p = kept.spacing in
+    let state = run after rate (held events) start in
+    let later = run after rate (held events') start' in
+    let size : length kept'.checkpoints.items ≡ length cs = ap length changed ∙ length-map cs change in
+    subst (λ (k : Kept M). IsRight proper touches after rate start' events' k) (sym others) (record {
+      checkpoints = record {
+        proper_start = start_proper;
+        in_range = right.checkpoints.in_range;
+        few = omega (arith, size, right.checkpoints.few);
+        each = λ i d li.
+            (let there : i < length cs = omega (arith, size) in
+            let inside : i < kept.reach / p = omega (arith, right.checkpoints.few) in
+            ap (λ xs. slice_index_or xs i d) changed ∙ get_or-map change cs i d d there ∙ ap change (right.checkpoints.each i d there)
+            ∙ sym (same ((i + 1) * p) (multiple_within i kept.reach p inside)));
+        ends_still = λ fewer.
+            (let few : length cs < kept.reach / p = omega (arith, size) in
+            let place = length cs * p in
+            let early : place < kept.reach = omega (arith, multiple_within (length cs) kept.reach p few, suc-mul (length cs) p) in
+            subst (λ n. IsStill after (later (n * p))) (sym size) (subst (IsStill after) (sym (same place (omega arith))) (still place early (right.checkpoints.ends_still few))));
+      };
+      table = record {
+        size = right.table.size;
+        first = λ at la.
+            (let was = right.table.first at la in
+            let touched_alike = λ (t : ℕ) (l : t < kept.reach). ap (λ s. touched touches s at) (same t (omega arith)) ∙ ap (λ xs. is_among xs at) (alike t l) in
+            record {
+              none_before = λ s ls h. was.none_before s ls (sym (touched_alike s ls) ∙ h);
+              passes = λ lv. (let before = was.passes lv in (before.0, touched_alike (slice_index kept.first_touch.items at) before.0 ∙ before.1));
+            });
+      };
+      current = IfSome_then kept.current_step right.current (λ t is. record {
+        reached = is.reached;
+        current = ap change is.current ∙ sym (same t is.reached);
+        holding = knows t is.reached is.holding;
+      });
+    })
 
 -- a run under keys that are alike in the steps below m
 run-same : {S : Type 0} (after : S → ℕ → Bool → S) (rate : ℕ) (held later : ℕ → ℕ) (start : S) (t : ℕ) → ((s : ℕ) → s < t → later s ≡ held s) → run after rate later start t ≡ run after rate held start t
@@ -213,20 +183,49 @@ run-same after rate held later start (suc t) same =
     ap (λ s. after s (later t) (ticks rate t)) (run-same after rate held later start t (λ s l. same s (omega arith)))
     ∙ ap (λ k. after (run after rate held start t) k (ticks rate t)) (same t (omega arith))
 
-module _ {S : Type 0} (after : S → ℕ → Bool → S) (rate : ℕ) (held later : ℕ → ℕ) (start : S) (m : ℕ) (same : (s : ℕ) → s < m → later s ≡ held s) where
-  alike : (t : ℕ) → t ≤ m → run after rate later start t ≡ run after rate held start t
-  alike t l = run-same after rate held later start t (λ s ls. same s (omega arith))
+-- what is kept up to a step from which on the events differ
+pub right_keys : {M : Type 0} (proper : M → Type 0) (touches : M → List ℕ) (after : M → ℕ → Bool → M) (rate : ℕ) (start : M) (events later : Events) (kept : Kept M) (from : ℕ)
+    → 0 < kept.spacing → IsRight proper touches after rate start events kept → kept.reach ≤ from → ((s : ℕ) → s < from → (k : ℕ) → is_down later k s ≡ is_down events k s)
+    → IsRight proper touches after rate start later (record kept { holding = record kept.holding { until = min kept.holding.until from } })
+right_keys {M} proper touches after rate start events later kept from above right within same =
+    let kept' : Kept M = record kept { holding = record kept.holding { until = min kept.holding.until from } } in
+    right_changed proper touches after rate start start events later kept kept' (λ x. x) above right
+    (sym (map-id kept.checkpoints.items)) refl right.checkpoints.proper_start
+    (λ t l. run-same after rate (held events) (held later) start t (λ s ls. held-by events later s (same s (omega arith))))
+    (λ t l. refl) (λ t l still. still) (λ t l knows. knows_cut events later t from kept.holding (omega arith) same knows)
 
-  pub sound_keys : (p : ℕ) (proper : S → Type 0) (touches : S → ℕ → Bool) (cs : List S) (first : List ℕ) → IsSound p proper touches (run after rate held start) cs first m → IsSound p proper touches (run after rate later start) cs first m
-  sound_keys p proper touches cs first sound =
-      subst (λ xs. IsSound p proper touches (run after rate later start) xs first m) (map-id cs)
-      (sound_changed p proper touches (run after rate held start) (run after rate later start) (λ x. x) cs first m sound sound.proper_start alike
-      (λ t a lt. ap (λ s. touches s a) (alike t (omega arith))))
+-- a first step that touches a change is not above m
+module _ {S : Type 0} (touches : S → List ℕ) (after : S → ℕ → Bool → S) (rate : ℕ) (held : ℕ → ℕ) (start : S) (table : List ℕ) (reach : ℕ) (small : reach ≤ last_step)
+    (was : IsTouched (touched touches) (run after rate held start) reach table) (old new : List ℕ) where
+  pub affected_le : (m : ℕ) → m ≤ reach → (m ≡ reach) ⊎ ((i : ℕ) × (i < image_room) × (differs old new i ≡ true) × (m ≡ slice_index table (image_start + i)))
+      → affected touches after rate held old new start reach ≤ m
+  affected_le m within (inl e) = omega (arith, first_below-le (λ s. touches_change touches old new (run after rate held start s)) reach)
+  affected_le m within (inr (i, li, d, e)) =
+      elim (cases_lt m reach) [
+        | inl a ↦
+            (let hit = (was.first (image_start + i) (omega arith)).passes (omega (arith, small)) in
+            first_below-hit (λ s. touches_change touches old new (run after rate held start s)) reach m a
+            (touches_change-at touches old new (run after rate held start m) i li d (ap (λ s. touched touches (run after rate held start s) (image_start + i)) e ∙ hit.1)))
+        | inr a ↦ omega (arith, first_below-le (λ s. touches_change touches old new (run after rate held start s)) reach)
+      ]
 
-  pub ends_keys : (p : ℕ) (cs : List S) → (length cs < m / p → IsStill after (run after rate held start (length cs * p))) → length cs < m / p → IsStill after (run after rate later start (length cs * p))
-  ends_keys p cs ends fewer =
-      let early : length cs * p ≤ m = omega (arith, multiple_within (length cs) m p fewer, suc-mul (length cs) p) in
-      subst (IsStill after) (sym (alike (length cs * p) early)) (ends fewer)
-
-  pub current_keys : (reach : ℕ) (current : S) (step step' : Option ℕ) → IsCurrent (run after rate held start) reach current step → IfSome step' (λ t. (t ≤ m) × (step ≡ Some t)) → IsCurrent (run after rate later start) m current step'
-  current_keys reach current step step' known kept = current_cut (run after rate held start) (run after rate later start) (λ x. x) reach m current step step' known alike kept
+-- where no step touches a byte at which the images differ
+pub right_patched : {S : Type 0} (memory : S → List ℕ) (with_memory : S → List ℕ → S) (proper : S → Type 0) (touches : S → List ℕ) (after : S → ℕ → Bool → S)
+    (laws : IsTraced memory with_memory proper touches after) (rate : ℕ) (start : S) (events : Events) (kept kept' : Kept S) (old new : List ℕ) → 0 < kept.spacing
+    → IsRight proper touches after rate start events kept
+    → ((s : ℕ) → s < kept.reach → AllUntouched memory with_memory proper touches after laws old new (run after rate (held events) start s))
+    → kept'.checkpoints.items ≡ map (patched memory with_memory old new) kept.checkpoints.items
+    → kept' ≡ record kept { checkpoints = kept'.checkpoints; current = patched memory with_memory old new kept.current }
+    → IsRight proper touches after rate (patched memory with_memory old new start) events kept'
+right_patched memory with_memory proper touches after laws rate start events kept kept' old new above right untouched checkpoints others =
+    let state = run after rate (held events) start in
+    let proper_start = right.checkpoints.proper_start in
+    let proper_at = run-proper memory with_memory proper touches after laws rate (held events) start proper_start in
+    right_changed proper touches after rate start (patched memory with_memory old new start) events events kept kept' (patched memory with_memory old new) above right checkpoints
+    (rw others refl)
+    (patched-proper memory with_memory proper touches after laws old new start proper_start)
+    (λ t l. run-patched memory with_memory proper touches after laws old new rate (held events) start proper_start t (λ r lr. untouched r (omega arith)))
+    (λ t l. same_touches memory with_memory proper touches after laws old new (state t) (proper_at t) (untouched t l))
+    (λ t l still keys tick. after-patched memory with_memory proper touches after laws old new (state t) keys tick (proper_at t) (untouched t l) ∙ ap (patched memory with_memory old new)
+    (still keys tick))
+    (λ t l knows. rw others knows)

@@ -1,8 +1,8 @@
 -- Facts on masks of keys.
-use Rattle.std.proofs.Common.{◌≡◌, ℕ, zero, suc, ◌+◌, ◌<◌, ◌≤◌, ◌^◌, Bool, true, false, cond, ltb, leb, eqb, ◌&&◌, List, length, set, slice_index_or, inl, inr, get_or-set_same, get_or-set_other, Option, Some, None, is_some, unwrap_or, ◌≢◌, refl, sym, ap, ◌∙◌, arith}
+use Rattle.std.proofs.Common.{◌≡◌, ℕ, zero, suc, ◌+◌, ◌<◌, ◌≤◌, ◌^◌, Bool, true, false, cond, leb, eqb, ◌&&◌, List, length, set, slice_index_or, inl, inr, get_or-set_same, get_or-set_other, Option, Some, None, is_some, unwrap_or, ◌≢◌, refl, sym, ap, ◌∙◌, arith}
 use Rattle.std.specs.FinMap as map
 use Rattle.std.proofs.lemmas.Bool.Decides.{nat_tests}
-use Rattle.std.proofs.lemmas.Bool.{cases_eq}
+use Rattle.std.proofs.lemmas.Bool.{cases_eq, le-ltb, ne_eqb}
 use Rattle.std.proofs.Math.Nat.{pow-suc}
 use Rattle.std.proofs.Math.Pow.{pow_mono}
 use Rattle.std.specs.Ordering.{eq_by_cmp, is_eq}
@@ -14,8 +14,7 @@ use Rattle.chip_replay.proofs.Moments.{exact_moments, moments_total}
 use Rattle.chip_replay.specs.inner.Changes.{change_at, SaysTheSame}
 use Rattle.chip_replay.specs.Mask.{mask}
 use Rattle.chip_replay.specs.Keys.{Events, held, is_down, event_at, moment_cmp, insert_fault, edit_fault}
-use Rattle.chip_replay.specs.declared.keys.KeyFault.{KeyFault}
-use Rattle.chip_replay.specs.declared.keys.KeyFault.TheVariants.{StepTooLarge, NoSuchKey, EventThere, NoEvent, TooManyEvents}
+use Rattle.chip_replay.specs.declared.keys.KeyFault.TheVariants.{EventThere, NoEvent, TooManyEvents}
 use Rattle.chip_replay.specs.Limits.{last_step, most_events}
 
 digit-le : (b : Bool) (m : ℕ) → cond b m 0 ≤ m
@@ -27,57 +26,27 @@ unfolding mask
 mask-lt p zero = omega arith
 mask-lt p (suc n) = omega (arith, mask-lt p n, digit-le (p n) (2 ^ n), pow-suc 2 n)
 
-not_above : (a b : ℕ) → b ≤ a → ltb a b ≡ false
-not_above a b l = grind (arith, nat_tests)
-
 -- the fault of an edit whose step and key are in range
 pub edit_fault-in_range : (events : Events) (step key : ℕ) (b : Bool) → step ≤ last_step → key ≤ 15 → is_some (event_at events step key) ≡ b → edit_fault events step key ≡ cond b None (Some NoEvent)
 edit_fault-in_range events step key b s k e =
-    rw (not_above last_step step s, not_above 15 key k) (ap (λ t. cond t None (Some NoEvent)) e)
+    rw (le-ltb last_step step s, le-ltb 15 key k) (ap (λ t. cond t None (Some NoEvent)) e)
 
 pub insert_fault-in_range : (events : Events) (step key : ℕ) (b c : Bool) → step ≤ last_step → key ≤ 15 → is_some (event_at events step key) ≡ b → leb most_events (map.len events) ≡ c → insert_fault events step key ≡ cond b (Some EventThere) (cond c (Some TooManyEvents) None)
 insert_fault-in_range events step key b c s k e f =
-    rw (not_above last_step step s, not_above 15 key k) (ap (λ t. cond t (Some EventThere) (cond (leb most_events (map.len events)) (Some TooManyEvents) None)) e ∙ ap (λ t. cond b (Some EventThere) (cond t (Some TooManyEvents) None)) f)
+    rw (le-ltb last_step step s, le-ltb 15 key k)
+    (ap (λ t. cond t (Some EventThere) (cond (leb most_events (map.len events)) (Some TooManyEvents) None)) e ∙ ap (λ t. cond b (Some EventThere) (cond t (Some TooManyEvents) None)) f)
 
 -- where an edit is not refused, its event is there
 pub there_if_no_fault : (events : Events) (step key : ℕ) → edit_fault events step key ≡ None → is_some (event_at events step key) ≡ true
-there_if_no_fault events step key h =
-    elim (ltb last_step step) as (λ a. cond a (Some StepTooLarge) (cond (ltb 15 key) (Some NoSuchKey) (cond (is_some (event_at events step key)) None (Some NoEvent))) ≡ None → is_some (event_at events step key) ≡ true) [
-      | true ↦ λ e. (cc)
-      | false ↦ elim (ltb 15 key) as (λ b. cond b (Some NoSuchKey) (cond (is_some (event_at events step key)) None (Some NoEvent)) ≡ None → is_some (event_at events step key) ≡ true) [
-        | true ↦ λ e. (cc)
-        | false ↦ elim (is_some (event_at events step key)) as (λ t. cond t None (Some NoEvent) ≡ None → t ≡ true) [ true ↦ λ e. refl | false ↦ λ e. (cc) ]
-      ]
-    ] h
-
-below_by : (b : Bool) (key : ℕ) (rest : Option KeyFault) → ltb 15 key ≡ b → cond b (Some NoSuchKey) rest ≡ None → key < 16
-below_by true key rest e h = let h' : cond true (Some NoSuchKey) rest ≡ None = h in (cc)
-below_by false key rest e h = let l : key ≤ 15 = grind (arith, nat_tests) in omega arith
+there_if_no_fault events step key h = grind (arith, nat_tests)
 
 -- and its key is one of the 16
 pub key_if_no_fault : (events : Events) (step key : ℕ) → edit_fault events step key ≡ None → key < 16
-key_if_no_fault events step key h =
-    elim (ltb last_step step) as (λ a. cond a (Some StepTooLarge) (cond (ltb 15 key) (Some NoSuchKey) (cond (is_some (event_at events step key)) None (Some NoEvent))) ≡ None → key < 16) [
-      | true ↦ λ e. (cc)
-      | false ↦ below_by (ltb 15 key) key _ refl
-    ] h
+key_if_no_fault events step key h = grind (arith, nat_tests)
 
 -- where an event may be added, none is there
 pub absent_if_no_fault : (events : Events) (step key : ℕ) → insert_fault events step key ≡ None → event_at events step key ≡ None
-absent_if_no_fault events step key h =
-    elim (ltb last_step step) as (λ a. cond a (Some StepTooLarge) (cond (ltb 15 key) (Some NoSuchKey) (cond (is_some (event_at events step key)) (Some EventThere) (cond (leb most_events (map.len events)) (Some TooManyEvents) None))) ≡ None → event_at events step key ≡ None) [
-      | true ↦ λ e. (cc)
-      | false ↦ elim (ltb 15 key) as (λ b. cond b (Some NoSuchKey) (cond (is_some (event_at events step key)) (Some EventThere) (cond (leb most_events (map.len events)) (Some TooManyEvents) None)) ≡ None → event_at events step key ≡ None) [
-        | true ↦ λ e. (cc)
-        | false ↦ elim (event_at events step key) as (λ o. cond (is_some o) (Some EventThere) (cond (leb most_events (map.len events)) (Some TooManyEvents) None) ≡ None → o ≡ None) [ None ↦ λ e. refl | Some x ↦ λ e. (cc) ]
-      ]
-    ] h
-
-pub leb-above : (a b : ℕ) → a ≤ b → leb a b ≡ true
-leb-above a b l = grind (arith, nat_tests)
-
-pub leb-below : (a b : ℕ) → b < a → leb a b ≡ false
-leb-below a b l = grind (arith, nat_tests)
+absent_if_no_fault events step key h = grind (arith, nat_tests)
 
 pub pow-small : (k : ℕ) → k < 16 → 2 ^ k ≤ 32768
 pow-small k l = let h : 2 ^ k ≤ 2 ^ 15 = pow_mono {i = k} {j = 15} (omega arith) in h
@@ -174,16 +143,13 @@ is_down-same events later key zero same = ap (λ o. unwrap_or o false) (same 0 (
 is_down-same events later key (suc s) same =
     ap (λ o. unwrap_or o (is_down later key s)) (same (suc s) (omega arith)) ∙ ap (unwrap_or (event_at events (suc s) key)) (is_down-same events later key s (λ r l. same r (omega arith)))
 
-before : (a b : ℕ) → a < b → eqb a b ≡ false
-before a b l = let n : a ≢ b = λ e. omega (arith, e) in grind (arith, nat_tests)
-
 insert_before : (events : Events) (step key : ℕ) (down : Bool) (r k : ℕ) → r < step → event_at (map.insert events (record { step = step; key = key }) down) r k ≡ event_at events r k
 insert_before events step key down r k l =
-    event_at-insert events step key down r k ∙ ap (λ b. cond (b && eqb k key) (Some down) (event_at events r k)) (before r step l)
+    event_at-insert events step key down r k ∙ ap (λ b. cond (b && eqb k key) (Some down) (event_at events r k)) (ne_eqb r step (λ e. omega (arith, e, l)))
 
 remove_before : (events : Events) (step key r k : ℕ) → r < step → event_at (map.remove events (record { step = step; key = key })) r k ≡ event_at events r k
 remove_before events step key r k l =
-    event_at-remove events step key r k ∙ ap (λ b. cond (b && eqb k key) None (event_at events r k)) (before r step l)
+    event_at-remove events step key r k ∙ ap (λ b. cond (b && eqb k key) None (event_at events r k)) (ne_eqb r step (λ e. omega (arith, e, l)))
 
 -- an edit leaves the keys before its step as they are
 pub is_down-insert : (events : Events) (step key : ℕ) (down : Bool) (s : ℕ) → s < step → (k : ℕ) → is_down (map.insert events (record { step = step; key = key }) down) k s ≡ is_down events k s
@@ -194,14 +160,6 @@ pub is_down-remove : (events : Events) (step key s : ℕ) → s < step → (k : 
 is_down-remove events step key s l k =
     is_down-same events (map.remove events (record { step = step; key = key })) k s (λ r lr. remove_before events step key r k (omega arith))
 
-held-by : (events later : Events) (s : ℕ) → ((k : ℕ) → is_down later k s ≡ is_down events k s) → held later s ≡ held events s
+pub held-by : (events later : Events) (s : ℕ) → ((k : ℕ) → is_down later k s ≡ is_down events k s) → held later s ≡ held events s
 unfolding held
 held-by events later s same = mask-same _ _ 16 (λ k l. same k)
-
-pub held-insert : (events : Events) (step key : ℕ) (down : Bool) (s : ℕ) → s < step → held (map.insert events (record { step = step; key = key }) down) s ≡ held events s
-held-insert events step key down s l =
-    held-by events (map.insert events (record { step = step; key = key }) down) s (is_down-insert events step key down s l)
-
-pub held-remove : (events : Events) (step key s : ℕ) → s < step → held (map.remove events (record { step = step; key = key })) s ≡ held events s
-held-remove events step key s l =
-    held-by events (map.remove events (record { step = step; key = key })) s (is_down-remove events step key s l)

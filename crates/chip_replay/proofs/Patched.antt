@@ -3,7 +3,7 @@ use Rattle.std.proofs.Common.{◌≡◌, ℕ, zero, suc, ◌+◌, ◌-◌, ◌<�
 use Rattle.std.specs.Prelude.{All, IsFalse, nat_le, nat_lt, ◌==◌, ◌&&◌, if◌then◌else◌}
 use Rattle.std.proofs.lemmas.List.{ext_get_or, get_or_past}
 use Rattle.std.proofs.lemmas.List.Folds.{list_any_at}
-use Rattle.std.proofs.lemmas.Bool.{cases_lt, false≢true}
+use Rattle.std.proofs.lemmas.Bool.{and_parts, cases_lt, eq-eqb, false≢true, leb-true, ltb-true}
 use Rattle.std.proofs.lemmas.Bool.Decides.{nat_tests}
 use Rattle.chip_machine.specs.State.{differ_at, exchanged}
 use Rattle.chip_machine.specs.Touched.{touched}
@@ -15,19 +15,6 @@ use Rattle.chip_replay.specs.Run.{run}
 use Rattle.chip_replay.specs.Image.{patched}
 use Rattle.chip_machine.specs.State.{differs}
 use Rattle.chip_replay.specs.Limits.{image_room, image_start, memory_size}
-
-both : (a b : Bool) → (a && b) ≡ true → (a ≡ true) × (b ≡ true)
-both true b e = (refl, e)
-both false b e = absurd (false≢true e)
-
-itself : (a : ℕ) → (a == a) ≡ true
-itself a = let same : a ≡ a = refl in grind (arith, nat_tests)
-
-below : (a b : ℕ) → nat_lt a b ≡ true → a < b
-below a b e = grind (arith, nat_tests)
-
-up_to : (a b : ℕ) → nat_le a b ≡ true → a ≤ b
-up_to a b e = grind (arith, nat_tests)
 
 off_within : (at size : ℕ) (b : Bool) → at < size → (nat_lt at size && b) ≡ false → b ≡ false
 off_within at size b l e =
@@ -51,10 +38,10 @@ module _ {S : Type 0} (memory : S → List ℕ) (with_memory : S → List ℕ �
 
     place : (at : ℕ) → changed at ≡ true → (image_start + (at - image_start) ≡ at) × ((at - image_start < image_room) × (differs old new (at - image_start) ≡ true))
     place at e =
-        let inside = both (nat_lt at memory_size) (differ_at image_start old new at) e in
-        let there = both (nat_le image_start at) (differs old new (at - image_start)) inside.1 in
-        let within : at < memory_size = below at memory_size inside.0 in
-        let low : image_start ≤ at = up_to image_start at there.0 in
+        let inside = and_parts (nat_lt at memory_size) (differ_at image_start old new at) e in
+        let there = and_parts (nat_le image_start at) (differs old new (at - image_start)) inside.1 in
+        let within : at < memory_size = ltb-true at memory_size inside.0 in
+        let low : image_start ≤ at = leb-true image_start at there.0 in
         (omega arith, (omega arith, there.1))
 
     misses : (s : S) → AllUntouched s → All (λ at. IsFalse (changed at)) (touches s)
@@ -63,7 +50,7 @@ module _ {S : Type 0} (memory : S → List ℕ) (with_memory : S → List ℕ �
         elim (changed at) as (λ b. changed at ≡ b → b ≡ false) [
           | true ↦ λ e. (
               let there = place at e in
-              absurd (false≢true (sym (u (at - image_start) there.1.0 there.1.1) ∙ ap (touched touches s) there.0 ∙ list_any_at (λ a. at == a) (touches s) k d l (itself at))))
+              absurd (false≢true (sym (u (at - image_start) there.1.0 there.1.1) ∙ ap (touched touches s) there.0 ∙ list_any_at (λ a. at == a) (touches s) k d l (eq-eqb at at refl))))
           | false ↦ λ e. refl
         ] refl
 
@@ -90,8 +77,8 @@ module _ {S : Type 0} (memory : S → List ℕ) (with_memory : S → List ℕ �
 
     goes : (m n : List ℕ) (at : ℕ) → length m ≡ memory_size → length n ≡ memory_size → changed at ≡ true → get_or (exchanged m image_start old new) at 0 ≡ get_or (exchanged n image_start old new) at 0
     goes m n at sm sn on =
-        let inside = both (nat_lt at memory_size) (differ_at image_start old new at) on in
-        let within : at < memory_size = below at memory_size inside.0 in
+        let inside = and_parts (nat_lt at memory_size) (differ_at image_start old new at) on in
+        let within : at < memory_size = ltb-true at memory_size inside.0 in
         get_or-exchanged m image_start old new at (omega (arith, sm))
         ∙ ap (λ b. if b then slice_index new (at - image_start) else slice_index m at) inside.1
         ∙ sym (get_or-exchanged n image_start old new at (omega (arith, sn))

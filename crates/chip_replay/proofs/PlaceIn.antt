@@ -18,7 +18,7 @@ module _ (pages : List (Vec Event)) (order : IsInOrder (all_events pages)) (i : 
     at : (k : ℕ) (d : Event) → rank (get_or es k d) ≡ rank (get_or page.items k d)
     at k d = ap (λ xs. rank (get_or xs k d)) same
 
-    pub place_inside : j < length page.items
+    place_inside : j < length page.items
     place_inside = elim (cases_lt j (length page.items)) [
       | inl a ↦ a
       | inr a ↦ (
@@ -30,10 +30,10 @@ module _ (pages : List (Vec Event)) (order : IsInOrder (all_events pages)) (i : 
           absurd (omega (arith, low, high, ap rank here, at n d)))
     ]
 
-    pub place_within : count_before pages i + j ≤ length (all_events pages)
+    place_within : count_before pages i + j ≤ length (all_events pages)
     place_within = omega (arith, place_inside, count_within (λ (p : Vec Event). p.items) pages i page within read)
 
-    pub before_place : (k : ℕ) (d : Event) → k < count_before pages i + j → rank (get_or (all_events pages) k d) < wanted
+    before_place : (k : ℕ) (d : Event) → k < count_before pages i + j → rank (get_or (all_events pages) k d) < wanted
     before_place k d l = elim (cases_lt k (count_before pages i)) [
       | inl a ↦ earlier k d a
       | inr a ↦ (
@@ -43,6 +43,11 @@ module _ (pages : List (Vec Event)) (order : IsInOrder (all_events pages)) (i : 
           omega (arith, below n d low, at n d, ap rank (element (λ (p : Vec Event). p.items) pages i page within read n d (omega (arith, low, place_inside))), ap (λ m. rank (get_or (all_events pages) m d)) is))
     ]
 
-    pub after_place : (k : ℕ) (d : Event) → count_before pages i + j ≤ k → k < length (all_events pages) → wanted ≤ rank (get_or (all_events pages) k d)
+    after_place : (k : ℕ) (d : Event) → count_before pages i + j ≤ k → k < length (all_events pages) → wanted ≤ rank (get_or (all_events pages) k d)
     after_place =
         above_all (all_events pages) order (count_before pages i + j) wanted (λ d. omega (arith, above j d (omega arith) (omega (arith, place_inside, ap length same)), at j d, ap rank (element (λ (p : Vec Event). p.items) pages i page within read j d place_inside)))
+
+    pub placed_in : (j < length page.items) × (count_before pages i + j ≤ length (all_events pages))
+        × ((k : ℕ) (d : Event) → k < count_before pages i + j → rank (get_or (all_events pages) k d) < wanted)
+        × ((k : ℕ) (d : Event) → count_before pages i + j ≤ k → k < length (all_events pages) → wanted ≤ rank (get_or (all_events pages) k d))
+    placed_in = (place_inside, place_within, before_place, after_place)

@@ -1,5 +1,5 @@
 -- The places at which two images differ, and the least of what stands in a table at them.
-use Rattle.std.proofs.Common.{◌≡◌, ◌≢◌, ℕ, ◌+◌, ◌<◌, ◌≤◌, true, false, List, take, drop, length, get_or, slice_index, ◌⊎◌, inl, inr, arith, sym, ap, ◌∙◌, min, get_or-take, get_or-drop}
+use Rattle.std.proofs.Common.{◌≡◌, ◌≢◌, ℕ, ◌+◌, ◌<◌, ◌≤◌, true, false, List, take, drop, length, get_or, slice_index, ◌⊎◌, inl, inr, arith, sym, ap, ◌∙◌, min, below_more, get_or-take, get_or-drop}
 use Rattle.std.specs.Prelude.{◌==◌, not}
 use Rattle.std.proofs.lemmas.List.{get_or_past}
 use Rattle.std.proofs.lemmas.Bool.{cases_lt, false≢true}
@@ -28,18 +28,29 @@ differs-part old new from n i k l e =
     ap (λ x. not (x == slice_index (take n (drop from new)) k)) (get_or-part old from n i k l e)
     ∙ ap (λ y. not (slice_index old i == y)) (get_or-part new from n i k l e)
 
--- the least is that of a place below n at which the images differ, or none is less than `most`
-abbrev pub IsAttained : (ℕ → ℕ) → List ℕ → List ℕ → ℕ → ℕ → ℕ → Type 0
-IsAttained touch old new n most least = (least ≡ most) ⊎ ((k : ℕ) × (k < n) × (differs old new k ≡ true) × (least ≡ touch k))
+-- v is the least of what stands at the places below n at which the images differ, and of `most`; it
+-- stands at a place below room, or is `most`
+pub record IsLeast (touch : ℕ → ℕ) (old new : List ℕ) (n room most v : ℕ) : Type 0 where
+  pub within : v ≤ most
+  pub least : (i : ℕ) → i < n → differs old new i ≡ true → v ≤ touch i
+  pub attained : (v ≡ most) ⊎ ((i : ℕ) × (i < room) × (differs old new i ≡ true) × (v ≡ touch i))
 
--- with one place more
-pub attained_more : (touch : ℕ → ℕ) (old new : List ℕ) (n most least v w i : ℕ) → w ≡ min least v → i < n → differs old new i ≡ true → v ≡ touch i → IsAttained touch old new n most least → IsAttained touch old new n most w
-attained_more touch old new n most least v w i e li d ve before =
-    elim (cases_lt least v) [
-      | inl a ↦ (
-          let same : w ≡ least = omega arith in
-          elim before [ inl b ↦ inl (same ∙ b) | inr b ↦ inr (b.0, b.1, b.2, same ∙ b.3) ])
-      | inr a ↦ (
-          let here : w ≡ v = omega arith in
-          inr (i, li, d, here ∙ ve))
-    ]
+-- with one place more, at which the images differ, or do not
+pub least_more : (touch : ℕ → ℕ) (old new : List ℕ) (i room most v w : ℕ) → i < room → IsLeast touch old new i room most v
+    → ((slice_index old i ≢ slice_index new i) × (w ≡ min v (touch i))) ⊎ ((slice_index old i ≡ slice_index new i) × (w ≡ v))
+    → IsLeast touch old new (i + 1) room most w
+least_more touch old new i room most v w inside before (inl (apart, is)) =
+    record {
+      within = omega (arith, is, before.within);
+      least = below_more _ _ (λ k l d. omega (arith, is, before.least k l d)) (λ d. omega (arith, is));
+      attained = elim (cases_lt v (touch i)) [
+        | inl a ↦ (let same : w ≡ v = omega (arith, is) in elim before.attained [ inl b ↦ inl (same ∙ b) | inr b ↦ inr (b.0, b.1, b.2, same ∙ b.3) ])
+        | inr a ↦ inr (i, inside, different old new i apart, omega (arith, is))
+      ];
+    }
+least_more touch old new i room most v w inside before (inr (same, is)) =
+    rw is (record {
+      within = before.within;
+      least = below_more _ _ before.least (λ d. absurd (not_alike old new i same d));
+      attained = before.attained;
+    })

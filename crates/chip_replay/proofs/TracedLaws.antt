@@ -1,26 +1,19 @@
 -- The laws of a machine's trait, and lists that hold the same addresses.
-use Rattle.std.proofs.Common.{◌≡◌, ℕ, Bool, true, false, eqb, List, length, get_or, refl, sym, ◌∙◌, subst, arith}
+use Rattle.std.proofs.Common.{◌≡◌, ℕ, Bool, true, false, eqb, List, length, get_or, refl, sym, ◌∙◌, subst}
 use Rattle.std.specs.Prelude.{All, Contains, IsFalse, ◌↔◌}
 use Rattle.std.proofs.lemmas.List.Folds.{list_any_at, Any-from_list_any}
-use Rattle.std.proofs.lemmas.Bool.{false≢true}
-use Rattle.std.proofs.lemmas.Bool.Decides.{nat_tests}
+use Rattle.std.proofs.lemmas.Bool.{eq-eqb, eqb-true, false≢true}
 use Rattle.chip_machine.specs.Touched.{is_among}
 use Rattle.chip_replay.specs.Frame.{AgreeOff, IsFramed}
 use Rattle.chip_replay.specs.Limits.{memory_size}
 
-same_place : (a b : ℕ) → eqb a b ≡ true → b ≡ a
-same_place a b e = grind (arith, nat_tests)
-
-at_place : (a b : ℕ) → b ≡ a → eqb a b ≡ true
-at_place a b e = grind (arith, nat_tests)
-
 among : (xs : List ℕ) (at : ℕ) → Contains xs at → is_among xs at ≡ true
-among xs at (k, l, e) = list_any_at (λ a. eqb at a) xs k at l (at_place at (get_or xs k at) e)
+among xs at (k, l, e) = list_any_at (λ a. eqb at a) xs k at l (eq-eqb at (get_or xs k at) (sym e))
 
 contained : (xs : List ℕ) (at : ℕ) → is_among xs at ≡ true → Contains xs at
 contained xs at e =
     let (k, x, l, there, same) = Any-from_list_any (λ a. eqb at a) xs e in
-    subst (λ y. Contains xs y) (same_place at x same) (k, l, there)
+    subst (λ y. Contains xs y) (sym (eqb-true at x same)) (k, l, there)
 
 -- lists that hold the same addresses
 pub is_among-same : (xs ys : List ℕ) (at : ℕ) → (Contains xs at ↔ Contains ys at) → is_among xs at ≡ is_among ys at

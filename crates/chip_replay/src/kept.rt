@@ -4,11 +4,11 @@ ghost use Rattle.std.specs.Prelude.{◌≡◌, ℕ, Bool, ◌+◌, ◌-◌, ◌*
 ghost use Rattle.chip_replay.specs.Limits.{image_start, image_room};
 ghost use Rattle.chip_machine.specs.Touched.{is_among, touched};
 ghost use Rattle.chip_replay.specs.Run.{run, IsStill};
-ghost use Rattle.chip_replay.specs.Keys.{Events, held};
+ghost use Rattle.chip_replay.specs.Keys.{Events, held, is_down};
 ghost use Rattle.chip_replay.specs.inner.Changes.{KnowsKeys};
 ghost use Rattle.chip_replay.specs.Image.{AgreeOutside, patched};
 ghost use Rattle.chip_machine.specs.State.{differs};
-ghost use Rattle.chip_replay.specs.inner.Kept.{AreFirst, IsTouched, IsSound, IsCurrent, EndsStill, IsAt, IsCutBack, IsRight, is_due};
+ghost use Rattle.chip_replay.specs.inner.Kept.{IsTouched, IsNoted, IsAt, IsAhead, IsRight, is_due};
 
 use crate::keys::{Cursor, Holding, Keys};
 use crate::limits::{IMAGE_START, LAST_STEP, MEMORY_BYTES, NEVER};
@@ -94,70 +94,59 @@ impl<M: Traced> Kept<M> {
         let mut at = self.set_out(start, keys, step)?;
         while at < step {
             if self.current.stays(None, &self.first_touch, at) {
-                return self.stay(at, step);
+                return self.extend(at, step);
             }
             let to_checkpoint = self.spacing - at % self.spacing;
             let count = to_checkpoint.min(step - at);
-            let made = self.go_on(keys, rate, at, count);
-            self.ran = self.ran.saturating_add(u64::from(made));
+            self.go_on(keys, rate, at, count)?;
             at += count;
-            self.current_step = Some(at);
-            if at > self.reach {
-                self.extend(at, at)?;
-            }
         }
         Ok(())
     }
 
-    /// The run is known up to a step, since the current state, that of a step before it, stays as
-    /// it is with any keys, and what it touches is noted. After an error it is known as far as
-    /// before, and the current state is void.
-    fn stay(&mut self, at: u32, step: u32) -> Result<(), AllocError>
+    /// Goes on by some steps up to the next checkpoint at most, of which the current state is before
+    /// the first. After an error the run is known as far as before, and the current state is void.
+    fn go_on(&mut self, keys: &Keys, rate: u32, at: u32, count: u32) -> Result<(), AllocError>
+        requires rate { 0 < rate }
         requires spaced { 0 < self.old.spacing }
-        requires in_range { step ≤ LAST_STEP }
-        requires order { at ≤ step }
+        requires in_range { at + count ≤ LAST_STEP }
+        requires next { at + count ≤ (at / self.old.spacing + 1) * self.old.spacing }
+        requires table { length self.old.first_touch.items ≡ MEMORY_BYTES }
         requires few { length self.old.checkpoints.items ≤ LAST_STEP }
-        requires still { IsStill M.step_of self.old.current }
-        requires noted { (address : ℕ) → is_among (M.touches self.old.current) address ≡ true
-            → slice_index self.old.first_touch.items address < at }
-        ensures right { (rate : ℕ) (start : M) (events : Events)
-            → IsRight M.is_proper M.touches M.step_of rate start events self.old
-            → IsAt M.step_of rate start events self.old at
-            → IsRight M.is_proper M.touches M.step_of rate start events self.new }
-        ensures reached { OnOk result (step ≤ self.new.reach) }
+        requires holding { KnowsKeys keys.now at self.old.holding }
+        ensures right { (start : M)
+            → IsRight M.is_proper M.touches M.step_of rate start keys.now self.old
+            → IsAt M.step_of rate start keys.now self.old.current self.old.holding self.old.reach at
+            → IsRight M.is_proper M.touches M.step_of rate start keys.now self.new }
+        ensures is_at { OnOk result ((start : M)
+            → IsRight M.is_proper M.touches M.step_of rate start keys.now self.old
+            → IsAt M.step_of rate start keys.now self.old.current self.old.holding self.old.reach at
+            → IsAt M.step_of rate start keys.now self.new.current self.new.holding self.new.reach
+            (at + count)) }
         ensures reach_kept { self.old.reach ≤ self.new.reach }
-        ensures others { self.new ≡ record self.old {
-          checkpoints = self.new.checkpoints;
-          spare = self.new.spare;
-          first_touch = self.new.first_touch;
-          reach = self.new.reach;
-          current_step = self.new.current_step;
-        } }
+        ensures spacing { self.new.spacing ≡ self.old.spacing }
+        ensures ran_kept { self.old.ran ≤ self.new.ran }
+        ensures made { self.new.ran ≤ self.old.ran + count }
     {
-        if step > self.reach {
-            self.extend(at, step)?;
-        }
-        Ok(())
+        let made = self.make_steps(keys, rate, at, count);
+        self.ran = self.ran.saturating_add(u64::from(made));
+        let last = at + count;
+        self.current_step = Some(last);
+        self.extend(last, last)
     }
 
-    /// Goes on by some steps, of which the current state is before the first, and answers how many
-    /// it made: none where they change nothing.
-    fn go_on(&mut self, keys: &Keys, rate: u32, at: u32, count: u32) -> u32
+    /// Makes some steps, of which the current state is before the first, and answers how many it
+    /// made: none where they change nothing.
+    fn make_steps(&mut self, keys: &Keys, rate: u32, at: u32, count: u32) -> u32
         requires rate { 0 < rate }
         requires in_range { at + count ≤ LAST_STEP }
         requires table { length self.old.first_touch.items ≡ MEMORY_BYTES }
         requires holding { KnowsKeys keys.now at self.old.holding }
-        ensures state { (start : M)
-            → self.old.current ≡ run M.step_of rate (held keys.now) start at
-            → self.new.current ≡ run M.step_of rate (held keys.now) start (at + count) }
-        ensures first { (start : M) (reach : ℕ)
-            → self.old.current ≡ run M.step_of rate (held keys.now) start at
-            → at ≤ reach
-            → AreFirst (touched M.touches)
-            (run M.step_of rate (held keys.now) start) reach self.old.first_touch.items
-            → AreFirst (touched M.touches) (run M.step_of rate (held keys.now) start)
-            (max reach (at + count)) self.new.first_touch.items }
-        ensures table { length self.new.first_touch.items ≡ MEMORY_BYTES }
+        ensures noted { (start : M) (reach : ℕ)
+            → IsNoted M.touches M.step_of rate start keys.now reach at
+            self.old.current self.old.first_touch.items
+            → IsNoted M.touches M.step_of rate start keys.now reach (at + count)
+            self.new.current self.new.first_touch.items }
         ensures holding { KnowsKeys keys.now (at + count) self.new.holding }
         ensures made { result ≤ count }
         ensures others { self.new
@@ -186,16 +175,11 @@ impl<M: Traced> Kept<M> {
     fn idle_until(&self, keys: &Keys, at: u32, count: u32) -> Option<Holding>
         requires in_range { at + count ≤ LAST_STEP }
         requires holding { KnowsKeys keys.now at self.now.holding }
-        ensures state { IsSome result → (rate : ℕ) (start : M)
-            → self.now.current ≡ run M.step_of rate (held keys.now) start at
-            → self.now.current ≡ run M.step_of rate (held keys.now) start (at + count) }
-        ensures first { IsSome result → (rate : ℕ) (start : M) (reach : ℕ)
-            → self.now.current ≡ run M.step_of rate (held keys.now) start at
-            → at ≤ reach
-            → AreFirst (touched M.touches)
-            (run M.step_of rate (held keys.now) start) reach self.now.first_touch.items
-            → AreFirst (touched M.touches) (run M.step_of rate (held keys.now) start)
-            (max reach (at + count)) self.now.first_touch.items }
+        ensures noted { IsSome result → (rate : ℕ) (start : M) (reach : ℕ)
+            → IsNoted M.touches M.step_of rate start keys.now reach at
+            self.now.current self.now.first_touch.items
+            → IsNoted M.touches M.step_of rate start keys.now reach (at + count)
+            self.now.current self.now.first_touch.items }
         ensures holding { IfSome result (KnowsKeys keys.now (at + count)) }
     {
         // A single step is made as fast.
@@ -216,42 +200,38 @@ impl<M: Traced> Kept<M> {
         Some(holding)
     }
 
-    /// The run is known up to a later step, whose state and those from `at` on are the current one,
-    /// and the first touches are noted: a checkpoint is kept if the next one is of one of these
+    /// The run is known up to a step, where the current state is that of the steps from `at` up to
+    /// it, and the first touches are noted: a checkpoint is kept if the next one is of one of these
     /// steps. After an error it is known as far as before, and the current state is void.
     #[inline(always)]
-    fn extend(&mut self, at: u32, reach: u32) -> Result<(), AllocError>
+    fn extend(&mut self, at: u32, last: u32) -> Result<(), AllocError>
+        requires spaced { 0 < self.old.spacing }
+        requires in_range { last ≤ LAST_STEP }
         requires few { length self.old.checkpoints.items ≤ LAST_STEP }
-        ensures kept { OnOk result (self.new.checkpoints.items
-            ≡ (if is_due self.old.spacing (length self.old.checkpoints.items) at reach
-            then self.old.checkpoints.items ++ self.old.current ∷ []
-            else self.old.checkpoints.items)) }
-        ensures others { OnOk result (self.new
-            ≡ record self.old {
-              checkpoints = self.new.checkpoints;
-              spare = self.new.spare;
-              reach = reach;
-            }) }
-        ensures checkpoints_stay { OnErr result (self.new.checkpoints.items
-            ≡ self.old.checkpoints.items) }
-        ensures table_cut { OnErr result (self.new.first_touch.items
-            ≡ map (λ first. if nat_lt first self.old.reach then first
-            else NEVER) self.old.first_touch.items) }
-        ensures others_stay { OnErr result (self.new ≡ record self.old {
+        ensures right { (rate : ℕ) (start : M) (events : Events)
+            → IsAhead M.is_proper M.touches M.step_of rate start events self.old at last
+            → IsRight M.is_proper M.touches M.step_of rate start events self.new }
+        ensures reached { OnOk result (last ≤ self.new.reach) }
+        ensures reach_kept { self.old.reach ≤ self.new.reach }
+        ensures others { self.new ≡ record self.old {
           checkpoints = self.new.checkpoints;
           spare = self.new.spare;
           first_touch = self.new.first_touch;
-          current_step = None;
-        }) }
+          reach = self.new.reach;
+          current_step = self.new.current_step;
+        } }
     {
-        if self.is_due(at, reach)
+        if last <= self.reach {
+            return Ok(());
+        }
+        if self.is_due(at, last)
             && let Err(error) = self.keep()
         {
             cut(&mut self.first_touch, self.reach);
             self.current_step = None;
             return Err(error);
         }
-        self.reach = reach;
+        self.reach = last;
         Ok(())
     }
 
@@ -300,7 +280,8 @@ impl<M: Traced> Kept<M> {
             self.old.spacing * (min self.old.reach step / self.old.spacing) ≤ from) }
         ensures known { (rate : ℕ)
             → IsRight M.is_proper M.touches M.step_of rate start.now keys.now self.old
-            → IfOk result (λ from. IsAt M.step_of rate start.now keys.now self.new from) }
+            → IfOk result (IsAt M.step_of rate start.now keys.now self.new.current self.new.holding
+            self.new.reach) }
         ensures right { (rate : ℕ)
             → IsRight M.is_proper M.touches M.step_of rate start.now keys.now self.old
             → IsRight M.is_proper M.touches M.step_of rate start.now keys.now self.new }
@@ -342,19 +323,11 @@ impl<M: Traced> Kept<M> {
     /// Drops what was kept of the steps from one on.
     pub(crate) fn forget(&mut self, from: u32)
         requires { 0 < self.old.spacing }
-        ensures sound { (rate : ℕ) (start : M) (events : Events)
+        ensures right { (rate : ℕ) (start : M) (events later : Events)
             → IsRight M.is_proper M.touches M.step_of rate start events self.old
-            → IsSound self.old.spacing M.is_proper
-            (touched M.touches) (run M.step_of rate (held events) start)
-            self.new.checkpoints.items self.new.first_touch.items self.new.reach }
-        ensures still { (step_of : M → ℕ → Bool → M) (state : ℕ → M)
-            → EndsStill step_of state self.old.spacing self.old.checkpoints.items self.old.reach
-            → EndsStill step_of state self.old.spacing self.new.checkpoints.items self.new.reach }
+            → ((s : ℕ) → s < from → (k : ℕ) → is_down later k s ≡ is_down events k s)
+            → IsRight M.is_proper M.touches M.step_of rate start later self.new }
         ensures reach { self.new.reach ≡ min self.old.reach from }
-        ensures current_step { IsCutBack self.old.reach self.new.reach self.old.current_step
-            self.new.current_step }
-        ensures holding { self.new.holding
-            ≡ record self.old.holding { until = min self.old.holding.until from } }
         ensures others { self.new ≡ record self.old {
           checkpoints = self.new.checkpoints;
           spare = self.new.spare;
@@ -373,15 +346,10 @@ impl<M: Traced> Kept<M> {
     /// Drops what was kept of the steps from one on, which are known.
     fn cut_off(&mut self, reach: u32)
         requires { 0 < self.old.spacing }
-        ensures checkpoints { self.new.checkpoints.items
-            ≡ take (reach / self.old.spacing) self.old.checkpoints.items }
-        ensures table { (rate : ℕ) (start : M) (events : Events)
+        ensures right { (rate : ℕ) (start : M) (events : Events)
             → IsRight M.is_proper M.touches M.step_of rate start events self.old
             → reach ≤ self.old.reach
-            → IsTouched (touched M.touches) (run M.step_of rate (held events) start) reach
-            self.new.first_touch.items }
-        ensures current_step { IfSome self.new.current_step (λ t. (t ≤ reach)
-            × (self.old.current_step ≡ Some t)) }
+            → IsRight M.is_proper M.touches M.step_of rate start events self.new }
         ensures others { self.new ≡ record self.old {
           checkpoints = self.new.checkpoints;
           spare = self.new.spare;
@@ -404,8 +372,8 @@ impl<M: Traced> Kept<M> {
         ensures table { (rate : ℕ) (start : M) (events : Events) (known : ℕ)
             → IsTouched (touched M.touches) (run M.step_of rate (held events) start) known
             self.old.first_touch.items
-            → IsCurrent (run M.step_of rate (held events) start) known self.old.current
-            self.old.current_step
+            → IfSome self.old.current_step
+            (IsAt M.step_of rate start events self.old.current self.old.holding known)
             → reach ≤ known
             → IsTouched (touched M.touches) (run M.step_of rate (held events) start) reach
             self.new.first_touch.items }

@@ -137,17 +137,23 @@ impl Keys {
 
     /// The keys that are down in a step, key k at bit k: each is as its last event up to then says,
     /// and up if there is none.
-    #[tactic(auto, unfolding(crate::specs::Mask::mask))]
     pub fn held(&self, step: u32) -> u16
         ensures { result ≡ held self.now step }
     {
-        let mut mask = 0;
+        mask_of(&self.down_in(step))
+    }
+
+    /// Whether each key is down in a step.
+    fn down_in(&self, step: u32) -> [bool; KEY_COUNT]
+        ensures size { length result ≡ KEY_COUNT }
+        ensures each { (k : ℕ) → k < KEY_COUNT
+            → slice_index_or result k false ≡ is_down self.now k step }
+    {
+        let mut down = [false; KEY_COUNT];
         for key in 0..KEYS {
-            if self.is_down(key, step) {
-                mask += 1 << key;
-            }
+            down[key as usize] = self.is_down(key, step);
         }
-        mask
+        down
     }
 
     /// Whether a key is down in a step: what its last event up to then says.
@@ -172,10 +178,7 @@ impl Keys {
         if step == 0 {
             return Holding::NONE;
         }
-        let mut down = [false; KEY_COUNT];
-        for key in 0..KEYS {
-            down[key as usize] = self.is_down(key, step - 1);
-        }
+        let down = self.down_in(step - 1);
         Holding {
             keys: mask_of(&down),
             down,

@@ -1,5 +1,5 @@
-use Rattle.std.proofs.Common.{◌≡◌, ℕ, ◌<◌, List, length, take, get_or, slice_index, arith, sym, ◌∙◌, refl, below_more, min, get_or-take}
-use Rattle.chip_replay.proofs.Places.{different, not_alike, attained_more}
+use Rattle.std.proofs.Common.{◌≡◌, ℕ, ◌<◌, List, length, take, get_or, slice_index, arith, sym, ◌∙◌, inl, inr, get_or-take}
+use Rattle.chip_replay.proofs.Places.{least_more}
 use Rattle.chip_replay.proofs.kept.least_at_changes.Goals as goal
 use Rattle.chip_replay.proofs.kept.least_at_changes.Goals.{then-old-i, else-old-i}
 
@@ -15,22 +15,14 @@ loop-i-preserved c =
     let new = c.args.new.now in
     let steps = c.args.steps.now in
     let i = c.loop-i.i in
-    let least = c.loop-i.least in
-    elim c.if-old-i.branch [
-      | then-old-i w ↦ (
-          let is : c.min-least.result ≡ min least (slice_index steps i) = omega (arith, c.min-least.ensures, c.max.ensures, w.floor-is) in
-          record {
-            within = omega (arith, is, c.loop-i.invariant.within);
-            least = below_more _ _ (λ k l d. omega (arith, is, c.loop-i.invariant.least k l d)) (λ d. omega (arith, is));
-            attained = attained_more (slice_index steps) old new (length steps) c.args.most least (slice_index steps i) c.min-least.result i is c.loop-i-test.true
-                (different old new i (λ same. w.if-old-i.true (taken old new (length steps) i c.loop-i-test.true same))) refl c.loop-i.invariant.attained;
-          })
-      | else-old-i w ↦ (
-          let is : c.min-least.result ≡ least = omega (arith, c.min-least.ensures, c.max.ensures, w.floor-is, c.loop-i.invariant.within) in
-          rw is (
-          record {
-            within = c.loop-i.invariant.within;
-            least = below_more _ _ c.loop-i.invariant.least (λ d. absurd (not_alike old new i (untaken old new (length steps) i c.loop-i-test.true w.if-old-i.false) d));
-            attained = c.loop-i.invariant.attained;
-          }))
-    ]
+    least_more (slice_index steps) old new i (length steps) c.args.most c.loop-i.least c.min-least.result c.loop-i-test.true c.loop-i.invariant
+    (elim c.if-old-i.branch [
+      | then-old-i w ↦ inl (
+        λ same. w.if-old-i.true (taken old new (length steps) i c.loop-i-test.true same),
+        omega (arith, c.min-least.ensures, c.max.ensures, w.floor-is),
+      )
+      | else-old-i w ↦ inr (
+        untaken old new (length steps) i c.loop-i-test.true w.if-old-i.false,
+        omega (arith, c.min-least.ensures, c.max.ensures, w.floor-is, c.loop-i.invariant.within),
+      )
+    ])

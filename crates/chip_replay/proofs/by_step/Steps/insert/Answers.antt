@@ -3,21 +3,19 @@ use Rattle.chip_replay.specs.inner.Changes.{IsInOrder, change_at, all_events, in
 use Rattle.chip_replay.proofs.InOrder.{inserted, insert_in_order, none_at_place}
 use Rattle.chip_replay.proofs.by_step.Steps.insert.Goals as goal
 
-pub returns-clause-in_order : goal.returns-clause-in_order
-returns-clause-in_order c =
+pub returns : goal.returns
+returns c =
     let pages = c.args.self.now.pages.items in
     let es = all_events pages in
+    let order = c.requires.in_order in
     let e = c.args.event in
     let place = index_of pages c.place-place.result in
     let found = c.place-place.ensures in
-    subst IsInOrder (sym c.in_ok-insert_at.ensures.ok)
-    (insert_in_order es c.requires.in_order e.step e.key place found.at_most found.before found.after e refl refl c.requires.key
-    (none_at_place es c.requires.in_order e.step e.key place found.at_most found.before found.after c.requires.key c.requires.absent))
-
-pub returns-clause-ok : goal.returns-clause-ok
-returns-clause-ok c = λ s k.
-    let pages = c.args.self.now.pages.items in
-    let e = c.args.event in
-    let found = c.place-place.ensures in
-    ap (λ xs. change_at xs s k) c.in_ok-insert_at.ensures.ok
-    ∙ inserted (all_events pages) c.requires.in_order e.step e.key (index_of pages c.place-place.result) found.at_most found.before found.after e refl refl s k
+    record {
+      in_order = subst IsInOrder (sym c.in_ok-insert_at.ensures.ok)
+          (insert_in_order es order e.step e.key place found.at_most found.before found.after e refl refl c.requires.key
+          (none_at_place es order e.step e.key place found.at_most found.before found.after c.requires.key c.requires.absent));
+      ok = λ s k. ap (λ xs. change_at xs s k) c.in_ok-insert_at.ensures.ok
+          ∙ inserted es order e.step e.key place found.at_most found.before found.after e refl refl s k;
+      err = tt;
+    }

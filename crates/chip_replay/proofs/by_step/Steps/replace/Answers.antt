@@ -25,30 +25,22 @@ index_mut-requires-2 c =
     let within = list_inside (λ (p : Vec Event). p.items) pages place.page place.index there.0 in
     omega (arith, found.place page within, ap (λ (p : Vec Event). length p.items) c.index_mut.ensures.value, page.ok.0)
 
-pub returns-clause-in_order : goal.returns-clause-in_order
-returns-clause-in_order c =
+pub returns : goal.returns
+returns c =
     let pages = c.args.self.now.pages.items in
     let es = all_events pages in
+    let order = c.requires.in_order in
     let e = c.args.event in
     let place = c.place-place.result in
+    let index = index_of pages place in
     let page = c.index_mut.result.now in
     let found = c.place-place.ensures in
-    let there = at_place es c.requires.in_order e.step e.key (index_of pages place) found.at_most found.before found.after c.requires.there in
+    let there = at_place es order e.step e.key index found.at_most found.before found.after c.requires.there in
     let within = list_inside (λ (p : Vec Event). p.items) pages place.page place.index there.0 in
     let inside : place.index < length page.items = omega (arith, found.place page within, ap (λ (p : Vec Event). length p.items) c.index_mut.ensures.value) in
-    subst IsInOrder (sym (flat_set (λ (p : Vec Event). p.items) pages place.page page within c.index_mut.ensures.value place.index (with_item page place.index e) e inside refl))
-    (set_in_order es c.requires.in_order e.step e.key (index_of pages place) found.at_most found.before found.after e refl refl c.requires.key there.0 there.1)
-
-pub returns-clause-set : goal.returns-clause-set
-returns-clause-set c = λ s k.
-    let pages = c.args.self.now.pages.items in
-    let es = all_events pages in
-    let e = c.args.event in
-    let place = c.place-place.result in
-    let page = c.index_mut.result.now in
-    let found = c.place-place.ensures in
-    let there = at_place es c.requires.in_order e.step e.key (index_of pages place) found.at_most found.before found.after c.requires.there in
-    let within = list_inside (λ (p : Vec Event). p.items) pages place.page place.index there.0 in
-    let inside : place.index < length page.items = omega (arith, found.place page within, ap (λ (p : Vec Event). length p.items) c.index_mut.ensures.value) in
-    ap (λ es. change_at es s k) (flat_set (λ (p : Vec Event). p.items) pages place.page page within c.index_mut.ensures.value place.index (with_item page place.index e) e inside refl)
-    ∙ replaced es c.requires.in_order e.step e.key (index_of pages place) found.at_most found.before found.after there.0 there.1 c.requires.key e refl refl s k
+    let set = flat_set (λ (p : Vec Event). p.items) pages place.page page within c.index_mut.ensures.value place.index (with_item page place.index e) e inside refl in
+    record {
+      in_order = subst IsInOrder (sym set) (set_in_order es order e.step e.key index found.at_most found.before found.after e refl refl c.requires.key there.0 there.1);
+      set = λ s k. ap (λ es. change_at es s k) set
+          ∙ replaced es order e.step e.key index found.at_most found.before found.after there.0 there.1 c.requires.key e refl refl s k;
+    }

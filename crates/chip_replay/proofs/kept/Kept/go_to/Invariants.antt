@@ -8,7 +8,7 @@ invariant-loop-at g l =
     record {
       spacing : l.self.spacing ≡ l.fn.self.spacing;
       right : IsRight m.is_proper m.touches m.step_of l.rate l.start l.keys l.self;
-      is_at : IsAt m.step_of l.rate l.start l.keys l.self l.at;
+      is_at : IsAt m.step_of l.rate l.start l.keys l.self.current l.self.holding l.self.reach l.at;
       within : l.at ≤ l.step;
       reach_kept : l.fn.self.reach ≤ l.self.reach;
       from : l.initial.at ≤ l.at;

@@ -1,17 +1,8 @@
-use Rattle.std.proofs.Common.{◌≡◌, ◌≤◌, ◌^◌, ap, ◌∙◌, arith}
-use Rattle.chip_replay.specs.Mask.{mask}
-use Rattle.chip_replay.specs.Keys.{held, is_down}
-use Rattle.chip_replay.proofs.KeyFacts.{mask-lt, pow-small}
+use Rattle.std.proofs.Common.{◌∙◌}
+use Rattle.chip_replay.specs.Keys.{held}
+use Rattle.chip_replay.proofs.KeyFacts.{mask-same}
 use Rattle.chip_replay.proofs.keys.Keys.held.Goals as goal
-
-pub overflow_add-mask : goal.overflow_add-mask
-overflow_add-mask c =
-    let bound = mask-lt (λ key. is_down c.args.self.now key c.args.step) c.loop-key.key in
-    let few : 2 ^ c.loop-key.key ≤ 32768 = pow-small c.loop-key.key c.loop-key-test.true in
-    omega (arith, c.loop-key.invariant)
 
 pub returns : goal.returns
 unfolding held
-returns c =
-    let all : c.loop-key.key ≡ 16 = omega arith in
-    c.loop-key.invariant ∙ ap (mask (λ key. is_down c.args.self.now key c.args.step)) all
+returns c = c.mask_of.ensures ∙ mask-same _ _ 16 c.down_in.ensures.each
