@@ -98,22 +98,17 @@ fn push_line(out: &mut Reply, line: Option<LineView<'_>>) {
         out.text("none");
         return;
     };
-    out.numbers(&[
-        line.number() as u64,
-        line.address() as u64,
-        line.size() as u64,
-    ]);
-    out.text(if line.is_active() {
-        " active "
+    let (number, address, size) = (line.number(), line.address(), line.size());
+    let state = if line.is_active() {
+        "active"
     } else {
-        " skipped "
-    });
+        "skipped"
+    };
+    out.show(&format_args!("{number} {address} {size} {state} "));
     out.bytes(line.bytes());
-    out.text(" value ");
-    out.show(&line.value());
+    out.show(&format_args!(" value {}", line.value()));
     if let Some(value) = line.definition() {
-        out.text(" defines ");
-        out.show(&value);
+        out.show(&format_args!(" defines {value}"));
     }
     out.text(" fault ");
     push_found(out, line.fault());
@@ -132,21 +127,10 @@ fn push_image(out: &mut Reply, image: Option<&[u8]>) {
         Some([]) => out.text("empty"),
         Some(image) if image.len() <= 32 => out.bytes(image),
         Some(image) => {
-            out.show(&image.len());
-            out.text(" bytes, ");
-            out.show(&count_of_others(image));
-            out.text(" not 0");
+            let others = image.iter().filter(|byte| **byte != 0).count();
+            out.show(&format_args!("{} bytes, {others} not 0", image.len()));
         }
     }
-}
-
-/// How many bytes are not 0.
-fn count_of_others(bytes: &[u8]) -> usize {
-    let mut count = 0usize;
-    for byte in bytes {
-        count = count.saturating_add(usize::from(*byte != 0));
-    }
-    count
 }
 
 fn push_found(out: &mut Reply, fault: Option<Fault>) {
@@ -158,8 +142,7 @@ fn push_found(out: &mut Reply, fault: Option<Fault>) {
 
 fn push_faults(alloc: Global, out: &mut Reply, source: &Source) -> Result<(), AllocError> {
     for (line, fault) in &source.faults(alloc)? {
-        out.show(line);
-        out.text(" ");
+        out.show(&format_args!("{line} "));
         push_fault(out, *fault);
         out.text("\n");
     }
@@ -168,11 +151,7 @@ fn push_faults(alloc: Global, out: &mut Reply, source: &Source) -> Result<(), Al
 
 fn push_symbol(out: &mut Reply, symbol: Option<Symbol>) {
     match symbol {
-        Some(symbol) => {
-            out.show(&symbol.value);
-            out.text(" ");
-            out.show(&symbol.line);
-        }
+        Some(symbol) => out.show(&format_args!("{} {}", symbol.value, symbol.line)),
         None => out.text("none"),
     }
 }

@@ -174,19 +174,11 @@ pub(crate) fn answer(alloc: Global, out: &mut Reply, rest: &str) -> Result<(), R
         deleted: 0,
     };
     match run.first_difference(alloc, seed, count)? {
-        Some(place) => {
-            out.text("differs after edit ");
-            out.show(&place);
-        }
-        None => {
-            out.text("ok ");
-            out.show(&run.replaced);
-            out.text(" replaced, ");
-            out.show(&run.inserted);
-            out.text(" inserted, ");
-            out.show(&run.deleted);
-            out.text(" deleted");
-        }
+        Some(place) => out.show(&format_args!("differs after edit {place}")),
+        None => out.show(&format_args!(
+            "ok {} replaced, {} inserted, {} deleted",
+            run.replaced, run.inserted, run.deleted
+        )),
     }
     Ok(())
 }

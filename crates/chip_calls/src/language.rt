@@ -81,8 +81,7 @@ fn push_said(alloc: Global, out: &mut Reply, word: &str, line: &Line) -> Result<
 }
 
 pub(crate) fn push_fault(out: &mut Reply, fault: Fault) {
-    out.text("F");
-    out.show(&fault.number());
+    out.show(&format_args!("F{}", fault.number()));
 }
 
 /// The label, the kind of the statement, and what its operand says.
@@ -153,10 +152,8 @@ fn push_operand(
 
 fn push_tokens(alloc: Global, out: &mut Reply, bytes: &[u8]) -> Result<(), AllocError> {
     for token in &tokens(alloc, bytes)? {
-        out.debug(&token.kind);
-        out.text(" ");
-        out.numbers(&[token.start as u64, token.end as u64]);
-        out.text("\n");
+        let (kind, start, end) = (token.kind, token.start, token.end);
+        out.show(&format_args!("{kind:?} {start} {end}\n"));
     }
     Ok(())
 }

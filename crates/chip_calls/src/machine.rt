@@ -128,10 +128,7 @@ impl Machines {
                 self.steps = 0;
                 out.text("ok");
             }
-            Err(error) => {
-                out.text("M");
-                out.show(&error.number());
-            }
+            Err(error) => out.show(&format_args!("M{}", error.number())),
         }
         Ok(())
     }
@@ -154,6 +151,11 @@ impl Machines {
     }
 }
 
+/// The keys that are down, none where a command names none.
+fn keys_down(keys: &str) -> Result<u16, Refused> {
+    hex_number(if keys.is_empty() { "0" } else { keys })
+}
+
 /// Makes so many steps, where the command says how many.
 fn run(
     machine: &mut Machine,
@@ -162,7 +164,7 @@ fn run(
     rest: &str,
 ) -> Result<(), Refused> {
     let (count, keys) = split_word(rest);
-    let keys = hex_number(if keys.is_empty() { "0" } else { keys })?;
+    let keys = keys_down(keys)?;
     for _ in 0..number(count)? {
         machine.step(keys, *made % 10 == 9, touch);
         *made = made.wrapping_add(1);
@@ -208,8 +210,7 @@ fn exchange(alloc: Global, machine: &mut Machine, rest: &str) -> Result<(), Refu
 fn push_touches(out: &mut Reply, touch: &Touch) {
     for place in 0..=touch.len() {
         if let Some(address) = touch.get(place) {
-            out.hex(address, 3);
-            out.text(" ");
+            out.show(&format_args!("{address:03x} "));
         }
     }
 }
@@ -239,11 +240,7 @@ fn parts_of(words: &str) -> Result<Forgotten, Refused> {
 
 /// The register of a digit.
 fn register_of(word: &str) -> Result<Reg, Refused> {
-    let number = hex_number(word)?;
-    if number > 15 {
-        return Err(Refused::BadCommand);
-    }
-    match Reg::new(number as u8) {
+    match Reg::new(hex_number(word)?.min(16) as u8) {
         Some(register) => Ok(register),
         None => Err(Refused::BadCommand),
     }
@@ -252,12 +249,7 @@ fn register_of(word: &str) -> Result<Reg, Refused> {
 /// What is forgotten after the next step, or what that step needs.
 fn push_forgotten(out: &mut Reply, machine: &mut Machine, rest: &str) -> Result<(), Refused> {
     let (words, keys) = split_word(rest);
-    let keys = if keys.is_empty() {
-        0
-    } else {
-        hex_number(keys)?
-    };
-    match machine.forgotten_after(parts_of(words)?, keys) {
+    match machine.forgotten_after(parts_of(words)?, keys_down(keys)?) {
         Ok(after) => push_parts(out, after),
         Err(read) => {
             out.text("needs ");
@@ -276,8 +268,7 @@ fn push_parts(out: &mut Reply, parts: Forgotten) {
     let mut blank = "";
     for number in 0..16u8 {
         if parts.has_register(number) {
-            out.text(blank);
-            out.hex_digit(number);
+            out.show(&format_args!("{blank}{number:x}"));
             blank = " ";
         }
     }
@@ -288,8 +279,7 @@ fn push_parts(out: &mut Reply, parts: Forgotten) {
         (parts.has_bytes(), "bytes"),
     ] {
         if has_part {
-            out.text(blank);
-            out.text(name);
+            out.show(&format_args!("{blank}{name}"));
             blank = " ";
         }
     }

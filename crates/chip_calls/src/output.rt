@@ -39,7 +39,7 @@ impl Reply {
         self.is_whole &= added.is_ok();
     }
 
-    /// Adds what is shown of a value.
+    /// Adds what is shown of a value, as of `format_args!`.
     pub(crate) fn show<T: Display>(&mut self, value: &T) {
         let added = write!(self.text, "{value}");
         self.is_whole &= added.is_ok();
@@ -55,32 +55,15 @@ impl Reply {
     pub(crate) fn numbers(&mut self, numbers: &[u64]) {
         let mut blank = "";
         for number in numbers {
-            self.text(blank);
-            self.show(number);
+            self.show(&format_args!("{blank}{number}"));
             blank = " ";
         }
-    }
-
-    /// Adds a number in hexadecimal, with so many digits at least: 2, 3 or 4.
-    pub(crate) fn hex(&mut self, number: u16, digits: usize) {
-        let added = match digits {
-            2 => write!(self.text, "{number:02x}"),
-            3 => write!(self.text, "{number:03x}"),
-            _ => write!(self.text, "{number:04x}"),
-        };
-        self.is_whole &= added.is_ok();
-    }
-
-    /// Adds a digit in hexadecimal.
-    pub(crate) fn hex_digit(&mut self, digit: u8) {
-        let added = write!(self.text, "{digit:x}");
-        self.is_whole &= added.is_ok();
     }
 
     /// Adds bytes in hexadecimal.
     pub(crate) fn bytes(&mut self, bytes: &[u8]) {
         for byte in bytes {
-            self.hex(u16::from(*byte), 2);
+            self.show(&format_args!("{byte:02x}"));
         }
     }
 

@@ -222,14 +222,10 @@ pub(crate) fn answer(alloc: Global, out: &mut Reply, rest: &str) -> Result<(), R
     for place in 0..count {
         let seed = first.wrapping_add(place);
         if let Some(command) = first_difference(alloc, seed)? {
-            out.text("differs at command ");
-            out.show(&command);
-            out.text(" of seed ");
-            out.show(&seed);
+            out.show(&format_args!("differs at command {command} of seed {seed}"));
             return Ok(());
         }
     }
-    out.text("ok ");
-    out.show(&count);
+    out.show(&format_args!("ok {count}"));
     Ok(())
 }

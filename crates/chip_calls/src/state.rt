@@ -47,7 +47,7 @@ pub(crate) fn answer(
 /// Answers a command about one part of a machine.
 fn answer_part(out: &mut Reply, machine: &Machine, word: &str) -> Result<(), Refused> {
     match word {
-        "pc" => out.hex(machine.pc(), 3),
+        "pc" => out.show(&format_args!("{:03x}", machine.pc())),
         "stop" => out.show(&stop_number(machine)),
         "draws" => out.show(&machine.draws()),
         "depth" => out.show(&machine.depth()),
@@ -66,19 +66,15 @@ const SHOWN: &[u8] = &[0, 1, 2, 3, 15];
 fn push_registers(out: &mut Reply, machine: &Machine) {
     for number in SHOWN {
         if let Some(x) = Reg::new(*number) {
-            out.hex(u16::from(machine.reg(x)), 2);
-            out.text(" ");
+            out.show(&format_args!("{:02x} ", machine.reg(x)));
         }
     }
 }
 
 fn push_state(out: &mut Reply, machine: &Machine) {
     push_registers(out, machine);
-    out.hex(machine.pc(), 3);
-    out.text(" ");
-    out.hex(machine.index(), 3);
-    out.text(" ");
-    out.show(&stop_number(machine));
+    let (pc, index, stop) = (machine.pc(), machine.index(), stop_number(machine));
+    out.show(&format_args!("{pc:03x} {index:03x} {stop}"));
 }
 
 /// The number of the stop cause, or 0.
@@ -94,7 +90,7 @@ fn push_memory(out: &mut Reply, machine: &Machine, rest: &str) -> Result<(), Ref
     let (from, count) = (hex_number(from)?, number(count)?.min(4096));
     for place in 0..count as u16 {
         match machine.byte_at(from.saturating_add(place)) {
-            Some(byte) => out.hex(u16::from(byte), 2),
+            Some(byte) => out.show(&format_args!("{byte:02x}")),
             None => out.text("--"),
         }
     }
@@ -103,21 +99,17 @@ fn push_memory(out: &mut Reply, machine: &Machine, rest: &str) -> Result<(), Ref
 
 fn push_frames(out: &mut Reply, frames: &[u16]) {
     for address in frames {
-        out.hex(*address, 3);
-        out.text(" ");
+        out.show(&format_args!("{address:03x} "));
     }
 }
 
 fn flag(machine: &Machine, number: u32) -> Option<u16> {
-    match machine.flag(number as usize) {
-        Some(flag) => Some(u16::from(flag)),
-        None => None,
-    }
+    machine.flag(number as usize).map(u16::from)
 }
 
 fn push_found(out: &mut Reply, found: Option<u16>) {
     match found {
-        Some(value) => out.hex(value, 2),
+        Some(value) => out.show(&format_args!("{value:02x}")),
         None => out.text("none"),
     }
 }
@@ -146,8 +138,7 @@ fn push_screen(out: &mut Reply, machine: &Machine) {
         let bits = row_bits(machine, row);
         if bits != 0 {
             is_dark = false;
-            out.show(&row);
-            out.text(" ");
+            out.show(&format_args!("{row} "));
             out.bytes(&bits.to_be_bytes());
             out.text("\n");
         }

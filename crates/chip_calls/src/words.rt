@@ -31,15 +31,12 @@ pub(crate) fn answer(
 
 /// The word of the instruction that a word is.
 fn decoded(word: u16) -> Option<u16> {
-    match decode(word) {
-        Some(instr) => Some(word_of(instr)),
-        None => None,
-    }
+    decode(word).map(word_of)
 }
 
 fn push_decoded(out: &mut Reply, word: u16) {
     match decoded(word) {
-        Some(word) => out.hex(word, 4),
+        Some(word) => out.show(&format_args!("{word:04x}")),
         None => out.text("none"),
     }
 }
@@ -49,25 +46,16 @@ fn decode_all(out: &mut Reply) {
     for word in 0..=65535u16 {
         if let Some(found) = decoded(word) {
             if found != word {
-                out.hex(word, 4);
-                out.text(" is decoded as ");
-                return out.hex(found, 4);
+                return out.show(&format_args!("{word:04x} is decoded as {found:04x}"));
             }
             count = count.saturating_add(1);
         }
     }
-    out.show(&count);
-    out.text(" instructions");
-}
-
-/// The source text of a word.
-fn shown(alloc: Global, word: u16) -> Result<String, AllocError> {
-    show(alloc, word)
+    out.show(&format_args!("{count} instructions"));
 }
 
 fn push_texts(alloc: Global, out: &mut Reply, word: u16) -> Result<(), AllocError> {
-    out.text(shown(alloc, word)?.as_str());
-    out.text("\n");
+    out.show(&format_args!("{}\n", show(alloc, word)?));
     let mut bytes = Vec::new(alloc);
     push_shown(&mut bytes, word)?;
     out.characters(&bytes);
@@ -78,22 +66,18 @@ fn show_all(alloc: Global, out: &mut Reply) -> Result<(), AllocError> {
     let mut meter = Meter::new();
     for word in 0..=65535u16 {
         if !gives_back(alloc, &mut meter, word)? {
-            out.text("not ");
-            out.hex(word, 4);
+            out.show(&format_args!("not {word:04x}"));
             return Ok(());
         }
     }
-    out.show(&meter.parsed);
-    out.text(" parsed, ");
-    out.show(&meter.encoded);
-    out.text(" encoded");
+    out.show(&format_args!("{} parsed, {} encoded", meter.parsed, meter.encoded));
     Ok(())
 }
 
 /// Whether the source text of a word is one of data where it has to be, and has the word as its
 /// code.
 fn gives_back(alloc: Global, meter: &mut Meter, word: u16) -> Result<bool, AllocError> {
-    let text = shown(alloc, word)?;
+    let text = show(alloc, word)?;
     let is_data = text.as_str().starts_with("DW");
     let line = read(alloc, meter, text.as_bytes())?;
     Ok(has_code(alloc, meter, &*line, word)? && is_data == decoded(word).is_none())

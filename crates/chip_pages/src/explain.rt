@@ -84,41 +84,44 @@ fn push_example(text: &mut Vec<u8>, example: &Example) -> Result<(), AllocError>
 {
     match *example {
         Example::Source(source) => {
-            push_all(text, &["The last line of this source has it:\n\n"])?;
-            push_indented(text, source)
+            push_indented(text, "The last line of this source has it:\n\n", source)
         }
         Example::Script { source, script } => {
-            push_all(text, &["On this source:\n\n"])?;
-            push_indented(text, source)?;
-            push_all(text, &["\nthe last of these commands is refused so:\n\n"])?;
-            push_indented(text, script)
+            push_indented(text, "On this source:\n\n", source)?;
+            push_indented(
+                text,
+                "\nthe last of these commands is refused so:\n\n",
+                script,
+            )?;
+            Ok(())
         }
         Example::Stop(source) => {
-            push_all(
+            push_indented(
                 text,
-                &["The program of this source stops so, as `regs 100` shows:\n\n"],
-            )?;
-            push_indented(text, source)
+                "The program of this source stops so, as `regs 100` shows:\n\n",
+                source,
+            )
         }
         Example::Answer {
             source,
             script,
             answer,
         } => {
-            push_all(text, &["On this source:\n\n"])?;
-            push_indented(text, source)?;
-            push_all(text, &["\nthe answer to this:\n\n"])?;
-            push_indented(text, script)?;
-            push_all(text, &["\nis this:\n\n"])?;
-            push_indented(text, answer)
+            push_indented(text, "On this source:\n\n", source)?;
+            push_indented(text, "\nthe answer to this:\n\n", script)?;
+            push_indented(text, "\nis this:\n\n", answer)?;
+            Ok(())
         }
         Example::Told(what) => push_all(text, &["An example: ", what, "\n"]),
     }
 }
 
-fn push_indented(text: &mut Vec<u8>, lines: &str) -> Result<(), AllocError>
-    ensures { OnOk result (text.new.items ≡ text.old.items ++ indented lines.now) }
+// What introduces some lines, and these lines.
+fn push_indented(text: &mut Vec<u8>, introduction: &str, lines: &str) -> Result<(), AllocError>
+    ensures { OnOk result (text.new.items
+        ≡ text.old.items ++ (introduction.now ++ indented lines.now)) }
 {
+    text.extend_from_slice(introduction.as_bytes())?;
     for line in lines.lines() {
         push_all(text, &["    ", line, "\n"])?;
     }

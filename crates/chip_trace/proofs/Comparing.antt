@@ -1,10 +1,11 @@
 -- The comparison of two lists of lines, one line after another.
-use Rattle.std.proofs.Common.{◌≡◌, ◌≢◌, ℕ, zero, suc, ◌+◌, ◌-◌, ◌<◌, ◌≤◌, ◌==◌, Bool, true, false, cond, List, [], ◌∷◌, ◌++◌, map, take, drop, length, refl, sym, ap, ap₂, ◌∙◌, arith, Some, None, length-append, length-drop, below_more, add-one}
+use Rattle.std.proofs.Common.{◌≡◌, ◌≢◌, ℕ, zero, suc, ◌+◌, ◌-◌, ◌<◌, ◌==◌, Bool, true, false, cond, List, [], ◌∷◌, ◌++◌, map, take, drop, length, refl, sym, ap, ap₂, ◌∙◌, arith, Some, None, length-append, length-drop, below_more, add-one}
 use Rattle.std.specs.List.{slice_get}
 use Rattle.std.specs.Option.{option_map}
 use Rattle.std.specs.Str.Lines.{lines}
 use Rattle.std.specs.Str.{str_to_ascii_lowercase}
 use Rattle.std.proofs.lemmas.Bool.{eqb-true, eqb-false}
+use Rattle.std.proofs.lemmas.List.{drop-append-le, drop-drop}
 use Rattle.chip_replay.specs.History.{History}
 use Rattle.chip_machine.specs.State.{State}
 use Rattle.chip_trace.specs.Lines.{SameRun, TakesLine}
@@ -24,9 +25,9 @@ pub taken : (before : List (List ℕ)) (text : List ℕ) (after : List (List ℕ
 taken [] text after t = absurd (let e = t.0 in cc)
 taken (line ∷ lines) text after t = ap₂ (λ l ls. l ∷ ls) (sym t.1) (sym t.2)
 
--- none was left
-pub none_taken : (before : List (List ℕ)) (text text_after : List ℕ) (after : List (List ℕ)) → TakesLine before false text text_after after → before ≡ []
-none_taken [] text text_after after t = refl
+-- none was left, and nothing changed
+pub none_taken : (before : List (List ℕ)) (text text_after : List ℕ) (after : List (List ℕ)) → TakesLine before false text text_after after → (before ≡ []) × (text_after ≡ text) × (after ≡ [])
+none_taken [] text text_after after t = (refl, t.1, t.2)
 none_taken (line ∷ lines) text text_after after t = absurd (let e = t.0 in cc)
 
 -- the line at a place is the first one left
@@ -46,17 +47,6 @@ take_one_more (y ∷ ys) (suc n) x rest e =
     let more = take_one_more ys n x rest e in (ap (λ l. y ∷ l) more.0, more.1)
 
 -- the last lines of a front with one line more
-drop_front : (xs : List (List ℕ)) (n : ℕ) (ys : List (List ℕ)) → n ≤ length xs → drop n (xs ++ ys) ≡ drop n xs ++ ys
-drop_front xs zero ys h = refl
-drop_front [] (suc n) ys h = absurd (omega arith)
-drop_front (x ∷ xs) (suc n) ys h = drop_front xs n ys (omega arith)
-
-drop_next : (xs : List (List ℕ)) (n : ℕ) → drop 1 (drop n xs) ≡ drop (suc n) xs
-drop_next [] zero = refl
-drop_next [] (suc n) = refl
-drop_next (x ∷ xs) zero = refl
-drop_next (x ∷ xs) (suc n) = drop_next xs n
-
 last_more : (front : List (List ℕ)) (line : List ℕ) → with_line (last_lines front) line ≡ last_lines (front ++ line ∷ [])
 last_more front line = by_test (length (last_lines front) == LINES_BEFORE) refl
   where
@@ -74,14 +64,14 @@ last_more front line = by_test (length (last_lines front) == LINES_BEFORE) refl
         let five : length (drop start front) ≡ LINES_BEFORE = eqb-true _ _ full in
         let place : suc start ≡ length (front ++ line ∷ []) - LINES_BEFORE = omega (arith, longer, size, five) in
         ap (λ b. cond b (drop 1 (last_lines front)) (last_lines front) ++ line ∷ []) full
-        ∙ ap (λ l. l ++ line ∷ []) (drop_next front start)
-        ∙ sym (drop_front front (suc start) (line ∷ []) (omega (arith, size, five)))
+        ∙ ap (λ l. l ++ line ∷ []) (drop-drop 1 start front ∙ ap (λ n. drop n front) (add-one start))
+        ∙ sym (drop-append-le (suc start) front (line ∷ []) (omega (arith, size, five)))
         ∙ ap (λ n. drop n (front ++ line ∷ [])) place
     by_test false short =
         let few : length (drop start front) ≢ LINES_BEFORE = eqb-false _ _ short in
         let place : start ≡ length (front ++ line ∷ []) - LINES_BEFORE = omega (arith, longer, size, few) in
         ap (λ b. cond b (drop 1 (last_lines front)) (last_lines front) ++ line ∷ []) short
-        ∙ sym (drop_front front start (line ∷ []) (omega arith))
+        ∙ sym (drop-append-le start front (line ∷ []) (omega arith))
         ∙ ap (λ n. drop n (front ++ line ∷ [])) place
 
 -- the line at a place where some are left

@@ -67,12 +67,3 @@ module _ (state : ℕ → State) where
       by_done false more =
           let some = has_line t more in
           (λ open_still. omega (arith, ap length left, length-drop n all), λ lt. ap not more)
-
--- where none is left, the text stays
-pub same_text : (before : List (List ℕ)) (text text_after : List ℕ) (after : List (List ℕ)) → TakesLine before false text text_after after → text_after ≡ text
-same_text [] text text_after after t = t.1
-same_text (line ∷ lines) text text_after after t = absurd (let e = t.0 in cc)
-
-pub none_after : (before : List (List ℕ)) (text text_after : List ℕ) (after : List (List ℕ)) → TakesLine before false text text_after after → after ≡ []
-none_after [] text text_after after t = t.2
-none_after (line ∷ lines) text text_after after t = absurd (let e = t.0 in cc)

@@ -27,23 +27,6 @@ none_registered p a (suc n) none =
     ap (λ t. cond t (Some (Register a)) (find p (map (λ x. Register x) (range_with_len (a + 1) n)))) (none a (omega arith))
     ∙ none_registered p (a + 1) n (λ k lt. none k (omega arith))
 
--- what is found in two lists
-pub find_either : (p : Column → Bool) (xs ys : List Column) (column : Column) → find p xs ≡ Some column → find p (xs ++ ys) ≡ Some column
-find_either p [] ys column e = absurd (cc)
-find_either p (x ∷ xs) ys column e = first_or (p x) (find p xs) (find p (xs ++ ys)) e (λ rest. find_either p xs ys column rest)
-  where
-    first_or : (b : Bool) (found more : Option Column) → cond b (Some x) found ≡ Some column → (found ≡ Some column → more ≡ Some column) → cond b (Some x) more ≡ Some column
-    first_or true found more e rest = e
-    first_or false found more e rest = rest e
-
-pub find_second : (p : Column → Bool) (xs ys : List Column) → find p xs ≡ None → find p (xs ++ ys) ≡ find p ys
-find_second p [] ys e = refl
-find_second p (x ∷ xs) ys e = not_first (p x) (find p xs) (find p (xs ++ ys)) e (λ rest. find_second p xs ys rest)
-  where
-    not_first : (b : Bool) (found more : Option Column) → cond b (Some x) found ≡ None → (found ≡ None → more ≡ find p ys) → cond b (Some x) more ≡ find p ys
-    not_first true found more e rest = absurd (cc)
-    not_first false found more e rest = rest e
-
 -- what is found passes
 find_passes : (p : Column → Bool) (xs : List Column) (column : Column) → find p xs ≡ Some column → p column ≡ true
 find_passes p [] column e = absurd (cc)

@@ -1,8 +1,8 @@
 -- The lines of a trace, one after another.
-use Rattle.std.proofs.Common.{◌≡◌, ℕ, zero, suc, ◌+◌, ◌-◌, ◌≤◌, ◌||◌, Bool, true, false, cond, not, ◌⊎◌, inl, inr, List, [], ◌∷◌, ◌++◌, map, refl, sym, ap, ap₂, ◌∙◌, add-zero, add_assoc, zero-add, arith}
+use Rattle.std.proofs.Common.{◌≡◌, ℕ, zero, suc, ◌+◌, ◌-◌, ◌≤◌, ◌||◌, Bool, true, false, cond, not, inl, inr, List, [], ◌∷◌, ◌++◌, map, refl, sym, ap, ap₂, ◌∙◌, add-zero, add_assoc, zero-add, arith}
 use Rattle.std.specs.Prelude.{nat_le, is_some}
 use Rattle.std.specs.List.{range_with_len, prefix_len}
-use Rattle.std.proofs.lemmas.Bool.{leb-true, leb-false}
+use Rattle.std.proofs.lemmas.Bool.{leb-true, leb-false, or_cases, or_parts}
 use Rattle.chip_machine.specs.State.{State}
 use Rattle.chip_replay.specs.History.{History}
 use Rattle.chip_replay.specs.Run.{first_below}
@@ -38,14 +38,6 @@ first_later p q n fails same =
 abbrev stopped_after : (state : ℕ → State) (from k : ℕ) → Bool
 stopped_after state from k = is_some (state (from + k)).core.stopped
 
-either : (a b : Bool) → (a || b) ≡ true → (a ≡ true) ⊎ (b ≡ true)
-either true b e = inl refl
-either false b e = inr e
-
-neither : (a b : Bool) → (a || b) ≡ false → (a ≡ false) × (b ≡ false)
-neither true b e = absurd (cc)
-neither false b e = (refl, e)
-
 module _ (form : Form) (columns : List Column) (state : ℕ → State) (from to : ℕ) where
   here : is_some (state from).core.stopped ≡ stopped_after state from 0
   here = ap (λ n. is_some (state n).core.stopped) (sym (add-zero from))
@@ -53,7 +45,7 @@ module _ (form : Form) (columns : List Column) (state : ℕ → State) (from to 
   end_here : (nat_le to from || is_some (state from).core.stopped) ≡ true → trace_end state from to ≡ from
   unfolding trace_end
   end_here last =
-      elim (either (nat_le to from) (is_some (state from).core.stopped) last) [
+      elim (or_cases (nat_le to from) (is_some (state from).core.stopped) last) [
         | inl past ↦
             let none : to - from ≡ 0 = omega (arith, leb-true to from past) in
             ap (λ n. from + first_below (stopped_after state from) n) none
@@ -65,7 +57,7 @@ module _ (form : Form) (columns : List Column) (state : ℕ → State) (from to 
   end_later : (nat_le to from || is_some (state from).core.stopped) ≡ false → trace_end state from to ≡ trace_end state (from + 1) to
   unfolding trace_end
   end_later more =
-      let parts = neither (nat_le to from) (is_some (state from).core.stopped) more in
+      let parts = or_parts (nat_le to from) (is_some (state from).core.stopped) more in
       let one : to - from ≡ suc (to - (from + 1)) = omega (arith, leb-false to from parts.0) in
       let next = first_later (stopped_after state from) (stopped_after state (from + 1)) (to - (from + 1)) (sym here ∙ parts.1)
       (λ k. ap (λ n. is_some (state n).core.stopped) (sym (add_assoc from 1 k))) in

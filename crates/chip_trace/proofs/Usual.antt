@@ -1,10 +1,11 @@
 -- The columns with which a usual trace begins.
-use Rattle.std.proofs.Common.{◌≡◌, ◌∙◌, ℕ, zero, suc, ◌+◌, ◌-◌, ◌<◌, Bool, List, [], ◌∷◌, ◌++◌, map, take, drop, length, get_or, slice_index, codes, sym, ap, arith, Option, Some, None, IfSome, Bor, add-one, append_assoc, append-nil, take_all, length-drop}
+use Rattle.std.proofs.Common.{◌≡◌, ◌∙◌, ℕ, zero, suc, ◌+◌, ◌-◌, ◌<◌, Bool, List, [], ◌∷◌, ◌++◌, map, take, drop, length, get_or, slice_index, codes, sym, ap, arith, Option, Some, None, IfSome, Bor, append_assoc, append-nil, take_all, length-drop}
 use Rattle.std.specs.Fmt.{decimal}
 use Rattle.std.specs.List.{flat_map, join_with_byte, range_with_len, slice_get, PartBy}
 use Rattle.hex.specs.Hex.{encode_with, lower_digits}
 use Rattle.std.proofs.lemmas.Grind.{flat_map-append}
-use Rattle.std.proofs.lemmas.List.{flat_map_more, take-append-drop, take_more_same}
+use Rattle.std.proofs.lemmas.List.FromFn.{map-range_with_len_more}
+use Rattle.std.proofs.lemmas.List.{map-id, flat_map_more, take-append-drop, take_more_same}
 use Rattle.std.proofs.lemmas.Option.{get_or_from_slice_get, slice_get_within}
 use Rattle.chip_machine.specs.State.{State}
 use Rattle.chip_trace.specs.Columns.{register_columns}
@@ -106,23 +107,16 @@ first_fields old step s is_last =
 
 -- ---- the pieces of a usual object
 
-range_suc : (a n : ℕ) → range_with_len a (suc n) ≡ range_with_len a n ++ (a + n) ∷ []
-range_suc a zero = ap (λ x. x ∷ []) (let e : a ≡ a + 0 = omega arith in e)
-range_suc a (suc n) =
-    let place : a + 1 + n ≡ a + suc n = omega arith in
-    ap (λ l. a ∷ l) (range_suc (a + 1) n ∙ ap (λ x. range_with_len (a + 1) n ++ x ∷ []) place)
-
 -- the member of one register more
 pub register_more : (old text registers : List ℕ) (n : ℕ) → text ≡ old ++ flat_map (λ x. register_member x (slice_index registers x)) (range_with_len 0 n) →
     (text ++ (44 ∷ 34 ∷ 118 ∷ slice_index lower_digits n ∷ 34 ∷ 58 ∷ [])) ++ decimal (slice_index registers n)
     ≡ old ++ flat_map (λ x. register_member x (slice_index registers x)) (range_with_len 0 (n + 1))
 register_more old text registers n so_far =
     let member : ℕ → List ℕ = λ x. register_member x (slice_index registers x) in
-    let here : 0 + n ≡ n = omega arith in
     append_assoc text (44 ∷ 34 ∷ 118 ∷ slice_index lower_digits n ∷ 34 ∷ 58 ∷ []) (decimal (slice_index registers n))
     ∙ ap (λ l. l ++ member n) so_far
     ∙ flat_map_more member old (range_with_len 0 n) n
-    ∙ ap (λ l. old ++ flat_map member l) (sym (ap (range_with_len 0) (add-one n) ∙ range_suc 0 n ∙ ap (λ x. range_with_len 0 n ++ x ∷ []) here))
+    ∙ ap (λ l. old ++ flat_map member l) (sym (sym (map-id _) ∙ map-range_with_len_more (λ x. x) 0 n n (omega arith) ∙ ap (λ l. l ++ n ∷ []) (map-id _)))
 
 members_joined : (a b c d e f g h i j k l m n o p q r : List ℕ) →
     ((((((((((((((((a ++ b) ++ c) ++ d) ++ e) ++ f) ++ g) ++ h) ++ i) ++ j) ++ k) ++ l) ++ m) ++ n) ++ o) ++ p) ++ q) ++ r

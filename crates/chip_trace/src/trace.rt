@@ -89,15 +89,21 @@ impl<'a> Trace<'a> {
         if self.is_done {
             return Ok(false);
         }
-        let is_last = push_line_at(
-            replay,
-            &mut self.workspace,
+        let machine = replay.at(self.next)?;
+        let is_last = self.next >= self.to || machine.stopped().is_some();
+        let (workspace, step) = (&mut self.workspace, self.next);
+        match push_row(
+            text,
+            workspace,
             self.form,
             self.columns,
-            self.next,
-            self.to,
-            text,
-        )?;
+            machine,
+            step,
+            is_last,
+        ) {
+            Ok(()) => {}
+            Err(_) => return Err(AtError::OutOfMemory),
+        }
         self.is_done = is_last;
         if !is_last {
             self.next += 1;
@@ -110,6 +116,7 @@ impl<'a> Trace<'a> {
     /// # Errors
     ///
     /// As `next_line`: lines before the one that failed may be added then.
+    #[tactic(auto, using(crate::proofs::Comparing::same_runs))]
     pub fn push_lines(
         &mut self,
         replay: &mut Replay<Machine>,
@@ -132,34 +139,6 @@ impl<'a> Trace<'a> {
             }
         }
         Ok(!self.is_done)
-    }
-}
-
-/// Adds the line of a step of a trace that ends at the step `to`, and says whether it is the last.
-fn push_line_at(
-    replay: &mut Replay<Machine>,
-    workspace: &mut Workspace,
-    form: Form,
-    columns: &Columns,
-    step: u32,
-    to: u32,
-    text: &mut Vec<u8>,
-) -> Result<bool, AtError>
-    ensures line { IfOk result (λ is_last. IsLineAt form columns.now (states_of replay.old)
-        step to is_last text.old.items text.new.items) }
-    ensures last { IfOk result (λ is_last. is_last ≡ false → step < to) }
-    ensures step_too_large { (result ≡ Err AtError.StepTooLarge) ↔ (LAST_STEP < step) }
-    ensures run { SameRun replay.old replay.new }
-{
-    match replay.at(step) {
-        Ok(machine) => {
-            let is_last = step >= to || machine.stopped().is_some();
-            match push_row(text, workspace, form, columns, machine, step, is_last) {
-                Ok(()) => Ok(is_last),
-                Err(_) => Err(AtError::OutOfMemory),
-            }
-        }
-        Err(error) => Err(error),
     }
 }
 

@@ -15,18 +15,19 @@ use Rattle.chip_lang.specs.Keyword.{directive_of}
 use Rattle.chip_lang.specs.Token.{token_at}
 use Rattle.chip_lang.specs.Value.{no_names}
 use Rattle.chip_lang.specs.Tree.{number}
-use Rattle.chip_lang.specs.Line.{Body, empty, equ, org, ds, db, dw, da, code, define, ifdef, ifund, else_line, endif, end_line, align, options, used, xref, Reading, bad, read, reading_of}
+use Rattle.chip_lang.specs.Line.{Body, db, dw, code, align, Reading, read, reading_of}
 use Rattle.chip_lang.specs.Code.{own_bytes, word_bytes}
 use Rattle.chip_lang.specs.Show.{show_of, four_hex_digits, two_hex_digits}
 use Rattle.chip_asm.specs.Lines.{is_long, fault_of_lines, open_fault}
 use Rattle.chip_symbols.specs.Names.{values_of}
-use Rattle.chip_asm.specs.Layout.{Placed, is_align_body}
+use Rattle.chip_asm.specs.Layout.{Placed}
 use Rattle.chip_asm.specs.computed.Walk.{place, placed}
 use Rattle.chip_asm.specs.Program.{image_of}
 use Rattle.chip_views.specs.Dis.{is_visible, is_plain, is_word, gives_word, word_text, lines_of_image, source_of_image}
 use Rattle.chip_views.proofs.DataLines.{good, word_line, byte_line}
 use Rattle.chip_views.proofs.TextLines.{EachVisible, lines_of_text}
-use Rattle.chip_views.proofs.WordLayout.{Steady, Built, nothing_built, built_line, built_off, steady_code, steady_word, steady_byte, image_of_built}
+use Rattle.chip_asm.proofs.QuietLines.{plain}
+use Rattle.chip_views.proofs.WordLayout.{Steady, Built, nothing_built, built_next, steady_plain, steady_off, image_of_built}
 
 no_values : values_of [] ≡ no_names
 unfolding values_of
@@ -36,8 +37,7 @@ no_values = refl
 record WordLine (line : List ℕ) (high low : ℕ) : Type 0 where
   body : Body
   reads : reading_of line ≡ read None body
-  steady : Steady true body (high ∷ low ∷ [])
-  no_align : is_align_body body ≡ false
+  steady : Steady true true body (high ∷ low ∷ [])
   seen : list_all is_visible line ≡ true
   short : length line ≤ LINE_BYTES
 
@@ -58,26 +58,8 @@ record Given (w : ℕ) (r : Reading) : Type 0 where
   own : own_bytes (code form operands) no_names ≡ Ok (word_bytes w)
 
 given : (w : ℕ) (r : Reading) → gives_word w r ≡ true → Given w r
-given w (bad fault) h = cc
-given w (read (Some name) body) h = cc
 given w (read None (code form operands)) h = record { form = form; operands = operands; is = refl; own = is_word_true w (own_bytes (code form operands) no_names) h }
-given w (read None empty) h = cc
-given w (read None (equ e)) h = cc
-given w (read None (org e)) h = cc
-given w (read None (ds e)) h = cc
-given w (read None (db es)) h = cc
-given w (read None (dw es)) h = cc
-given w (read None (da bytes)) h = cc
-given w (read None define) h = cc
-given w (read None (ifdef n)) h = cc
-given w (read None (ifund n)) h = cc
-given w (read None else_line) h = cc
-given w (read None endif) h = cc
-given w (read None end_line) h = cc
-given w (read None (align on)) h = cc
-given w (read None options) h = cc
-given w (read None used) h = cc
-given w (read None xref) h = cc
+given w _ h = cc
 
 word_own : (w : ℕ) → w < 65536 → own_bytes (dw (number (pos w) ∷ [])) no_names ≡ Ok (word_bytes w)
 unfolding own_bytes
@@ -102,8 +84,7 @@ line_shown high low l shown =
     record {
       body = code g.form g.operands;
       reads = g.is;
-      steady = steady_code true g.form g.operands (high ∷ low ∷ []) own refl;
-      no_align = refl;
+      steady = steady_plain true (code g.form g.operands) (high ∷ low ∷ []) (plain (code g.form g.operands) refl) (λ _. refl) own;
       seen = parts.1;
       short = leb-true (length (show_of w)) LINE_BYTES parts.0;
     }
@@ -116,8 +97,7 @@ line_of_data high low h l =
     record {
       body = dw (number (pos w) ∷ []);
       reads = word_line w (omega arith);
-      steady = steady_word true (number (pos w)) (high ∷ low ∷ []) own refl;
-      no_align = refl;
+      steady = steady_plain true (dw (number (pos w) ∷ [])) (high ∷ low ∷ []) (plain (dw (number (pos w) ∷ [])) refl) (λ _. refl) own;
       seen = rw ((good (w / 4096 % 16) (omega arith)).visible, (good (w / 256 % 16) (omega arith)).visible, (good (w / 16 % 16) (omega arith)).visible, (good (w % 16) (omega arith)).visible) refl;
       short = omega arith;
     }
@@ -151,19 +131,21 @@ laid [] all done bytes built fits =
     record { aligning = true; built = subst (λ (bs : List ℕ). Built true all bs) (sym (append-nil done)) built }
 laid (b ∷ []) all done bytes built fits =
     let off = reading_of (codes "ALIGN OFF") in
-    let first : Built false (place all off ∷ all) (done ++ []) = built_off true all done off align_off built (omega arith) in
+    let first : Built false (place all off ∷ all) (done ++ []) = built_next true false all done [] (align false) off align_off built steady_off (omega arith) in
     let first_done : Built false (place all off ∷ all) done = subst (λ (bs : List ℕ). Built false (place all off ∷ all) bs) (append-nil done) first in
-    let own : own_bytes (db (number (pos b) ∷ [])) (values_of []) ≡ Ok (b ∷ []) = ap (own_bytes (db (number (pos b) ∷ []))) no_values ∙ byte_own b (bytes 0) in
+    let body : Body = db (number (pos b) ∷ []) in
+    let own : own_bytes body (values_of []) ≡ Ok (b ∷ []) = ap (own_bytes body) no_values ∙ byte_own b (bytes 0) in
+    let steady : Steady false false body (b ∷ []) = steady_plain false body (b ∷ []) (plain body refl) (λ _. refl) own in
     record {
       aligning = false;
-      built = built_line false (place all off ∷ all) done (b ∷ []) (db (number (pos b) ∷ [])) (reading_of (codes "DB #" ++ two_hex_digits b)) (byte_line b (bytes 0)) first_done (steady_byte (number (pos b)) (b ∷ []) own refl) refl fits;
+      built = built_next false false (place all off ∷ all) done (b ∷ []) body (reading_of (codes "DB #" ++ two_hex_digits b)) (byte_line b (bytes 0)) first_done steady fits;
     }
 laid (high ∷ low ∷ rest) all done bytes built fits =
     let line = word_line_of high low (bytes 0) (bytes 1) in
     let text : List ℕ = word_text (256 * high + low) in
     let more : List ℕ = high ∷ low ∷ [] in
     let next : Built true (place all (reading_of text) ∷ all) (done ++ more) =
-    built_line true all done more line.body (reading_of text) line.reads built line.steady line.no_align (omega arith) in
+    built_next true true all done more line.body (reading_of text) line.reads built line.steady (omega arith) in
     let fits_rest : length (done ++ more) + length rest ≤ IMAGE_BYTES = rw (length-append done more) (omega arith) in
     let all_rest = laid rest (place all (reading_of text) ∷ all) (done ++ more) (λ k. bytes (suc (suc k))) next fits_rest in
     record {

@@ -7,7 +7,7 @@ pub returns-then-not-has_line-clause-found : goal.returns-then-not-has_line-clau
 returns-then-not-has_line-clause-found c =
     let same = same_states c.args.replay.now c.loop-left.replay c.loop-left.invariant.run in
     let none = none_taken _ _ _ _ (rw (c.if-not-has_line.true, same) at c.in_ok-has_line.ensures.line) in
-    let so_far = rw (none, c.first_line.ensures.first) at c.loop-left.invariant.so_far in
+    let so_far = rw (none.0, c.first_line.ensures.first) at c.loop-left.invariant.so_far in
     is_first _ _ _ _ _ so_far (none_some _) refl (ap Some c.in_ok-copied.ensures.copy)
 
 pub returns-then-not-is_alike-clause-found : goal.returns-then-not-is_alike-clause-found
@@ -35,7 +35,7 @@ pub returns-then-not-is_longer-clause-found : goal.returns-then-not-is_longer-cl
 returns-then-not-is_longer-clause-found c =
     let same = same_states c.args.replay.now c.loop-left.replay c.loop-left.invariant.run in
     let none = none_taken _ _ _ _ (rw (c.if-not-is_longer.true, same) at c.in_ok-is_longer.ensures.line) in
-    none_differs _ _ _ _ _ _ c.loop-left.invariant.so_far none (no_lines c.loop-left.left.now (sym c.is_empty.ensures ∙ c.loop-left-test.false))
+    none_differs _ _ _ _ _ _ c.loop-left.invariant.so_far none.0 (no_lines c.loop-left.left.now (sym c.is_empty.ensures ∙ c.loop-left-test.false))
 
 pub returns-clause-found : goal.returns-clause-found
 returns-clause-found c =

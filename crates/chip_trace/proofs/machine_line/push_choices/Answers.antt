@@ -1,8 +1,7 @@
-use Rattle.std.proofs.Common.{rules, ◌≡◌, ◌∷◌, ◌++◌, ◌∙◌, ◌+◌, ap, sym, refl, true, false, Bool, ℕ, List, [], append-nil, drop}
-use Rattle.std.specs.List.{join_with_byte}
+use Rattle.std.proofs.Common.{◌≡◌, ◌∙◌, ◌+◌, sym, ℕ, List, [], append-nil, drop}
 use Rattle.std.proofs.lemmas.List.{drop_all}
 use Rattle.chip_trace.specs.Machine.{names_in}
-use Rattle.chip_trace.proofs.MachineLemmas.{joined_after, joined_first, joined_next, joined_none, names_with, names_without, values}
+use Rattle.chip_trace.proofs.MachineLemmas.{joined_first, joined_next, joined_none, names_with, names_without, values}
 use Rattle.chip_trace.proofs.machine_line.push_choices.Goals as goal
 use Rattle.chip_trace.proofs.machine_line.push_choices.Goals.{then-has+in_ok-extend_from_slice, then-not-is_first+in_ok-push, else-not-is_first, else-has}
 

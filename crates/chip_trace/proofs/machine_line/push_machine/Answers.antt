@@ -1,8 +1,6 @@
-use Rattle.std.proofs.Common.{rules, ◌≡◌, ◌++◌, ◌∷◌, ◌∙◌, [], ℕ, List, None, codes, append_assoc, ap, sym, refl}
+use Rattle.std.proofs.Common.{codes, sym}
 use Rattle.std.specs.List.{join_with_byte}
-use Rattle.chip_trace.specs.Lines.{newline_ended}
-use Rattle.chip_machine.specs.Profile.{profile_with}
-use Rattle.chip_trace.specs.Machine.{choice_lines, choice_names, named_lines}
+use Rattle.chip_trace.specs.Machine.{choice_lines, choice_names}
 use Rattle.chip_trace.proofs.MachineLemmas.{one_line}
 use Rattle.chip_trace.proofs.machine_line.push_machine.Goals as goal
 

@@ -1,4 +1,4 @@
-use Rattle.std.proofs.Common.{◌≡◌, ◌++◌, ◌∷◌, ◌∙◌, [], ℕ, List, codes, sym, append-nil, true}
+use Rattle.std.proofs.Common.{◌≡◌, ◌∙◌, codes, sym, append-nil, true}
 use Rattle.chip_machine.specs.Profile.{profile_name}
 use Rattle.chip_trace.specs.Machine.{has_line, profile_lines}
 use Rattle.chip_trace.proofs.MachineLemmas.{one_line}

@@ -1,4 +1,4 @@
-use Rattle.std.proofs.Common.{◌≡◌, ◌++◌, ◌∷◌, ◌∙◌, ap, append_assoc, [], ℕ, List}
+use Rattle.std.proofs.Common.{◌++◌, ◌∷◌, ◌∙◌, ap, append_assoc, [], ℕ, List}
 use Rattle.std.proofs.lemmas.List.{flat_map_more}
 use Rattle.chip_trace.specs.Columns.{header_line}
 use Rattle.chip_trace.specs.Machine.{machine_lines}

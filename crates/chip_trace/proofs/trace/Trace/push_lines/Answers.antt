@@ -1,7 +1,7 @@
 use Rattle.std.proofs.Common.{◌≡◌, ap, sym, ◌∙◌, refl, arith, ◌++◌, [], take, drop, ◌∷◌, rules, append-nil}
 use Rattle.chip_trace.specs.Lines.{remaining, newline_ended, states_of}
 use Rattle.chip_trace.proofs.Comparing.{same_run, same_runs, none_taken}
-use Rattle.chip_trace.proofs.LinesLemmas.{one_line_more, all_taken, more_remain, same_text, none_after}
+use Rattle.chip_trace.proofs.LinesLemmas.{one_line_more, all_taken, more_remain}
 use Rattle.chip_trace.proofs.TraceLemmas.{same_states}
 use Rattle.chip_trace.proofs.trace.Trace.push_lines.Goals as goal
 
@@ -22,26 +22,17 @@ loop-made-preserved c =
       next = omega (arith, c.next_line.ensures.next, c.loop-made.invariant.to, c.loop-made.invariant.next);
     }
 
-pub returns-in_err-has_line-clause-run : goal.returns-in_err-has_line-clause-run
-returns-in_err-has_line-clause-run c = same_runs _ _ _ c.loop-made.invariant.run c.next_line.ensures.run
-
 pub returns-then-not-has_line-clause-lines : goal.returns-then-not-has_line-clause-lines
 returns-then-not-has_line-clause-lines c =
     let same = same_states c.args.replay.now c.loop-made.replay c.loop-made.invariant.run in
     let line = rw (c.if-not-has_line.true, same) at c.in_ok-has_line.ensures.line in
     let none = none_taken _ _ _ _ line in
-    let all = all_taken (remaining (states_of c.args.replay.now) c.args.self.now) c.loop-made._made c.args.most (sym c.loop-made.invariant.left ∙ none) (omega arith) in
+    let all = all_taken (remaining (states_of c.args.replay.now) c.args.self.now) c.loop-made._made c.args.most (sym c.loop-made.invariant.left ∙ none.0) (omega arith) in
     record {
-      added = same_text _ _ _ _ line ∙ c.loop-made.invariant.added ∙ ap (λ ls. c.args.text.now.items ++ newline_ended ls) all.0;
-      left = none_after _ _ _ _ line ∙ sym all.1;
+      added = none.1 ∙ c.loop-made.invariant.added ∙ ap (λ ls. c.args.text.now.items ++ newline_ended ls) all.0;
+      left = none.2 ∙ sym all.1;
       answer = (λ e. absurd (cc), λ lt. absurd (omega (arith, all.2)));
     }
-
-pub returns-then-not-has_line-clause-run : goal.returns-then-not-has_line-clause-run
-returns-then-not-has_line-clause-run c = same_runs _ _ _ c.loop-made.invariant.run c.in_ok-has_line.ensures.run
-
-pub returns-then-is_err-clause-run : goal.returns-then-is_err-clause-run
-returns-then-is_err-clause-run c = same_runs _ _ _ c.loop-made.invariant.run c.in_ok-has_line.ensures.run
 
 pub returns-clause-lines : goal.returns-clause-lines
 returns-clause-lines c =
@@ -54,6 +45,3 @@ returns-clause-lines c =
       left = left;
       answer = rw (← c.self.view_is) at more;
     }
-
-pub returns-clause-run : goal.returns-clause-run
-returns-clause-run c = c.loop-made.invariant.run
