@@ -46,10 +46,6 @@ alike_same s proper =
       memory = λ going at known. refl;
     }
 
-near_turned : (i j : ℕ) → AreNear i j → AreNear j i
-near_turned i j (inl same) = inl (sym same)
-near_turned i j (inr low) = inr (low.1, low.0)
-
 near_through : (i j k : ℕ) → AreNear i j → AreNear j k → AreNear i k
 near_through i j k (inl same) there = subst (λ (n : ℕ). AreNear n k) (sym same) there
 near_through i j k (inr low) (inl same) = inr (low.0, subst (λ (n : ℕ). n < DIGITS_END) same low.1)

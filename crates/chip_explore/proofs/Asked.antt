@@ -1,6 +1,6 @@
 -- What a property has in two states that are alike in all that it names.
 use Rattle.std.proofs.Common.{◌≡◌, ◌==◌, ℕ, ◌+◌, ◌*◌, Bool, true, false, not, ◌&&◌, ◌||◌, is_some, List, [], ◌∷◌, Option, Some, None, option_map, position, length, nat_lt, slice_index, ap, sym, ◌∙◌, refl, arith, if◌then◌else◌}
-use Rattle.std.proofs.lemmas.Bool.{eqb-true, not-true}
+use Rattle.std.proofs.lemmas.Bool.{and_parts, eqb-true, not-true}
 use Rattle.std.proofs.lemmas.Iterator.Adapters.{position_from-zero}
 use Rattle.std.proofs.lemmas.List.Sums.{sum_by-cons}
 use Rattle.std.specs.List.{list_all, list_any, position_from, sum_by}
@@ -30,48 +30,36 @@ use Rattle.chip_explore.specs.inner.Known.{are_goals_known, are_known, is_compar
 
 -- ---- by the elements of a list
 
-both_left : (a b : Bool) → (a && b) ≡ true → a ≡ true
-both_left true b h = refl
-both_left false b h = absurd (cc)
-
-both_right : (a b : Bool) → (a && b) ≡ true → b ≡ true
-both_right true b h = h
-both_right false b h = absurd (cc)
-
 module _ {A : Type 0} (known : A → Bool) where
   sum_same : (f g : A → ℕ) → ((x : A) → known x ≡ true → f x ≡ g x) → (xs : List A) → list_all known xs ≡ true → sum_by f xs ≡ sum_by g xs
   sum_same f g same [] h = refl
   sum_same f g same (x ∷ xs) h =
-      let one = same x (both_left (known x) (list_all known xs) h) in
-      let rest = sum_same f g same xs (both_right (known x) (list_all known xs) h) in
-      sum_by-cons f x xs ∙ ap (λ (n : ℕ). n + sum_by f xs) one ∙ ap (λ (n : ℕ). g x + n) rest ∙ sym (sum_by-cons g x xs)
+      let both = and_parts (known x) (list_all known xs) h in
+      rw (sum_by-cons f x xs, sum_by-cons g x xs, same x both.0, sum_same f g same xs both.1) refl
 
   all_same : (f g : A → Bool) → ((x : A) → known x ≡ true → f x ≡ g x) → (xs : List A) → list_all known xs ≡ true → list_all f xs ≡ list_all g xs
   all_same f g same [] h = refl
   all_same f g same (x ∷ xs) h =
-      ap (λ (b : Bool). b && list_all f xs) (same x (both_left (known x) (list_all known xs) h))
-      ∙ ap (λ (b : Bool). g x && b) (all_same f g same xs (both_right (known x) (list_all known xs) h))
+      let both = and_parts (known x) (list_all known xs) h in
+      rw (same x both.0, all_same f g same xs both.1) refl
 
   any_same : (f g : A → Bool) → ((x : A) → known x ≡ true → f x ≡ g x) → (xs : List A) → list_all known xs ≡ true → list_any f xs ≡ list_any g xs
   any_same f g same [] h = refl
   any_same f g same (x ∷ xs) h =
-      ap (λ (b : Bool). b || list_any f xs) (same x (both_left (known x) (list_all known xs) h))
-      ∙ ap (λ (b : Bool). g x || b) (any_same f g same xs (both_right (known x) (list_all known xs) h))
+      let both = and_parts (known x) (list_all known xs) h in
+      rw (same x both.0, any_same f g same xs both.1) refl
 
   position_from_same : (f g : A → Bool) → ((x : A) → known x ≡ true → f x ≡ g x) → (i : ℕ) (xs : List A) → list_all known xs ≡ true → position_from f i xs ≡ position_from g i xs
   position_from_same f g same i [] h = refl
   position_from_same f g same i (x ∷ xs) h =
-      ap (λ (b : Bool). if b then Some i else position_from f (i + 1) xs) (same x (both_left (known x) (list_all known xs) h))
-      ∙ ap (λ (rest : Option ℕ). if g x then Some i else rest) (position_from_same f g same (i + 1) xs (both_right (known x) (list_all known xs) h))
+      let both = and_parts (known x) (list_all known xs) h in
+      rw (same x both.0, position_from_same f g same (i + 1) xs both.1) refl
 
   position_same : (f g : A → Bool) → ((x : A) → known x ≡ true → f x ≡ g x) → (xs : List A) → list_all known xs ≡ true → position f xs ≡ position g xs
   position_same f g same xs h =
       position_from-zero f xs ∙ position_from_same f g same 0 xs h ∙ sym (position_from-zero g xs)
 
 -- ---- by the values that a property names
-
-known_part : (forgotten part : ℕ) → not (has_part forgotten part) ≡ true → has_part forgotten part ≡ false
-known_part forgotten part h = not-true (has_part forgotten part) h
 
 module _ (p : Setting) (f : ℕ) (a b : State) (near : AlikeTicks p f a b) (going : is_some a.core.stopped ≡ false) where
   abbrev known : Known
@@ -96,22 +84,22 @@ module _ (p : Setting) (f : ℕ) (a b : State) (near : AlikeTicks p f a b) (goin
   byte_same at h = alike.memory going at (not-true (has_byte f at) h)
 
   value_same : (item : Item) → is_item_known known item ≡ true → value_in a item ≡ value_in b item
-  value_same (Register x) h = alike.registers going x (known_part f (register_part x) h)
-  value_same Index h = alike.index going (known_part f index_part h)
+  value_same (Register x) h = alike.registers going x (not-true (has_part f (register_part x)) h)
+  value_same Index h = alike.index going (not-true (has_part f index_part) h)
   value_same Place h = pc_same
   value_same Delay h = delay_same p.free refl (a.core.delay == 0) refl h
   value_same Depth h = ap (λ (c : Core). length c.frames) alike.others
   value_same High h = ap (λ (c : Core). one_if c.high) alike.others
   value_same AsksKeys h =
       let pc = a.core.pc in
-      let first = byte_same pc (both_left (not (has_byte f pc)) (not (has_byte f (pc + 1))) h) in
-      let second = byte_same (pc + 1) (both_right (not (has_byte f pc)) (not (has_byte f (pc + 1))) h) in
+      let first = byte_same pc (and_parts (not (has_byte f pc)) (not (has_byte f (pc + 1))) h).0 in
+      let second = byte_same (pc + 1) (and_parts (not (has_byte f pc)) (not (has_byte f (pc + 1))) h).1 in
       ap (λ (n : ℕ). one_if (asks_keys (if nat_lt LAST_WORD pc then None else decode_of (n * 256 + slice_index a.memory (pc + 1))))) first
       ∙ ap (λ (n : ℕ). one_if (asks_keys (if nat_lt LAST_WORD pc then None else decode_of (slice_index b.memory pc * 256 + n)))) second
       ∙ ap (λ (place : ℕ). one_if (asks_keys (if nat_lt LAST_WORD place then None else decode_of (word_at b.memory place)))) pc_same
   value_same (Byte at) h = byte_same at h
   value_same (Pixel x y) h =
-      ap (λ (lit : Points). one_if (is_lit lit (stored a.core.high x) (stored a.core.high y))) (alike.screen going (known_part f screen_part h))
+      ap (λ (lit : Points). one_if (is_lit lit (stored a.core.high x) (stored a.core.high y))) (alike.screen going (not-true (has_part f screen_part) h))
       ∙ ap (λ (c : Core). one_if (is_lit b.core.lit (stored c.high x) (stored c.high y))) alike.others
 
   term_same : (term : Term) → is_item_known known term.item ≡ true → term.factor * value_in a term.item ≡ term.factor * value_in b term.item
@@ -124,8 +112,8 @@ module _ (p : Setting) (f : ℕ) (a b : State) (near : AlikeTicks p f a b) (goin
 
   comparison_same : (c : Comparison) → is_comparison_known known c ≡ true → compares a c ≡ compares b c
   comparison_same c h =
-      ap (λ (n : ℕ). is_related c.relation n (sum_in a c.right)) (side_same c.left (both_left (is_sum_known known c.left) (is_sum_known known c.right) h))
-      ∙ ap (λ (n : ℕ). is_related c.relation (sum_in b c.left) n) (side_same c.right (both_right (is_sum_known known c.left) (is_sum_known known c.right) h))
+      ap (λ (n : ℕ). is_related c.relation n (sum_in a c.right)) (side_same c.left (and_parts (is_sum_known known c.left) (is_sum_known known c.right) h).0)
+      ∙ ap (λ (n : ℕ). is_related c.relation (sum_in b c.left) n) (side_same c.right (and_parts (is_sum_known known c.left) (is_sum_known known c.right) h).1)
 
   condition_same : (c : Condition) → list_all (is_comparison_known known) c.comparisons.items ≡ true → holds_in a c ≡ holds_in b c
   condition_same c h =
@@ -154,7 +142,7 @@ module _ (p : Setting) (f : ℕ) (a b : State) (near : AlikeTicks p f a b) (goin
   going_same h =
       ap (λ (first : Option ℕ). if is_address p.target.address a.core.pc then Some met.Address else option_map met.Property first)
       (position_same (is_property_known known a.core.pc) (is_met a) (is_met b) property_same p.target.properties.now
-      (both_left (all_known p.target.properties.now) (all_known p.goals.now) h))
+      (and_parts (all_known p.target.properties.now) (all_known p.goals.now) h).0)
       ∙ ap (λ (pc : ℕ). if is_address p.target.address pc then Some met.Address else option_map met.Property (position (is_met b) p.target.properties.now)) pc_same
 
   -- such a state meets the goals where the other one does
@@ -162,7 +150,7 @@ module _ (p : Setting) (f : ℕ) (a b : State) (near : AlikeTicks p f a b) (goin
   goals_same h = all_same (is_property_known known a.core.pc) (is_met a) (is_met b) property_same p.goals.now h
 
 pub goals_known : (p : Setting) (f : ℕ) (s : State) → are_known p f s ≡ true → are_goals_known p f s ≡ true
-goals_known p f s h = both_right (list_all (is_property_known (known_of p f s) s.core.pc) p.target.properties.now) (are_goals_known p f s) h
+goals_known p f s h = (and_parts (list_all (is_property_known (known_of p f s) s.core.pc) p.target.properties.now) (are_goals_known p f s) h).1
 
 -- a state of a run meets what one of the search does that is like it
 met_same_by : (p : Setting) (f : ℕ) (a b : State) (near : AlikeTicks p f a b) (stopped : Option Stop) → a.core.stopped ≡ stopped

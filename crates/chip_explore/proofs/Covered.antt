@@ -67,7 +67,22 @@ pub ticking_run : (rate : ℕ) (held : ℕ → ℕ) (start : State) (t : ℕ) �
 ticking_run rate held start zero = refl
 ticking_run rate held start (suc t) = ap (λ (s : State). step_of s (held t) (ticks rate t)) (ticking_run rate held start t)
 
+-- the timers tick in both where the parts are the same
+pub same_tick : (free : Bool) (rate u t : ℕ) (tick : Bool) → (free ≡ false → tick ≡ ticks rate t) → (if free then 0 else u % rate) ≡ (if free then 0 else t % rate)
+    → (if free then false else ticks rate u) ≡ (if free then false else tick)
+same_tick true rate u t tick at_rate phased = refl
+same_tick false rate u t tick at_rate phased = ap (λ (rest : ℕ). rest == 0) (rest_more rate u t phased) ∙ sym (at_rate refl)
+
 module _ (alike : AlikeSteps) (grow : DrawsGrow) where
+  -- no step draws more than one random byte
+  pub drawn : (ticking : ℕ → Bool) (held : ℕ → ℕ) (start : State) → start.core.draws ≡ 0 → (t : ℕ) → (run_ticking ticking held start t).core.draws ≤ t
+  drawn ticking held start fresh zero = omega arith
+  drawn ticking held start fresh (suc t) =
+      let more = grow (run_ticking ticking held start t) (held t) (ticking t) in
+      let few = drawn ticking held start fresh t in
+      let count = add-one t in
+      omega arith
+
   -- the same step of two states, of which the first is one of a search
   module _ (p : Setting) (f after : ℕ) (a s : State) (keys : ℕ) (tick : Bool) (unneeded : IsUnneeded f a) (low_a : a.core.draws < 2 ^ 64 - 1) (low_s : s.core.draws < 2 ^ 64 - 1) where
     -- where the search has the timers tick as the run does
@@ -188,12 +203,6 @@ module _ (alike : AlikeSteps) (grow : DrawsGrow) where
         abbrev Later : Type 0
         Later = Near (step_of s keys (ticking t)) (t + 1)
 
-        -- the search has the timers tick as the run does
-        same_tick : (free : Bool) → p.free ≡ free → (u : ℕ) → (if free then 0 else u % p.rate) ≡ (if free then 0 else t % p.rate)
-            → (if free then false else ticks p.rate u) ≡ (if free then false else ticking t)
-        same_tick true is u phased = refl
-        same_tick false is u phased = ap (λ (rest : ℕ). rest == 0) (rest_more p.rate u t phased) ∙ sym (at_rate is t)
-
         -- after a step of a state that is like this one
         after_by : (a next : State) (f u : ℕ) → u ≤ t → phase p u ≡ phase p t → (to : GoesTo p v f a next u) → AlikeTicks p to.after next (step_of s keys (ticking t))
             → Ended next (step_of s keys (ticking t)) → Later
@@ -215,7 +224,8 @@ module _ (alike : AlikeSteps) (grow : DrawsGrow) where
             → IsUnneeded f a → a.core.draws < 2 ^ 64 - 1 → timed_register p a ≡ None → GoesTo p v f a (step_of a keys (tick_at p u)) u → Later
         after f a u early phased same ended known unneeded drawn none to =
             let next =
-            untimed p f to.after a s keys (ticking t) unneeded drawn low p.free refl (a.core.delay == 0) refl none (tick_at p u) (same_tick p.free refl u phased) same to.is_after in
+            untimed p f to.after a s keys (ticking t) unneeded drawn low p.free refl (a.core.delay == 0) refl none (tick_at p u)
+            (same_tick p.free p.rate u t (ticking t) (λ is. at_rate is t) phased) same to.is_after in
             after_by a (step_of a keys (tick_at p u)) f u early phased to next
             (ended_by f to.after a s same ended (is_some a.core.stopped) refl known keys (tick_at p u) (ticking t) next)
 
@@ -253,10 +263,10 @@ module _ (alike : AlikeSteps) (grow : DrawsGrow) where
             (λ (joins : Joins p v f a u).
             let early_place = joins.early in
             let place = joins.place in
-            let member = taken place joins.kept (omega arith) in
-            let going : is_some (v.member place).core.stopped ≡ false = same_stop (forgotten_at v place) (v.member place) a joins.alike ∙ is in
-            after_member (forgotten_at v place) (v.member place) (slice_index v.steps place) (omega arith) (joins.phased ∙ phased)
-            (through_member p f (forgotten_at v place) (v.member place) a s joins.within joins.alike same)
+            let member = taken place joins.at.kept (omega arith) in
+            let going : is_some (v.member place).core.stopped ≡ false = same_stop (forgotten_at v place) (v.member place) a joins.at.alike ∙ is in
+            after_member (forgotten_at v place) (v.member place) (slice_index v.steps place) (omega arith) (joins.at.phased ∙ phased)
+            (through_member p f (forgotten_at v place) (v.member place) a s joins.at.within joins.at.alike same)
             (λ stops. absurd (cc))
             member.asked member.unneeded member.drawn (timed_register p (v.member place)) refl member.goes_on)
             ends
@@ -279,14 +289,6 @@ module _ (alike : AlikeSteps) (grow : DrawsGrow) where
       -- from a state on, at a step of each run from a start
       module _ (base : State) (first : ℕ) (proper : IsProper base) (begun : Safe p v 0 base first) (below_end : n < 2 ^ 64 - 1)
           (start : State) (fresh : start.core.draws ≡ 0) (held : ℕ → ℕ) (script : IsScript p.allowed held) (there : run_ticking ticking held start first ≡ base) where
-        drawn : (t : ℕ) → (run_ticking ticking held start t).core.draws ≤ t
-        drawn zero = omega arith
-        drawn (suc t) =
-            let more = grow (run_ticking ticking held start t) (held t) (ticking t) in
-            let few = drawn t in
-            let count = add-one t in
-            omega arith
-
         near_base : (t : ℕ) → first ≡ t → Near (run_ticking ticking held start t) t
         near_base t same =
             subst (λ (t : ℕ). Near (run_ticking ticking held start t) t) same
@@ -299,7 +301,7 @@ module _ (alike : AlikeSteps) (grow : DrawsGrow) where
             ⊎_elim
             (λ (later : first < suc t).
             let count = add-one t in
-            let few = drawn t in
+            let few = drawn ticking held start fresh t in
             subst (λ (m : ℕ). Near (run_ticking ticking held start (suc t)) m) (add-one t)
             (onward (run_ticking ticking held start t) t (held t) (omega arith) (script t) (omega arith) (near_run t (omega arith) (omega arith))))
             (λ (now : suc t ≤ first). near_base (suc t) (omega arith))

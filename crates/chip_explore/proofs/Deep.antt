@@ -9,7 +9,7 @@ use Rattle.chip_explore.specs.Scripts.{Avoids}
 use Rattle.chip_explore.specs.Target.{met_in}
 use Rattle.chip_explore.specs.declared.question.Bounds.{Bounds}
 use Rattle.chip_explore.specs.declared.question.Outcome.{Outcome}
-use Rattle.chip_explore.specs.declared.question.Outcome.TheVariants.{Found, Later, Within, Never}
+use Rattle.chip_explore.specs.declared.question.Outcome.TheVariants.{Found, Later, Within}
 use Rattle.chip_explore.specs.declared.setting.Setting.{Setting}
 use Rattle.chip_explore.specs.declared.target.Target.{Target}
 use Rattle.chip_explore.specs.inner.Cover.{AsksSame}
@@ -32,8 +32,7 @@ module _ (p other : Setting) (same : AsksSame p other) (b : Bounds) (addresses s
         first = λ any. absurd (cc);
         ends = (says.ends.0, short);
       }
-  later_says (Within covered) says = record { answers = covers.avoids; executed = covers.stays; first = λ any. tt; ends = short }
-  later_says Never says = record { answers = covers.avoids; executed = covers.stays; first = λ any. tt; ends = short }
+  later_says outcome says = record { answers = covers.avoids; executed = covers.stays; first = λ any. tt; ends = short }
 
 -- a machine that doesn't meet the target avoids it up to step 0
 none_made : (rate : ℕ) (held : ℕ → ℕ) (start : State) (t : ℕ) → t ≤ 0 → run step_of rate held start t ≡ start

@@ -77,48 +77,30 @@ module _ (c : Core) (d : ℕ) (low : d ≤ c.delay) where
   row_slow : (instr : Instr) → register_read (Some instr) ≡ None → Slow (effect instr c) (effect instr e)
   unfolding effect
   row_slow (row.ScrollDown n) u = super (λ k. Changes (next (with_lit (scrolled_down (scrolled_by n k) k.lit) k))) (d, low, refl)
-  row_slow row.ClearScreen u = (d, low, refl)
   row_slow row.Return u = either _ _ (λ k. Changes (return k)) (d, low, refl)
   row_slow row.ScrollRight u = super (λ k. Changes (next (with_lit (scrolled_right (scrolled_by 4 k) k.lit) k))) (d, low, refl)
   row_slow row.ScrollLeft u = super (λ k. Changes (next (with_lit (scrolled_left (scrolled_by 4 k) k.lit) k))) (d, low, refl)
   row_slow row.Exit u = super (λ k. Stops cause.Exit) refl
   row_slow row.LowSize u = super (λ k. Changes (next (resized false k))) (resize c.quirks.clears_at_size false)
   row_slow row.HighSize u = super (λ k. Changes (next (resized true k))) (resize c.quirks.clears_at_size true)
-  row_slow (row.Jump address) u = (d, low, refl)
   row_slow (row.Call address) u = either _ _ (λ k. Changes (call address k)) (d, low, refl)
-  row_slow (row.SkipIfByte x byte) u = (d, low, refl)
-  row_slow (row.SkipUnlessByte x byte) u = (d, low, refl)
-  row_slow (row.SkipIfEqual x y) u = (d, low, refl)
-  row_slow (row.LoadByte x byte) u = (d, low, refl)
-  row_slow (row.AddByte x byte) u = (d, low, refl)
-  row_slow (row.Copy x y) u = (d, low, refl)
   row_slow (row.Or x y) u = logic c.quirks.clears_flag x _
   row_slow (row.And x y) u = logic c.quirks.clears_flag x _
   row_slow (row.Xor x y) u = logic c.quirks.clears_flag x _
-  row_slow (row.Add x y) u = (d, low, refl)
-  row_slow (row.Subtract x y) u = (d, low, refl)
-  row_slow (row.ShiftRight x y) u = (d, low, refl)
-  row_slow (row.SubtractFrom x y) u = (d, low, refl)
-  row_slow (row.ShiftLeft x y) u = (d, low, refl)
-  row_slow (row.SkipUnlessEqual x y) u = (d, low, refl)
-  row_slow (row.LoadIndex address) u = (d, low, refl)
-  row_slow (row.JumpOffset address) u = (d, low, refl)
-  row_slow (row.Random x byte) u = (d, low, refl)
   row_slow (row.Draw x y n) u = draws (draws_nothing n c) x y n
   row_slow (row.SkipIfKey x) u = λ keys. (d, low, refl)
   row_slow (row.SkipUnlessKey x) u = λ keys. (d, low, refl)
   row_slow (row.ReadDelay x) u = absurd (cc)
   row_slow (row.WaitKey x) u = λ keys. waits (find (is_key_down keys) (range_with_len 0 16)) x
   row_slow (row.SetDelay x) u = (reg c x, omega arith, refl)
-  row_slow (row.SetSound x) u = (d, low, refl)
   row_slow (row.AddIndex x) u = add c.quirks.flags_overflow (reg c x)
-  row_slow (row.SmallDigit x) u = (d, low, refl)
   row_slow (row.BigDigit x) u = super (λ k. Changes (next (record k { index = 80 + 10 * (reg k x % 16) }))) (d, low, refl)
   row_slow (row.StoreDecimal x) u = (refl, (d, low, refl))
   row_slow (row.StoreRegisters x) u = (refl, (d, low, refl))
   row_slow (row.LoadRegisters x) u = (refl, λ bytes. (d, low, refl))
   row_slow (row.StoreFlags x) u = super (λ k. if nat_le (length k.flags) x then Stops cause.NoFlag else Changes (next (store_flags x k))) (either _ _ (λ k. Changes (next (store_flags x k))) (d, low, refl))
   row_slow (row.LoadFlags x) u = super (λ k. if nat_le (length k.flags) x then Stops cause.NoFlag else Changes (next (load_flags x k))) (either _ _ (λ k. Changes (next (load_flags x k))) (d, low, refl))
+  row_slow other u = (d, low, refl)
 
   at_slow : (past : Bool) (word : Option Instr) → register_read (if past then None else word) ≡ None
       → Slow (if past then Stops cause.PcOutOfRange else effect_of_word word c) (if past then Stops cause.PcOutOfRange else effect_of_word word e)

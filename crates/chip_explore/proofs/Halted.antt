@@ -10,7 +10,7 @@ use Rattle.chip_explore.specs.Prospects.{are_met}
 use Rattle.chip_explore.specs.declared.property.Comparison.{Comparison}
 use Rattle.chip_explore.specs.declared.property.Condition.{Condition}
 use Rattle.chip_explore.specs.declared.property.Item.{Item}
-use Rattle.chip_explore.specs.declared.property.Item.TheVariants.{Register, Index, Place, Delay, Depth, High, AsksKeys, Byte, Pixel}
+use Rattle.chip_explore.specs.declared.property.Item.TheVariants.{Register}
 use Rattle.chip_explore.specs.declared.property.Property.{Property}
 use Rattle.chip_explore.specs.declared.property.Sum.{Sum}
 use Rattle.chip_explore.specs.declared.property.Term.{Term}
@@ -20,14 +20,7 @@ halted s why = record s { core = record s.core { stopped = Some why } }
 
 value_halted : (s : State) (why : Stop) (item : Item) → value_in (halted s why) item ≡ value_in s item
 value_halted s why (Register x) = refl
-value_halted s why Index = refl
-value_halted s why Place = refl
-value_halted s why Delay = refl
-value_halted s why Depth = refl
-value_halted s why High = refl
-value_halted s why AsksKeys = refl
-value_halted s why (Byte at) = refl
-value_halted s why (Pixel x y) = refl
+value_halted s why item = refl
 
 -- a property by the values of its items
 abbrev sum_by_values : (Item → ℕ) → Sum → ℕ

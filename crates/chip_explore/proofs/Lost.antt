@@ -1,6 +1,6 @@
 -- States from which no way of playing leads to the goals.
-use Rattle.std.proofs.Common.{◌≡◌, ◌≢◌, ℕ, zero, suc, ◌+◌, ◌-◌, ◌<◌, ◌≤◌, ◌&&◌, Bool, true, false, List, [], ◌∷◌, Option, Some, None, option_map, position, is_some, refl, sym, ap, subst, ◌∙◌, ⊎_elim, if◌then◌else◌, arith}
-use Rattle.std.proofs.lemmas.Bool.{cases_lt}
+use Rattle.std.proofs.Common.{◌≡◌, ◌≢◌, ℕ, zero, suc, ◌+◌, ◌-◌, ◌<◌, ◌≤◌, Bool, true, false, List, [], ◌∷◌, Option, Some, None, option_map, position, is_some, refl, sym, ap, subst, ◌∙◌, ⊎_elim, if◌then◌else◌, arith}
+use Rattle.std.proofs.lemmas.Bool.{and_left, cases_lt}
 use Rattle.std.proofs.lemmas.Iterator.Adapters.{position_from-zero}
 use Rattle.std.specs.List.{position_from}
 use Rattle.chip_machine.specs.Block.{ticks}
@@ -24,27 +24,16 @@ use Rattle.chip_explore.specs.declared.target.Target.{Target}
 use Rattle.chip_explore.specs.inner.Cover.{IsSearched, IsUnder, IsWhole, meets_goals, view_of}
 use Rattle.chip_explore.proofs.Covered.{avoided, stays, ticking_run}
 use Rattle.chip_explore.proofs.Halted.{goals_stopped}
+use Rattle.chip_explore.proofs.OneOf.{mapped_none, none_by}
 use Rattle.chip_explore.proofs.Reached.{run_agree}
 
 -- ---- a machine that makes a step and meets none of some properties
 
-none_by : (first : Bool) (rest : Option ℕ) → (if first then Some 0 else rest) ≡ None → first ≡ false
-none_by true rest h = absurd (cc)
-none_by false rest h = refl
-
-mapped : (first : Option ℕ) → option_map met.Property first ≡ None → first ≡ None
-mapped None h = refl
-mapped (Some place) h = absurd (cc)
-
-and_false : (first rest : Bool) → first ≡ false → (first && rest) ≡ false
-and_false true rest h = absurd (cc)
-and_false false rest h = refl
-
 unmet_first : (goals : List Property) (s : State) → goals ≢ [] → position (is_met s) goals ≡ None → are_met goals s ≡ false
 unmet_first [] s some h = absurd (some refl)
 unmet_first (goal ∷ rest) s some h =
-    and_false (is_met s goal) (are_met rest s)
-    (none_by (is_met s goal) (position_from (is_met s) 1 rest) (sym (position_from-zero (is_met s) (goal ∷ rest)) ∙ h))
+    and_left (is_met s goal) (are_met rest s)
+    (none_by (is_met s) (is_met s goal) 0 (position_from (is_met s) 1 rest) (sym (position_from-zero (is_met s) (goal ∷ rest)) ∙ h)).0
 
 unmet_by : (target : Target) (s : State) (stopped : Option Stop) → is_some stopped ≡ false → target.address ≡ None → target.properties.now ≢ [] → met_by target s stopped ≡ None
     → are_met target.properties.now s ≡ false
@@ -52,7 +41,7 @@ unmet_by target s (Some why) going none some h = absurd (cc)
 unmet_by target s None going none some h =
     let first : option_map met.Property (position (is_met s) target.properties.now) ≡ None =
     sym (ap (λ (address : Option ℕ). if is_address address s.core.pc then Some met.Address else option_map met.Property (position (is_met s) target.properties.now)) none) ∙ h in
-    unmet_first target.properties.now s some (mapped (position (is_met s) target.properties.now) first)
+    unmet_first target.properties.now s some (mapped_none (position (is_met s) target.properties.now) first)
 
 unmet : (target : Target) (s : State) → is_some s.core.stopped ≡ false → target.address ≡ None → target.properties.now ≢ [] → met_in target s ≡ None → are_met target.properties.now s ≡ false
 unmet target s going none some h = unmet_by target s s.core.stopped going none some h

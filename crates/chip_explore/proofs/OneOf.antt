@@ -1,8 +1,9 @@
 -- What an answer to several properties says of one of them.
-use Rattle.std.proofs.Common.{◌≡◌, ℕ, zero, suc, ◌+◌, ◌<◌, Bool, true, false, List, [], ◌∷◌, Option, Some, None, IfSome, option_map, position, slice_get, get_or, ap, sym, subst, ◌∙◌, refl, arith, if◌then◌else◌}
+use Rattle.std.proofs.Common.{◌≡◌, ℕ, zero, suc, ◌+◌, ◌<◌, Bool, true, false, List, [], ◌∷◌, Option, Some, None, IfSome, option_map, position, slice_get, ap, sym, subst, ◌∙◌, refl, arith, if◌then◌else◌}
 use Rattle.std.proofs.lemmas.Bool.{eqb-true}
 use Rattle.std.proofs.lemmas.Iterator.Adapters.{position_from-zero}
 use Rattle.std.proofs.lemmas.List.Quantifiers.{position-Some}
+use Rattle.std.proofs.lemmas.Option.{get_or_from_slice_get}
 use Rattle.std.specs.Global.{Vec}
 use Rattle.std.specs.List.{position_from}
 use Rattle.chip_machine.specs.declared.stop.Stop.{Stop}
@@ -28,7 +29,7 @@ use Rattle.chip_explore.specs.declared.target.Target.{Target}
 -- ---- the test of the item at a place, by the first item that passes
 
 module _ {A : Type 0} (test : A → Bool) where
-  none_by : (here : Bool) (i : ℕ) (rest : Option ℕ) → (if here then Some i else rest) ≡ None → (here ≡ false) × (rest ≡ None)
+  pub none_by : (here : Bool) (i : ℕ) (rest : Option ℕ) → (if here then Some i else rest) ≡ None → (here ≡ false) × (rest ≡ None)
   none_by true i rest h = absurd (cc)
   none_by false i rest h = (refl, h)
 
@@ -40,11 +41,6 @@ module _ {A : Type 0} (test : A → Bool) where
   none_passes i (y ∷ ys) (suc k) x none there =
       none_passes (i + 1) ys k x (none_by (test y) i (position_from test (i + 1) ys) none).1 there
 
-got : {A : Type 0} (xs : List A) (k : ℕ) (x : A) → slice_get xs k ≡ Some x → get_or xs k x ≡ x
-got [] k x there = absurd (cc)
-got (y ∷ ys) zero x there = cc
-got (y ∷ ys) (suc k) x there = got ys k x there
-
 -- ---- what a machine meets
 
 -- of an address, and of the first property that is met
@@ -54,7 +50,7 @@ going at first = if at then Some met.Address else option_map met.Property first
 abbrev first_only : Bool → Option ℕ
 first_only holds = if holds then Some 0 else None
 
-mapped_none : (first : Option ℕ) → option_map met.Property first ≡ None → first ≡ None
+pub mapped_none : (first : Option ℕ) → option_map met.Property first ≡ None → first ≡ None
 mapped_none None h = refl
 mapped_none (Some j) h = absurd (cc)
 
@@ -97,7 +93,7 @@ module _ (k : ℕ) (one all : Target) (is : IsOneOf k one all) where
         one_going
         ∙ met_first (is_address all.address s.core.pc) (is_met s is.property) (position (is_met s) all.properties.now) k h
         (λ first.
-        ap (is_met s) (sym (got all.properties.now k is.property is.there))
+        ap (is_met s) (sym (get_or_from_slice_get all.properties.now k is.property is.property is.there))
         ∙ (position-Some (is_met s) all.properties.now k is.property first).1)
 
   module _ (rate allowed : ℕ) (start : State) where

@@ -1,6 +1,6 @@
 -- From each state of a run some way of playing leads to the goals, where ranks say so of each state that is
 -- kept.
-use Rattle.std.proofs.Common.{Bor, ◌≡◌, ℕ, zero, suc, ◌+◌, ◌-◌, ◌*◌, ◌%◌, ◌^◌, ◌<◌, ◌≤◌, ◌==◌, ◌⊎◌, Bool, true, false, List, length, slice_index, is_some, refl, sym, ap, subst, ◌∙◌, ⊎_elim, if◌then◌else◌, arith, add-one}
+use Rattle.std.proofs.Common.{◌≡◌, ℕ, zero, suc, ◌+◌, ◌-◌, ◌*◌, ◌^◌, ◌<◌, ◌≤◌, ◌==◌, ◌⊎◌, Bool, true, false, List, length, slice_index, is_some, refl, sym, ap, subst, ◌∙◌, ⊎_elim, if◌then◌else◌, arith, add-one}
 use Rattle.std.specs.Int.Bits.{and_zero_l}
 use Rattle.chip_machine.specs.Block.{ticks}
 use Rattle.chip_machine.specs.Choices.{IsWithin}
@@ -14,14 +14,13 @@ use Rattle.chip_explore.specs.Scripts.{IsScript}
 use Rattle.chip_explore.specs.Speeds.{run_ticking}
 use Rattle.chip_explore.specs.declared.limits.TheConstants.{END, FAR, MOST_QUIET_STEPS}
 use Rattle.chip_explore.specs.declared.members.Members.{Members}
-use Rattle.chip_explore.specs.declared.property.Property.{Property}
 use Rattle.chip_explore.specs.declared.setting.Setting.{Setting}
-use Rattle.chip_explore.specs.inner.Cover.{IsFine, IsSearched, IsSearchedAs, IsWhole, Joins, SafeFor, View, forgotten_at, phase, tick_at, view_of}
+use Rattle.chip_explore.specs.inner.Cover.{IsFine, IsSearched, IsWhole, Joins, SafeFor, View, forgotten_at, phase, tick_at, view_of}
 use Rattle.chip_explore.specs.inner.Delays.{AlikeTicks}
 use Rattle.chip_explore.specs.inner.Ranks.{ClimbsFor, Falls, IsAtGoals, IsOpen, IsRanked, rank_at}
 use Rattle.chip_explore.proofs.Alike.{through_member}
 use Rattle.chip_explore.proofs.Asked.{goals_known, goals_same}
-use Rattle.chip_explore.proofs.Covered.{Ended, Near, ended_by, near_run, phase_by, rest_more, ticking_run, untimed}
+use Rattle.chip_explore.proofs.Covered.{Ended, Near, drawn, ended_by, near_run, phase_by, same_tick, ticking_run, untimed}
 
 -- ---- scripts
 
@@ -29,19 +28,11 @@ use Rattle.chip_explore.proofs.Covered.{Ended, Near, ended_by, near_run, phase_b
 abbrev turned : (ℕ → ℕ) → (t keys : ℕ) → ℕ → ℕ
 turned held t keys u = if u == t then keys else held u
 
-other_by : (held : ℕ → ℕ) (keys u : ℕ) (test : Bool) → test ≡ false → (if test then keys else held u) ≡ held u
-other_by held keys u true h = absurd (cc)
-other_by held keys u false h = refl
-
-here_by : (held : ℕ → ℕ) (keys u : ℕ) (test : Bool) → test ≡ true → (if test then keys else held u) ≡ keys
-here_by held keys u true h = refl
-here_by held keys u false h = absurd (cc)
-
 turned_below : (held : ℕ → ℕ) (t keys u : ℕ) → u < t → turned held t keys u ≡ held u
-turned_below held t keys u below = other_by held keys u (u == t) (search (arith, below))
+turned_below held t keys u below = let other : (u == t) ≡ false = search (arith, below) in rw other refl
 
 turned_at : (held : ℕ → ℕ) (t keys : ℕ) → turned held t keys t ≡ keys
-turned_at held t keys = here_by held keys t (t == t) (search arith)
+turned_at held t keys = let same : (t == t) ≡ true = search arith in rw same refl
 
 within_by : (allowed keys other : ℕ) (test : Bool) → IsWithin allowed keys → IsWithin allowed other → IsWithin allowed (if test then keys else other)
 within_by allowed keys other true one two = one
@@ -82,13 +73,6 @@ module _ (alike : AlikeSteps) (grow : DrawsGrow) (p : Setting) (v : View) (ranks
   abbrev Can : (ℕ → ℕ) → ℕ → Type 0
   Can held t = StillCan p.rate p.allowed p.goals.now start held t
 
-  drawn : (held : ℕ → ℕ) (t : ℕ) → (ran held t).core.draws ≤ t
-  drawn held zero = omega arith
-  drawn held (suc t) =
-      let more = grow (ran held t) (held t) (ticks p.rate t) in
-      let few = drawn held t in
-      omega arith
-
   now : (held : ℕ → ℕ) (t : ℕ) → IsScript p.allowed held → are_met p.goals.now (ran held t) ≡ true → Can held t
   now held t script met =
       let same : t ≡ t + 0 = omega arith in
@@ -106,17 +90,13 @@ module _ (alike : AlikeSteps) (grow : DrawsGrow) (p : Setting) (v : View) (ranks
         met = subst (λ (n : ℕ). are_met p.goals.now (ran can.later n) ≡ true) same can.met;
       }
 
-  same_tick : (free : Bool) (u t : ℕ) → (if free then 0 else u % p.rate) ≡ (if free then 0 else t % p.rate) → (if free then false else ticks p.rate u) ≡ (if free then false else ticks p.rate t)
-  same_tick true u t phased = refl
-  same_tick false u t phased = ap (λ (rest : ℕ). rest == 0) (rest_more p.rate u t phased)
-
   module _ (f after : ℕ) (a : State) (u keys : ℕ) (unneeded : IsUnneeded f a) (free : IsOpen p a) (is_after : IsForgottenAfter f a (step_of a keys (tick_at p u)).core.pc after)
       (held : ℕ → ℕ) (t : ℕ) (phased : phase p u ≡ phase p t) (below : t < end) (near : AlikeTicks p f a (ran held t)) where
     made : AlikeTicks p after (step_of a keys (tick_at p u)) (step_of (ran held t) keys (ticks p.rate t))
     made =
-        let few = drawn held t in
+        let few = rw (← ticking_run p.rate held start t) at (drawn alike grow (ticks p.rate) held start fresh t) in
         untimed alike grow p f after a (ran held t) keys (ticks p.rate t) unneeded free.drawn (omega arith) p.free refl (a.core.delay == 0) refl free.untimed (tick_at p u)
-        (same_tick p.free u t phased) near is_after
+        (same_tick p.free p.rate u t (ticks p.rate t) (λ _. refl) phased) near is_after
 
     made_run : AlikeTicks p after (step_of a keys (tick_at p u)) (ran (turned held t keys) (t + 1))
     made_run = subst (λ (s : State). AlikeTicks p after (step_of a keys (tick_at p u)) s) (sym (turned_run p.rate start held t keys)) made
@@ -136,8 +116,8 @@ module _ (alike : AlikeSteps) (grow : DrawsGrow) (p : Setting) (v : View) (ranks
       (λ (at : IsAtGoals p f a). now held t script (sym (goals_same p f a (ran held t) near at.going (goals_known p f a at.known)) ∙ at.met))
       (λ (falls : Falls p v ranks r f a u).
       let less = falls.less in
-      reached falls.place falls.kept falls.less held script t (falls.phased ∙ phased)
-      (through_member p f (forgotten_at v falls.place) (v.member falls.place) a (ran held t) falls.within falls.alike near)
+      reached falls.place falls.at.kept falls.less held script t (falls.at.phased ∙ phased)
+      (through_member p f (forgotten_at v falls.place) (v.member falls.place) a (ran held t) falls.at.within falls.at.alike near)
       (omega arith))
       arrives
   climbed r reached (suc k) f a u climbs held script t phased near room =
@@ -169,9 +149,9 @@ module _ (alike : AlikeSteps) (grow : DrawsGrow) (p : Setting) (v : View) (ranks
         ⊎_elim
         (λ (halted : is_some a.core.stopped ≡ true). absurd (cc))
         (λ (joins : Joins p v f a u).
-        let small = (ranked joins.place joins.kept).small in
-        reached (2 ^ 32) joins.place joins.kept small held script t (joins.phased ∙ phased)
-        (through_member p f (forgotten_at v joins.place) (v.member joins.place) a (ran held t) joins.within joins.alike near)
+        let small = (ranked joins.place joins.at.kept).small in
+        reached (2 ^ 32) joins.place joins.at.kept small held script t (joins.at.phased ∙ phased)
+        (through_member p f (forgotten_at v joins.place) (v.member joins.place) a (ran held t) joins.at.within joins.at.alike near)
         (omega arith))
         ends
 
@@ -210,12 +190,3 @@ always alike grow p m ranks fresh searched whole ranked n far held script t with
     (subst (λ (s : State). AlikeTicks p near.forgotten near.state s) same near.same)
     (subst (λ (s : State). Ended alike grow p v near.state s) same near.ended)
     (omega arith) (omega arith)
-
--- likewise of a search with other ticks, and a start that is the same
-pub always_as : (p other : Setting) (m : Members) (start : State) (n : ℕ) → IsSearchedAs p other m start 0 → AlwaysCan other.rate other.allowed other.goals.now m.start n
-    → AlwaysCan p.rate p.allowed p.goals.now start n
-always_as p other m start n like always_there =
-    subst (λ (s : State). AlwaysCan p.rate p.allowed p.goals.now s n) like.searched.begins
-    (subst (λ (rate : ℕ). AlwaysCan rate p.allowed p.goals.now m.start n) like.same.rate
-    (subst (λ (allowed : ℕ). AlwaysCan other.rate allowed p.goals.now m.start n) like.same.allowed
-    (subst (λ (goals : List Property). AlwaysCan other.rate other.allowed goals m.start n) (ap (λ (goals : Bor (List Property)). goals.now) like.same.goals) always_there)))

@@ -57,11 +57,7 @@ impl Origin {
 
     /// The place of the state before that step, if there was one.
     pub(crate) fn parent(self) -> Option<usize> {
-        if self.parent == u32::MAX {
-            None
-        } else {
-            Some(self.parent as usize)
-        }
+        (self.parent != u32::MAX).then_some(self.parent as usize)
     }
 }
 

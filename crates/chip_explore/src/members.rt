@@ -138,7 +138,7 @@ impl Members {
     ) -> Result<bool, AllocError>
         requires holds { Holds setting.now self.now }
         ensures { IfOk result (λ answer. IsTrue answer
-            → IsAt setting.now self.now place forgotten machine.now step) }
+            → IsAt setting.now (view_of self.now) place forgotten machine.now step) }
     {
         if place >= self.steps.len() || !forgotten.is_within(self.forgotten[place]) {
             return Ok(false);

@@ -7,9 +7,9 @@ ghost use Rattle.chip_machine.specs.Points as spec;
 ghost use Rattle.chip_explore.specs.Property as property;
 ghost use Rattle.chip_explore.specs.Property.{compares, holds_in, is_at, is_met, is_related, stored, sum_in, value_in};
 
-use chip_lang::instr::{Instr, decode};
+use crate::ways::next_instr;
+use chip_lang::instr::Instr;
 use chip_lang::number::Reg;
-use chip_machine::limits::LAST_WORD;
 use chip_machine::{Forgotten, Machine};
 
 /// A value of a state that a property may name.
@@ -124,14 +124,8 @@ impl Item {
 fn asks_keys(machine: &Machine) -> bool
     ensures { result ≡ property.asks_keys (next_instr machine.now) }
 {
-    let at = machine.pc() as usize;
-    if at > LAST_WORD {
-        return false;
-    }
-    let memory = machine.memory();
-    let word = u16::from(memory[at]) * 256 + u16::from(memory[at + 1]);
     matches!(
-        decode(word),
+        next_instr(machine),
         Some(Instr::SkipIfKey(_) | Instr::SkipUnlessKey(_) | Instr::WaitKey(_))
     )
 }

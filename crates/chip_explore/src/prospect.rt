@@ -228,13 +228,8 @@ fn always_can(
 
 /// How a search met a stop that doesn't meet the goals, if it did.
 fn stop_found(search: &Search) -> Option<Loss> {
-    match search.finder.hit {
-        Some(origin) => Some(Loss {
-            origin,
-            step: search.members.limit,
-        }),
-        None => None,
-    }
+    let step = search.members.limit;
+    search.finder.hit.map(|origin| Loss { origin, step })
 }
 
 /// A way of playing up to a step.

@@ -129,13 +129,8 @@ impl Outcome {
         ensures { result ≡ later_of covered self }
     {
         match self {
-            Outcome::Found { events, step, met } => Outcome::Later {
-                events,
-                step,
-                met,
-                covered,
-            },
-            Outcome::Later {
+            Outcome::Found { events, step, met }
+            | Outcome::Later {
                 events,
                 step,
                 met,
@@ -179,14 +174,11 @@ impl Explored {
         ensures speed { result.is_at_any_speed ≡ false }
     {
         Explored {
-            outcome,
             seen: search.finder.seen,
             states: search.members.steps.len(),
-            executed: search.members.executed,
-            is_short,
             is_stopped: search.finder.is_stopped,
-            is_at_any_speed: false,
             is_timed: search.finder.is_timer_set,
+            ..Explored::at_once(outcome, search.members.executed, is_short)
         }
     }
 
@@ -228,12 +220,8 @@ impl Explored {
         Explored {
             seen: deep.seen,
             states: self.states.saturating_add(deep.states),
-            executed: self.executed,
-            is_short: deep.is_short,
             is_stopped: deep.is_stopped,
-            is_at_any_speed: false,
-            is_timed: false,
-            outcome: deep.outcome.after(covered),
+            ..Explored::at_once(deep.outcome.after(covered), self.executed, deep.is_short)
         }
     }
 

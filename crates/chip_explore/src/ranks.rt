@@ -95,7 +95,8 @@ impl Search {
         requires holds { Holds setting.now self.old.members }
         ensures same { self.new.members ≡ self.old.members }
         ensures place { IfOk result (λ answer. IfSome answer (λ place. IsAt setting.now
-            self.old.members place self.old.runner.forgotten self.old.runner.machine step)) }
+            (view_of self.old.members) place self.old.runner.forgotten self.old.runner.machine
+            step)) }
     {
         let parts = self.finder.parts_to_forget(setting, &self.runner);
         if !self.runner.forgotten.is_within(parts) {

@@ -38,10 +38,8 @@ fn push_press(events: &mut Vec<KeyEvent>, press: Origin) -> Result<(), AllocErro
     let step = press.step;
     for key in 0..KEYS {
         if press.keys >> key & 1 == 1 {
-            let holds_on = match events.last() {
-                Some(event) => event.step == step && event.key == key,
-                None => false,
-            };
+            let last = events.last();
+            let holds_on = last.is_some_and(|event| event.step == step && event.key == key);
             if holds_on {
                 let _up = events.pop();
             } else {

@@ -47,11 +47,8 @@ impl Search {
         let parts = self.finder.parts_to_forget(setting, &self.runner);
         if !forgotten.is_within(parts) {
             self.members.lower_limit(setting, step);
-            self.refute(
-                setting,
-                Trail { origin, to: step },
-                forgotten.without(parts),
-            );
+            let read = forgotten.without(parts);
+            self.refute(setting, Trail { origin, to: step }, read);
             return Ok(());
         }
         self.runner.erase(parts, &self.members.base);
@@ -145,14 +142,8 @@ impl Search {
             End::Read => {
                 self.members.lower_limit(setting, leg.step);
                 if !(setting.is_strict && self.finder.has_bound(setting, &self.runner)) {
-                    self.refute(
-                        setting,
-                        Trail {
-                            origin,
-                            to: leg.step,
-                        },
-                        self.runner.read,
-                    );
+                    let to = leg.step;
+                    self.refute(setting, Trail { origin, to }, self.runner.read);
                 }
             }
         }
@@ -282,7 +273,10 @@ impl Search {
             → Leads setting.now self.old.members self.new.members place step (2 ^ key)) }
     {
         for key in 0..16u32 {
-            if is_down(choices, key) && !self.follow(setting, place, step, alone(key))? {
+            if !is_down(choices, key) {
+                continue;
+            }
+            if !self.follow(setting, place, step, alone(key))? {
                 return Ok(false);
             }
         }

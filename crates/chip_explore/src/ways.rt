@@ -1,6 +1,7 @@
 //! In which ways the next step of a state goes.
 
 ghost use Rattle.std.specs.Prelude.{◌≡◌, ◌<◌, IfSome};
+ghost use Rattle.chip_machine.specs.Forgotten.{next_instr};
 ghost use Rattle.chip_explore.specs.inner.Delays.{delay_register};
 
 use chip_lang::instr::{Instr, decode};
@@ -26,18 +27,28 @@ pub(crate) enum Ways {
     Values(Reading),
 }
 
+/// The next instruction of a machine, if one stands at pc.
+#[inline]
+pub(crate) fn next_instr(machine: &Machine) -> Option<Instr>
+    ensures { result ≡ next_instr machine.now }
+{
+    let at = machine.pc() as usize;
+    if at > LAST_WORD {
+        return None;
+    }
+    let memory = machine.memory();
+    decode(u16::from(memory[at]) * 256 + u16::from(memory[at + 1]))
+}
+
 /// The register that the next step of a machine sets to the delay timer, if it does.
 pub(crate) fn delay_register(machine: &Machine) -> Option<u8>
     ensures value { result ≡ delay_register machine.now }
     ensures range { IfSome result (λ register. register < 16) }
 {
-    let at = machine.pc() as usize;
-    if machine.stopped().is_some() || at > LAST_WORD {
+    if machine.stopped().is_some() {
         return None;
     }
-    let memory = machine.memory();
-    let word = u16::from(memory[at]) * 256 + u16::from(memory[at + 1]);
-    let Some(instr) = decode(word) else {
+    let Some(instr) = next_instr(machine) else {
         return None;
     };
     match instr {

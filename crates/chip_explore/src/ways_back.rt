@@ -83,10 +83,7 @@ impl WaysBack {
 
     /// The rank of the state at a place.
     pub(crate) fn rank(&self, place: usize) -> u32 {
-        match self.ranks.get(place) {
-            Some(rank) => *rank,
-            None => 0,
-        }
+        self.ranks.get(place).copied().unwrap_or(0)
     }
 
     /// Gives a state a rank and keys, if it has none.
@@ -173,10 +170,7 @@ impl WaysBack {
             }
             let place = self.ranked[done] as usize;
             let rank = self.rank(place).saturating_add(1);
-            let mut number = match self.ways_to.get(place) {
-                Some(number) => *number,
-                None => 0,
-            };
+            let mut number = self.ways_to.get(place).copied().unwrap_or(0);
             for _way in 0..self.ways.len() {
                 if number == 0 || number as usize > self.ways.len() {
                     break;
@@ -234,7 +228,7 @@ impl WaysBack {
             if is_choice
                 && search.step_from(setting, place, keys)?
                 && let Some(lost) = self.lost_from(search, setting, step + 1)?
-                && is_before(lost, first)
+                && !first.is_some_and(|loss| loss.step <= lost)
             {
                 let origin = search.finder.origin(place, step, keys);
                 *first = Some(Loss { origin, step: lost });
@@ -273,13 +267,5 @@ impl WaysBack {
             Some(to) if self.rank(to) == 0 => Ok(Some(lost)),
             _ => Ok(None),
         }
-    }
-}
-
-/// Whether a step is before that of the first loss so far.
-fn is_before(step: u64, first: &Option<Loss>) -> bool {
-    match first {
-        Some(loss) => step < loss.step,
-        None => true,
     }
 }

@@ -3,21 +3,16 @@
 
 use crate::backdrop::BytePatch;
 use crate::limits::{MOST_STATES_FOR_BYTES, STATES_FOR_A_SEARCH, STEPS_TRIED};
-use chip_lang::instr::{Instr, decode};
+use crate::ways::next_instr;
+use chip_lang::instr::Instr;
 use chip_machine::forgotten::WINDOW_BYTES;
-use chip_machine::limits::{LAST_WORD, MEMORY_BYTES};
+use chip_machine::limits::MEMORY_BYTES;
 use chip_machine::{Forgotten, Machine, Touch};
 use std::alloc::{AllocError, Global};
 
 /// How many bytes at I the next step of a machine stores.
 fn bytes_stored(machine: &Machine) -> u16 {
-    let at = machine.pc() as usize;
-    if at > LAST_WORD {
-        return 0;
-    }
-    let memory = machine.memory();
-    let word = u16::from(memory[at]) * 256 + u16::from(memory[at + 1]);
-    let Some(instr) = decode(word) else {
+    let Some(instr) = next_instr(machine) else {
         return 0;
     };
     match instr {
@@ -199,9 +194,7 @@ impl Window {
     }
 
     fn is_stored(&self, at: u16) -> bool {
-        match self.seen.get(at as usize) {
-            Some(seen) => *seen == Seen::Stored,
-            None => false,
-        }
+        let seen = self.seen.get(at as usize);
+        seen.is_some_and(|seen| *seen == Seen::Stored)
     }
 }

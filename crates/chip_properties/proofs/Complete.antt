@@ -1,15 +1,14 @@
 -- What tokens are by the grammar is found: values, items and addends.
 use Rattle.std.proofs.Common.{◌≡◌, ◌⊎◌, inl, inr, ℕ, ◌+◌, ◌<◌, ◌==◌, Bool, true, false, not, if◌then◌else◌, List, [], ◌∷◌, ◌++◌, length, take, drop, Option, Some, None, refl, sym, subst, ◌∙◌, ap, append_assoc, append-nil, length-append, arith}
-use Rattle.std.specs.Prelude.{◌&&◌, ◌||◌, nat_lt, codes, is_some, option_and_then}
+use Rattle.std.specs.Prelude.{◌&&◌, ◌||◌, codes, is_some, option_and_then}
 use Rattle.std.specs.Str.{bytes_eq}
+use Rattle.std.proofs.lemmas.Bool.{false_from_ne_true, lt-ltb, ne_eqb, or_right}
 use Rattle.std.proofs.lemmas.Bool.Decides.{nat_tests}
 use Rattle.std.proofs.lemmas.Slice.Eq.{bytes_eq-Decides}
 use Rattle.std.proofs.Math.Seq.{take-append_seam, drop-append_seam}
 use Rattle.chip_lang.specs.declared.limits.TheConstants.{MEMORY_BYTES}
 use Rattle.chip_lang.specs.declared.lexeme.Lexeme.{Lexeme}
 use Rattle.chip_lang.specs.declared.lexeme.Lexeme.TheVariants.{Word, Number, Text, Sign, Bad}
-use Rattle.chip_lang.specs.declared.expr.Prefix.{Prefix}
-use Rattle.chip_lang.specs.declared.expr.Operator.{Operator}
 use Rattle.chip_lang.specs.Grammar.{prefix_of, operator_of, Parses, a_number, a_name, a_text, in_parentheses, with_prefix, with_operator, stronger}
 use Rattle.chip_lang.specs.Keyword.{directive_of, register_of, special_of}
 use Rattle.chip_lang.specs.Line.{is_the, is_sign_of}
@@ -21,7 +20,7 @@ use Rattle.chip_explore.specs.declared.property.Item.{Item}
 use Rattle.chip_explore.specs.declared.property.Item.TheVariants.{Index, Place as At, Delay, Depth, High, AsksKeys}
 use Rattle.chip_properties.specs.declared.limits.TheConstants.{SCREEN_WIDTH, SCREEN_HEIGHT}
 use Rattle.chip_properties.specs.declared.separator.Separator.{Separator}
-use Rattle.chip_properties.specs.declared.separator.Separator.TheVariants.{Place, And, Or, Relation as relation, Plus, Times, Comma}
+use Rattle.chip_properties.specs.declared.separator.Separator.TheVariants.{Place, And, Or, Times, Comma}
 use Rattle.chip_properties.specs.declared.stated.Kind.{Kind}
 use Rattle.chip_properties.specs.declared.stated.Kind.TheVariants.{Always, Never, Ever, Can}
 use Rattle.chip_properties.specs.Words.{is_property_word, item_of_word, kind_of_word, or_register, other_item}
@@ -73,19 +72,8 @@ closes depth c (inl e) = rw e (omega arith)
 closes depth c (inr e) = rw e (omega arith)
 
 -- a sign before an operand, or an operator
-prefix_apart : (c k : ℕ) (sign : Prefix) → prefix_of c ≡ Some sign → (prefix_of k ≡ None) → (k == c) ≡ false
-prefix_apart c k sign h n = by_test (k == c) refl
-  where
-    by_test : (b : Bool) → (k == c) ≡ b → b ≡ false
-    by_test true e = let same : k ≡ c = grind (arith, nat_tests) in let at = rw same at n in absurd (cc)
-    by_test false e = refl
-
-operator_apart : (c k : ℕ) (sign : Operator) → operator_of c ≡ Some sign → (operator_of k ≡ None) → (k == c) ≡ false
-operator_apart c k sign h n = by_test (k == c) refl
-  where
-    by_test : (b : Bool) → (k == c) ≡ b → b ≡ false
-    by_test true e = let same : k ≡ c = grind (arith, nat_tests) in let at = rw same at n in absurd (cc)
-    by_test false e = refl
+apart : {A : Type 0} (f : ℕ → Option A) (c k : ℕ) (x : A) → f c ≡ Some x → f k ≡ None → (k == c) ≡ false
+apart f c k x h n = ne_eqb k c (λ same. cc)
 
 level_kept : (depth c : ℕ) → (40 == c) ≡ false → (91 == c) ≡ false → (41 == c) ≡ false → (93 == c) ≡ false → level_after depth (Sign c) ≡ depth
 level_kept depth c e f g h = rw (e, f, g, h) refl
@@ -102,13 +90,13 @@ over_expression (in_parentheses {inside = inside} {all = all} h is) s depth blin
     rw is (over_around s depth 40 41 inside (blind (Sign 40) refl) refl (deep_no depth (separates s (Sign 41))) (closes depth 41 (inl refl))
     (over_expression h s (depth + 1) (blind_inside s depth)))
 over_expression (with_prefix c {sign = sign} {ts = ts} is h) s depth blind =
-    let apart = λ (k : ℕ) (n : prefix_of k ≡ None). prefix_apart c k sign is n in
-    over_more s depth (Sign c ∷ []) ts (over_sign s depth c blind (apart 44 refl) (apart 40 refl) (apart 91 refl) (apart 41 refl) (apart 93 refl))
+    let other = λ (k : ℕ) (n : prefix_of k ≡ None). apart prefix_of c k sign is n in
+    over_more s depth (Sign c ∷ []) ts (over_sign s depth c blind (other 44 refl) (other 40 refl) (other 91 refl) (other 41 refl) (other 93 refl))
     (over_expression h s depth blind)
 over_expression (with_operator c {sign = sign} {left = left} {right = right} is level a b all) s depth blind =
-    let apart = λ (k : ℕ) (n : operator_of k ≡ None). operator_apart c k sign is n in
+    let other = λ (k : ℕ) (n : operator_of k ≡ None). apart operator_of c k sign is n in
     rw all (over_more s depth left (Sign c ∷ right) (over_expression a s depth blind)
-    (over_more s depth (Sign c ∷ []) right (over_sign s depth c blind (apart 44 refl) (apart 40 refl) (apart 91 refl) (apart 41 refl) (apart 93 refl))
+    (over_more s depth (Sign c ∷ []) right (over_sign s depth c blind (other 44 refl) (other 40 refl) (other 91 refl) (other 41 refl) (other 93 refl))
     (over_expression b s depth blind)))
 over_expression (stronger h) s depth blind = over_expression h s depth blind
 
@@ -155,11 +143,7 @@ one_alone {t = t} h = alone h.expression t refl
 
 -- a word that differs from another in a test is another word
 unlike : (test : List ℕ → Bool) (v w : List ℕ) → test v ≡ true → test w ≡ false → bytes_eq v w ≡ false
-unlike test v w pass fail = by_test (bytes_eq v w) refl
-  where
-    by_test : (b : Bool) → bytes_eq v w ≡ b → b ≡ false
-    by_test true e = let same = (bytes_eq-Decides v w).0 e in let at = rw same at pass in absurd (cc)
-    by_test false e = refl
+unlike test v w pass fail = false_from_ne_true (bytes_eq v w) (λ e. let same = (bytes_eq-Decides v w).0 e in cc)
 
 -- what a table finds for a word, which its words pass
 listed : {A : Type 0} (test : List ℕ → Bool) (w v : List ℕ) (a x : A) (others : Option A) → test v ≡ true → (others ≡ Some x → test w ≡ true)
@@ -201,16 +185,12 @@ free_no_kind w h = no_kind (kind_of_word w) (λ kind k. let other = kind_listed 
 abbrev pub is_known : List ℕ → Bool
 is_known w = is_property_word w || is_reserved w
 
-or_last : (a b : Bool) → b ≡ true → (a || b) ≡ true
-or_last true b h = refl
-or_last false b h = h
-
 item_known : (w : List ℕ) (i : Item) → item_of_word w ≡ Some i → is_known w ≡ true
 unfolding register_of special_of directive_of is_reserved
 item_known w i h = by_register (register_of w) refl h
   where
     by_register : (o : Option ℕ) → register_of w ≡ o → or_register o (other_item w) ≡ Some i → is_known w ≡ true
-    by_register (Some x) e k = or_last (is_property_word w) _ (or_last _ (is_some (register_of w)) (rw e refl))
+    by_register (Some x) e k = or_right (is_property_word w) _ (or_right _ (is_some (register_of w)) (rw e refl))
     by_register None e k =
         listed is_known w (codes "I") Index i _ refl (listed is_known w (codes "PC") At i _ refl (listed is_known w (codes "DT") Delay i _ refl
         (listed is_known w (codes "DEPTH") Depth i _ refl (listed is_known w (codes "HIGH") High i _ refl (listed is_known w (codes "KEYS") AsksKeys i None refl
@@ -229,10 +209,7 @@ unfolding is_reserved
 free_between w p r Place = rw (unlike is_property_word (codes "HERE") w refl p, unlike is_property_word (codes "AT") w refl p) refl
 free_between w p r And = unlike is_reserved (codes "AND") w refl r
 free_between w p r Or = unlike is_reserved (codes "OR") w refl r
-free_between w p r relation = refl
-free_between w p r Plus = refl
-free_between w p r Times = refl
-free_between w p r Comma = refl
+free_between w p r s = refl
 
 item_between : (w : List ℕ) (i : Item) → item_of_word w ≡ Some i → (s : Separator) → separates s (Word w) ≡ false
 unfolding register_of
@@ -241,23 +218,14 @@ item_between w i h Place =
     rw (apart (codes "HERE") refl, apart (codes "AT") refl) refl
 item_between w i h And = unlike is_no_item (codes "AND") w refl (item_there w i h)
 item_between w i h Or = unlike is_no_item (codes "OR") w refl (item_there w i h)
-item_between w i h relation = refl
-item_between w i h Plus = refl
-item_between w i h Times = refl
-item_between w i h Comma = refl
+item_between w i h s = refl
 
 sign_between : (s : Separator) (c : ℕ) → c ≡ 40 ⊎ c ≡ 91 → separates s (Sign c) ≡ false
 sign_between Place c h = refl
 sign_between And c h = refl
 sign_between Or c h = refl
-sign_between relation c (inl e) = rw e refl
-sign_between relation c (inr e) = rw e refl
-sign_between Plus c (inl e) = rw e refl
-sign_between Plus c (inr e) = rw e refl
-sign_between Times c (inl e) = rw e refl
-sign_between Times c (inr e) = rw e refl
-sign_between Comma c (inl e) = rw e refl
-sign_between Comma c (inr e) = rw e refl
+sign_between s c (inl e) = rw e refl
+sign_between s c (inr e) = rw e refl
 
 -- ---- what no separator is in
 
@@ -267,22 +235,12 @@ over_value (one_token {t = Number z} free h) s = over_token s 0 (Number z) (othe
   where
     other : (s : Separator) → separates s (Number z) ≡ false
     other Place = refl
-    other And = refl
-    other Or = refl
-    other relation = refl
-    other Plus = refl
-    other Times = refl
-    other Comma = refl
+    other s = refl
 over_value (one_token {t = Text bytes} free h) s = over_token s 0 (Text bytes) (other s) refl
   where
     other : (s : Separator) → separates s (Text bytes) ≡ false
     other Place = refl
-    other And = refl
-    other Or = refl
-    other relation = refl
-    other Plus = refl
-    other Times = refl
-    other Comma = refl
+    other s = refl
 over_value (one_token {t = Sign c} free h) s = absurd (one_alone h)
 over_value (one_token {t = Bad f} free h) s = absurd (one_alone h)
 over_value (a_value_in_parentheses {inside = inside} is h) s =
@@ -300,12 +258,7 @@ over_item (a_pixel {column = column} {row = row} is p wide q high) s =
   where
     pixel : (s : Separator) → separates s (Word (codes "PIXEL")) ≡ false
     pixel Place = refl
-    pixel And = refl
-    pixel Or = refl
-    pixel relation = refl
-    pixel Plus = refl
-    pixel Times = refl
-    pixel Comma = refl
+    pixel s = refl
 
 -- ---- around the first separator
 
@@ -336,8 +289,8 @@ after_none s ts h = subst (λ whole. after_first s whole ≡ None) (append-nil t
 pub number_found : {symbols : Symbols} {ts : List Lexeme} {n : ℕ} → IsNumber symbols ts n → number_in symbols ts ≡ Some n
 number_found {symbols = symbols} {ts = ts} h = rw (every_expression ts h.tree h.expression, h.valued) refl
 
-below_found : (limit n : ℕ) → n < limit → if_below limit n ≡ Some n
-below_found limit n h = let test : nat_lt n limit ≡ true = grind (arith, nat_tests) in rw test refl
+pub below_found : (limit n : ℕ) → n < limit → if_below limit n ≡ Some n
+below_found limit n h = rw (lt-ltb n limit h) refl
 
 pub number_below_found : {symbols : Symbols} {ts : List Lexeme} {n : ℕ} (limit : ℕ) → IsNumber symbols ts n → n < limit
     → number_below_in limit symbols ts ≡ Some n
@@ -350,10 +303,7 @@ enclosed_found begin end inside b e = rw (b, ended_by end inside (Sign end), e) 
 two_value : (symbols : Symbols) (t : Lexeme) (front : List Lexeme) (last : Lexeme)
     → value_in symbols (t ∷ (front ++ last ∷ [])) ≡ option_and_then (number_in symbols) (enclosed 40 41 (t ∷ (front ++ last ∷ [])))
 two_value symbols (Word w) [] last = refl
-two_value symbols (Number z) [] last = refl
-two_value symbols (Text bytes) [] last = refl
-two_value symbols (Sign c) [] last = refl
-two_value symbols (Bad f) [] last = refl
+two_value symbols t [] last = refl
 two_value symbols (Word w) (u ∷ us) last = refl
 two_value symbols (Number z) (u ∷ us) last = refl
 two_value symbols (Text bytes) (u ∷ us) last = refl
@@ -362,10 +312,7 @@ two_value symbols (Bad f) (u ∷ us) last = refl
 
 pub value_found : {symbols : Symbols} {ts : List Lexeme} {n : ℕ} → IsValue symbols ts n → value_in symbols ts ≡ Some n
 value_found (one_token {t = Word w} free h) = rw free (number_found h)
-value_found (one_token {t = Number z} free h) = number_found h
-value_found (one_token {t = Text bytes} free h) = number_found h
-value_found (one_token {t = Sign c} free h) = number_found h
-value_found (one_token {t = Bad f} free h) = number_found h
+value_found (one_token free h) = number_found h
 value_found {symbols = symbols} (a_value_in_parentheses {inside = inside} is h) =
     rw (is, two_value symbols (Sign 40) inside (Sign 41), enclosed_found 40 41 inside refl refl) (number_found h)
 
@@ -375,15 +322,8 @@ two_item : (symbols : Symbols) (t : Lexeme) (front : List Lexeme) (last : Lexeme
     → item_in symbols (t ∷ (front ++ last ∷ []))
     ≡ (if is_the (codes "PIXEL") t then pixel_in symbols (front ++ last ∷ []) else byte_in symbols (t ∷ (front ++ last ∷ [])))
 two_item symbols (Word w) [] last = refl
-two_item symbols (Number z) [] last = refl
-two_item symbols (Text bytes) [] last = refl
-two_item symbols (Sign c) [] last = refl
-two_item symbols (Bad f) [] last = refl
-two_item symbols (Word w) (u ∷ us) last = refl
-two_item symbols (Number z) (u ∷ us) last = refl
-two_item symbols (Text bytes) (u ∷ us) last = refl
-two_item symbols (Sign c) (u ∷ us) last = refl
-two_item symbols (Bad f) (u ∷ us) last = refl
+two_item symbols t [] last = refl
+two_item symbols t (u ∷ us) last = refl
 
 pub item_found : {symbols : Symbols} {ts : List Lexeme} {i : Item} → IsItem symbols ts i → item_in symbols ts ≡ Some i
 item_found (named h) = h
@@ -406,22 +346,12 @@ item_found {symbols = symbols} (a_pixel {column = column} {row = row} is p wide 
 
 bracketed : (t : Lexeme) (front : List Lexeme) (last : Lexeme) → is_item (t ∷ (front ++ last ∷ [])) ≡ (is_the (codes "PIXEL") t || is_sign_of 91 t)
 bracketed (Word w) [] last = refl
-bracketed (Number z) [] last = refl
-bracketed (Text bytes) [] last = refl
-bracketed (Sign c) [] last = refl
-bracketed (Bad f) [] last = refl
-bracketed (Word w) (u ∷ us) last = refl
-bracketed (Number z) (u ∷ us) last = refl
-bracketed (Text bytes) (u ∷ us) last = refl
-bracketed (Sign c) (u ∷ us) last = refl
-bracketed (Bad f) (u ∷ us) last = refl
+bracketed t [] last = refl
+bracketed t (u ∷ us) last = refl
 
 value_no_item : {symbols : Symbols} {ts : List Lexeme} {n : ℕ} → IsValue symbols ts n → is_item ts ≡ false
 value_no_item (one_token {t = Word w} free h) = free_no_item w free (one_alone h)
-value_no_item (one_token {t = Number z} free h) = refl
-value_no_item (one_token {t = Text bytes} free h) = refl
-value_no_item (one_token {t = Sign c} free h) = refl
-value_no_item (one_token {t = Bad f} free h) = refl
+value_no_item (one_token free h) = refl
 value_no_item (a_value_in_parentheses {inside = inside} is h) = rw (is, bracketed (Sign 40) inside (Sign 41)) refl
 
 item_is_item : {symbols : Symbols} {ts : List Lexeme} {i : Item} → IsItem symbols ts i → is_item ts ≡ true

@@ -1,31 +1,27 @@
 -- What tokens state by the grammar is found.
-use Rattle.std.proofs.Common.{◌≡◌, ℕ, ◌<◌, true, false, not, List, [], ◌∷◌, ◌++◌, Option, Some, None, Ok, Err, IfOk, IfErr, refl, sym, ◌∙◌, ap, append_assoc, arith}
-use Rattle.std.specs.Prelude.{codes, nat_lt}
-use Rattle.std.proofs.lemmas.Bool.Decides.{nat_tests}
+use Rattle.std.proofs.Common.{◌≡◌, ℕ, ◌<◌, false, List, [], ◌∷◌, ◌++◌, Option, Some, None, Ok, Err, IfOk, IfErr, refl, sym, ◌∙◌, ap, append_assoc, arith}
+use Rattle.std.proofs.lemmas.Option.{none-some}
+use Rattle.std.specs.Prelude.{codes}
 use Rattle.chip_lang.specs.declared.limits.TheConstants.{MEMORY_BYTES}
 use Rattle.chip_lang.specs.declared.lexeme.Lexeme.{Lexeme}
-use Rattle.chip_lang.specs.declared.lexeme.Lexeme.TheVariants.{Word, Number, Text, Sign, Bad}
+use Rattle.chip_lang.specs.declared.lexeme.Lexeme.TheVariants.{Word, Sign}
 use Rattle.chip_lang.specs.Value.{Symbols}
 use Rattle.chip_explore.specs.declared.property.Item.{Item}
 use Rattle.chip_properties.specs.declared.separator.Separator.TheVariants.{Place}
 use Rattle.chip_properties.specs.declared.stated.Kind.{Kind}
-use Rattle.chip_properties.specs.declared.stated.Kind.TheVariants.{Always, Never, Ever, Can}
+use Rattle.chip_properties.specs.declared.stated.Kind.TheVariants.{Always}
 use Rattle.chip_properties.specs.SeenProperty.{SeenSum, SeenComparison, SeenCondition, SeenProperty}
 use Rattle.chip_properties.specs.computed.Separated.{count_before}
-use Rattle.chip_properties.specs.computed.Reading.{if_below, value_in, condition_in, place_in, is_always, given_in, property_in, kind_in_front, of_kind, stated_in}
-use Rattle.chip_properties.specs.Language.{IsValue, one_token, in_parentheses, IsItem, named, a_byte, a_pixel, Addend, IsAddend, a_value, an_item, a_product, joined, AreEach, IsSum, IsComparison, IsCondition, IsPlace, nowhere, at_here, at_address, IsGiven, a_condition, no_condition, is_wanted, IsProperty, IsStated, with_kind, without, StateNothing}
-use Rattle.chip_properties.proofs.Sound.{nothing_is}
-use Rattle.chip_properties.proofs.SoundProperties.{Answer, found}
-use Rattle.chip_properties.proofs.Complete.{Over, before_is, from_is, value_found, free_no_kind, item_no_kind}
+use Rattle.chip_properties.specs.computed.Reading.{value_in, condition_in, place_in, is_always, given_in, property_in, kind_in_front, of_kind, stated_in}
+use Rattle.chip_properties.specs.Language.{IsValue, one_token, in_parentheses, IsItem, named, a_byte, a_pixel, Addend, IsAddend, a_value, an_item, a_product, joined, AreEach, IsSum, IsComparison, IsCondition, IsPlace, nowhere, at_here, at_address, IsGiven, a_condition, no_condition, IsProperty, IsStated, with_kind, without, StateNothing}
+use Rattle.chip_properties.proofs.SoundProperties.{Answer, found, wanted_is}
+use Rattle.chip_properties.proofs.Complete.{Over, below_found, before_is, from_is, value_found, free_no_kind, item_no_kind}
 use Rattle.chip_properties.proofs.CompleteSums.{condition_found, over_condition}
 
 -- ---- places
 
-below_found : (limit n : ℕ) → n < limit → if_below limit n ≡ Some n
-below_found limit n h = let test : nat_lt n limit ≡ true = grind (arith, nat_tests) in rw test refl
-
 no_value : (symbols : Symbols) (ts : List Lexeme) (n : ℕ) → value_in symbols ts ≡ Some n → ts ≡ [] → ⊥
-no_value symbols ts n h e = let none = rw e at h in nothing_is n none
+no_value symbols ts n h e = let none = rw e at h in none-some n none
 
 address_found : (symbols : Symbols) (here : Option ℕ) (ts : List Lexeme) (a : ℕ) → value_in symbols ts ≡ Some a → a < MEMORY_BYTES
     → place_in symbols here (Word (codes "AT") ∷ ts) ≡ Some (Some a)
@@ -46,19 +42,11 @@ begins_place (at_address h low) = refl
 
 no_always : (kind : Kind) → (kind ≡ Always → ⊥) → is_always kind ≡ false
 no_always Always h = absurd (h refl)
-no_always Never h = refl
-no_always Ever h = refl
-no_always Can h = refl
-
-wanted_found : (kind : Kind) → is_wanted kind ≡ not (is_always kind)
-wanted_found Always = refl
-wanted_found Never = refl
-wanted_found Ever = refl
-wanted_found Can = refl
+no_always kind h = refl
 
 condition_given : (symbols : Symbols) (kind : Kind) (front back : List Lexeme) (c : SeenCondition) → condition_in symbols front ≡ Some c
     → given_in symbols kind front back ≡ Some c
-condition_given symbols kind [] back c h = absurd (nothing_is c h)
+condition_given symbols kind [] back c h = absurd (none-some c h)
 condition_given symbols kind (t ∷ ts) back c h = h
 
 given_found : {symbols : Symbols} {kind : Kind} {front back : List Lexeme} {c : SeenCondition} → IsGiven symbols kind front back c
@@ -79,7 +67,7 @@ pub property_found : {symbols : Symbols} {here : Option ℕ} {kind : Kind} {ts :
 property_found {kind = kind} {p = p} h =
     let shallow = rw h.tokens at h.shallow in
     let over = over_given h.given in
-    let wanted = h.wanted ∙ wanted_found kind in
+    let wanted = h.wanted ∙ sym (wanted_is kind) in
     rw (
       h.tokens,
       shallow,
@@ -98,10 +86,7 @@ Begins ts = (rest : List Lexeme) → kind_in_front (ts ++ rest) ≡ None
 
 value_begins : {symbols : Symbols} {ts : List Lexeme} {n : ℕ} → IsValue symbols ts n → Begins ts
 value_begins (one_token {t = Word w} free h) rest = free_no_kind w free
-value_begins (one_token {t = Number z} free h) rest = refl
-value_begins (one_token {t = Text bytes} free h) rest = refl
-value_begins (one_token {t = Sign c} free h) rest = refl
-value_begins (one_token {t = Bad f} free h) rest = refl
+value_begins (one_token free h) rest = refl
 value_begins (in_parentheses is h) rest = rw is refl
 
 item_begins : {symbols : Symbols} {ts : List Lexeme} {i : Item} → IsItem symbols ts i → Begins ts
@@ -146,13 +131,13 @@ stated_found (without h) =
     rw (ap kind_in_front h.tokens ∙ none, property_found h) refl
 
 pub nothing_stated : (symbols : Symbols) (here : Option ℕ) (ts : List Lexeme) → stated_in symbols here None ts ≡ None → StateNothing symbols here ts
-nothing_stated symbols here ts none kind p h = nothing_is (found kind p) (sym none ∙ stated_found h)
+nothing_stated symbols here ts none kind p h = none-some (found kind p) (sym none ∙ stated_found h)
 
 pub no_property_stated : (symbols : Symbols) (here : Option ℕ) (kind : Kind) (ts : List Lexeme) → stated_in symbols here (Some kind) ts ≡ None
     → (p : SeenProperty) → IsProperty symbols here kind ts p → ⊥
 no_property_stated symbols here kind ts none p h =
     let is : of_kind symbols here kind ts ≡ Some (found kind p) = rw (property_found h) refl in
-    nothing_is (found kind p) (sym none ∙ is)
+    none-some (found kind p) (sym none ∙ is)
 
 -- ---- a text of its own
 

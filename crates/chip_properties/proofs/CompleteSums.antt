@@ -1,6 +1,7 @@
 -- What tokens are by the grammar is found: sums, comparisons and conditions.
 use Rattle.std.proofs.Common.{◌≡◌, ◌⊎◌, inl, inr, ℕ, suc, ◌+◌, ◌^◌, ◌<◌, ◌≤◌, ◌==◌, Bool, true, false, List, [], ◌∷◌, ◌++◌, length, Option, Some, refl, sym, subst, ◌∙◌, ap, append_assoc, append-nil, length-append, arith}
-use Rattle.std.specs.Prelude.{◌||◌, codes, fold, nat_lt}
+use Rattle.std.specs.Prelude.{◌||◌, codes, fold}
+use Rattle.std.proofs.lemmas.Bool.{eq-eqb, false_from_ne_true, lt-ltb, ne_eqb, or_right}
 use Rattle.std.proofs.lemmas.Bool.Decides.{nat_tests}
 use Rattle.chip_lang.specs.declared.lexeme.Lexeme.{Lexeme}
 use Rattle.chip_lang.specs.declared.lexeme.Lexeme.TheVariants.{Word, Sign}
@@ -53,7 +54,7 @@ total_grown s [] = omega arith
 total_grown s (a ∷ addends) = omega (arith, grown s a, total_grown (with s a) addends)
 
 with_found : (s : SeenSum) (a : Addend) → (with s a).constant < 2 ^ 32 → with_addend s a ≡ Some (with s a)
-with_found s (a_number n) low = let test : nat_lt (s.constant + n) 4294967296 ≡ true = grind (arith, nat_tests) in rw test refl
+with_found s (a_number n) low = rw (lt-ltb (s.constant + n) 4294967296 low) refl
 with_found s (times n i) low = refl
 
 not_full : (count long most : ℕ) → count + suc long ≤ most → (count == most) ≡ false
@@ -88,22 +89,15 @@ front_of r back = Some (r, back)
 -- no sign of a relation is at the front of what none is in
 unsigned : (c : ℕ) (t : Lexeme) (ts : List Lexeme) → ((u : Lexeme) → is_sign_of c u ≡ true → separates relation u ≡ true) → Over relation 0 (t ∷ ts)
     → is_sign_of c t ≡ false
-unsigned c t ts sign over = by_test (is_sign_of c t) refl
-  where
-    by_test : (b : Bool) → is_sign_of c t ≡ b → b ≡ false
-    by_test true e =
-        let none = at_sign relation t (ts ++ []) (sign t e) in
-        let some = over [] in
-        absurd (omega (arith, none, some))
-    by_test false e = refl
+unsigned c t ts sign over =
+    false_from_ne_true (is_sign_of c t) (λ e.
+    let none = at_sign relation t (ts ++ []) (sign t e) in
+    let some = over [] in
+    omega (arith, none, some))
 
 is_relation : (u : Lexeme) (c : ℕ) → c ≡ 61 ⊎ c ≡ 62 → is_sign_of c u ≡ true → separates relation u ≡ true
 is_relation u c (inl e) h = let at = rw e at h in rw at refl
-is_relation u c (inr e) h = let at = rw e at h in last (is_sign_of 61 u || is_sign_of 60 u) (is_sign_of 62 u) at
-  where
-    last : (a b : Bool) → b ≡ true → (a || b) ≡ true
-    last true b h = refl
-    last false b h = h
+is_relation u c (inr e) h = let at = rw e at h in or_right (is_sign_of 61 u || is_sign_of 60 u) (is_sign_of 62 u) at
 
 less_found : (back : List Lexeme) → Over relation 0 back → relation_in (Sign 60 ∷ back) ≡ front_of Less back
 less_found [] over = refl
@@ -115,20 +109,13 @@ greater_found [] over = refl
 greater_found (t ∷ ts) over = rw (unsigned 61 t ts (λ u h. is_relation u 61 (inl refl) h) over) refl
 
 relation_found : (r : Relation) (back : List Lexeme) → Over relation 0 back → relation_in (signs_of r ++ back) ≡ front_of r back
-relation_found Equal back over = refl
-relation_found Unequal back over = refl
 relation_found Less back over = less_found back over
-relation_found LessOrEqual back over = refl
 relation_found Greater back over = greater_found back over
-relation_found GreaterOrEqual back over = refl
+relation_found r back over = refl
 
 relation_there : (r : Relation) (back : List Lexeme) → count_before relation 0 (signs_of r ++ back) ≡ 0
 relation_there Equal back = refl
-relation_there Unequal back = refl
-relation_there Less back = refl
-relation_there LessOrEqual back = refl
-relation_there Greater back = refl
-relation_there GreaterOrEqual back = refl
+relation_there r back = refl
 
 pub comparison_found : {symbols : Symbols} {ts : List Lexeme} {c : SeenComparison} → IsComparison symbols ts c → comparison_in symbols ts ≡ Some c
 comparison_found {c = c} h =
@@ -182,12 +169,6 @@ joint_between false = refl
 wide_or : IsWide Or
 wide_or c = refl
 
-same_count : (n m : ℕ) → n ≡ m → (n == m) ≡ true
-same_count n m h = grind (arith, nat_tests)
-
-other_count : (n m : ℕ) → n < m → (n == m) ≡ false
-other_count n m h = grind (arith, nat_tests)
-
 -- `or` is among the tokens where not all have to hold
 or_found : {symbols : Symbols} (ts : List Lexeme) (is_all : Bool) (cs : List SeenComparison) → IsCondition symbols ts (record { is_all = is_all; comparisons = cs })
     → has_no_or ts ≡ is_all
@@ -195,7 +176,7 @@ or_found {symbols = symbols} ts true cs h =
     let over : Over Or 0 ts =
     rw h.tokens (over_joined (IsComparison symbols) Or (Word (codes "AND")) (λ p c is. over_comparison is Or wide_or)
     (over_token Or 0 (Word (codes "AND")) refl refl) h.first h.more cs h.each) in
-    same_count (count_before Or 0 ts) (length ts) (subst (λ whole. count_before Or 0 whole ≡ length ts) (append-nil ts) (over [] ∙ omega arith))
+    eq-eqb (count_before Or 0 ts) (length ts) (subst (λ whole. count_before Or 0 whole ≡ length ts) (append-nil ts) (over [] ∙ omega arith))
 or_found {symbols = symbols} ts false cs h = by_more h.more h.tokens h.each h.alone
   where
     by_more : (more : List (List Lexeme)) → ts ≡ joined (Word (codes "OR")) h.first more → AreEach (IsComparison symbols) (h.first ∷ more) cs
@@ -208,8 +189,8 @@ or_found {symbols = symbols} ts false cs h = by_more h.more h.tokens h.each h.al
         by_each (c ∷ cs) each =
             let back = joined (Word (codes "OR")) next more in
             let there = ends_there Or h.first (Word (codes "OR") ∷ back) (over_comparison each.0 Or wide_or) refl in
-            rw tokens (other_count (count_before Or 0 (h.first ++ Word (codes "OR") ∷ back)) (length (h.first ++ Word (codes "OR") ∷ back))
-            (omega (arith, there, length-append h.first (Word (codes "OR") ∷ back))))
+            rw tokens (ne_eqb (count_before Or 0 (h.first ++ Word (codes "OR") ∷ back)) (length (h.first ++ Word (codes "OR") ∷ back))
+            (λ same. omega (arith, same, there, length-append h.first (Word (codes "OR") ∷ back))))
 
 comparisons_found : {symbols : Symbols} (ts : List Lexeme) (is_all : Bool) (cs : List SeenComparison)
     → IsCondition symbols ts (record { is_all = is_all; comparisons = cs }) → comparisons_in symbols (joint is_all) ts ≡ Some cs

@@ -1,7 +1,8 @@
 -- What tokens are found to state is what they state by the grammar.
 use Rattle.std.proofs.Common.{◌≡◌, ℕ, zero, suc, ◌<◌, ◌==◌, Bool, true, false, if◌then◌else◌, List, [], ◌∷◌, ◌++◌, take, drop, Option, Some, None, Result, Ok, Err, refl, sym, subst, ◌∙◌, ap, add-one, arith}
+use Rattle.std.proofs.lemmas.Option.{none-some, same_Some}
 use Rattle.std.specs.Prelude.{◌&&◌, ℤ, pos, negsuc, nat_lt, codes, option_map, option_and_then}
-use Rattle.std.proofs.lemmas.Bool.Decides.{nat_tests}
+use Rattle.std.proofs.lemmas.Bool.{and_parts, eqb-true, ltb-true}
 use Rattle.std.proofs.lemmas.Slice.Eq.{bytes_eq-Decides}
 use Rattle.chip_lang.specs.declared.fault.Fault.{Fault}
 use Rattle.chip_lang.specs.declared.limits.TheConstants.{MEMORY_BYTES}
@@ -24,9 +25,6 @@ use Rattle.chip_properties.specs.Language.{IsNumber, IsValue, one_token, in_pare
 
 -- ---- outcomes
 
-pub nothing_is : {A : Type 0} (x : A) → None ≡ Some x → ⊥
-nothing_is x h = cc
-
 -- what comes of an outcome that is there
 pub record Then {A B : Type 0} (o : Option A) (f : A → Option B) (y : B) : Type 0 where
   pub found : A
@@ -34,7 +32,7 @@ pub record Then {A B : Type 0} (o : Option A) (f : A → Option B) (y : B) : Typ
   pub gives : f found ≡ Some y
 
 pub then_some : {A B : Type 0} (o : Option A) (f : A → Option B) (y : B) → option_and_then f o ≡ Some y → Then o f y
-then_some None f y h = absurd (nothing_is y h)
+then_some None f y h = absurd (none-some y h)
 then_some (Some x) f y h = record { found = x; is = refl; gives = h }
 
 pub record Mapped {A B : Type 0} (o : Option A) (f : A → B) (y : B) : Type 0 where
@@ -42,53 +40,35 @@ pub record Mapped {A B : Type 0} (o : Option A) (f : A → B) (y : B) : Type 0 w
   pub is : o ≡ Some found
   pub gives : f found ≡ y
 
-some_same : {A : Type 0} (x y : A) → Some x ≡ Some y → x ≡ y
-some_same x y h = cc
-
 pub mapped_some : {A B : Type 0} (o : Option A) (f : A → B) (y : B) → option_map f o ≡ Some y → Mapped o f y
-mapped_some None f y h = absurd (nothing_is y h)
-mapped_some (Some x) f y h = record { found = x; is = refl; gives = some_same (f x) y h }
+mapped_some None f y h = absurd (none-some y h)
+mapped_some (Some x) f y h = record { found = x; is = refl; gives = same_Some (f x) y h }
 
 -- what is there only where a test holds
 pub if_some : {A : Type 0} (b : Bool) (o : Option A) (x : A) → (if b then o else None) ≡ Some x → (b ≡ true) × (o ≡ Some x)
 if_some true o x h = (refl, h)
-if_some false o x h = absurd (nothing_is x h)
+if_some false o x h = absurd (none-some x h)
 
 pub unless_some : {A : Type 0} (b : Bool) (o : Option A) (x : A) → (if b then None else o) ≡ Some x → (b ≡ false) × (o ≡ Some x)
-unless_some true o x h = absurd (nothing_is x h)
+unless_some true o x h = absurd (none-some x h)
 unless_some false o x h = (refl, h)
-
-less : (n m : ℕ) → nat_lt n m ≡ true → n < m
-less n m h = grind (arith, nat_tests)
-
-equal : (n m : ℕ) → (n == m) ≡ true → n ≡ m
-equal n m h = grind (arith, nat_tests)
 
 -- ---- tokens
 
-false_is_not_true : {A : Type 0} → false ≡ true → A
-false_is_not_true h = absurd (cc)
-
 pub sign_is : (c : ℕ) (t : Lexeme) → is_sign_of c t ≡ true → t ≡ Sign c
-sign_is c (Sign d) h = ap Sign (sym (equal c d h))
-sign_is c (Word w) h = false_is_not_true h
-sign_is c (Number z) h = false_is_not_true h
-sign_is c (Text bytes) h = false_is_not_true h
-sign_is c (Bad f) h = false_is_not_true h
+sign_is c (Sign d) h = ap Sign (sym (eqb-true c d h))
+sign_is c other h = absurd (cc)
 
 pub word_is : (w : List ℕ) (t : Lexeme) → is_the w t ≡ true → t ≡ Word w
 word_is w (Word v) h = ap Word (sym ((bytes_eq-Decides w v).0 h))
-word_is w (Sign d) h = false_is_not_true h
-word_is w (Number z) h = false_is_not_true h
-word_is w (Text bytes) h = false_is_not_true h
-word_is w (Bad f) h = false_is_not_true h
+word_is w other h = absurd (cc)
 
 -- ---- numbers
 
 natural_is : (r : Result ℤ Fault) (n : ℕ) → natural_of r ≡ Some n → r ≡ Ok (pos n)
-natural_is (Ok (pos m)) n h = ap (λ k. Ok (pos k)) (some_same m n h)
-natural_is (Ok (negsuc m)) n h = absurd (nothing_is n h)
-natural_is (Err f) n h = absurd (nothing_is n h)
+natural_is (Ok (pos m)) n h = ap (λ k. Ok (pos k)) (same_Some m n h)
+natural_is (Ok (negsuc m)) n h = absurd (none-some n h)
+natural_is (Err f) n h = absurd (none-some n h)
 
 pub number_sound : (symbols : Symbols) (ts : List Lexeme) (n : ℕ) → number_in symbols ts ≡ Some n → IsNumber symbols ts n
 number_sound symbols ts n h =
@@ -98,8 +78,8 @@ number_sound symbols ts n h =
 pub below_is : (limit n m : ℕ) → if_below limit n ≡ Some m → (n ≡ m) × (m < limit)
 below_is limit n m h =
     let so = if_some (nat_lt n limit) (Some n) m h in
-    let same = some_same n m so.1 in
-    let low = less n limit so.0 in
+    let same = same_Some n m so.1 in
+    let low = ltb-true n limit so.0 in
     (same, omega arith)
 
 pub below_sound : (limit : ℕ) (symbols : Symbols) (ts : List Lexeme) (n : ℕ) → number_below_in limit symbols ts ≡ Some n
@@ -112,10 +92,10 @@ below_sound limit symbols ts n h =
 -- ---- signs around tokens
 
 ended_is : (close : ℕ) (ts front : List Lexeme) → ended close ts ≡ Some front → ts ≡ front ++ Sign close ∷ []
-ended_is close [] front h = absurd (nothing_is front h)
+ended_is close [] front h = absurd (none-some front h)
 ended_is close (t ∷ []) front h =
     let so = if_some (is_sign_of close t) (Some []) front h in
-    let none = some_same [] front so.1 in
+    let none = same_Some [] front so.1 in
     rw (← none, sign_is close t so.0) refl
 ended_is close (t ∷ u ∷ ts) front h =
     let so = mapped_some (ended close (u ∷ ts)) (λ more. t ∷ more) front h in
@@ -123,7 +103,7 @@ ended_is close (t ∷ u ∷ ts) front h =
 
 pub enclosed_is : (begin end : ℕ) (ts inside : List Lexeme) → enclosed begin end ts ≡ Some inside
     → ts ≡ Sign begin ∷ (inside ++ Sign end ∷ [])
-enclosed_is begin end [] inside h = absurd (nothing_is inside h)
+enclosed_is begin end [] inside h = absurd (none-some inside h)
 enclosed_is begin end (t ∷ ts) inside h =
     let so = if_some (is_sign_of begin t) (ended end ts) inside h in
     rw (sign_is begin t so.0) (ap (λ more. Sign begin ∷ more) (ended_is end ts inside so.1))
@@ -140,10 +120,7 @@ value_sound symbols [] n h = parenthesized symbols [] n h
 value_sound symbols (Word w ∷ []) n h =
     let so = unless_some (is_property_word w) (number_in symbols (Word w ∷ [])) n h in
     one_token so.0 (number_sound symbols (Word w ∷ []) n so.1)
-value_sound symbols (Number z ∷ []) n h = one_token tt (number_sound symbols (Number z ∷ []) n h)
-value_sound symbols (Text bytes ∷ []) n h = one_token tt (number_sound symbols (Text bytes ∷ []) n h)
-value_sound symbols (Sign c ∷ []) n h = one_token tt (number_sound symbols (Sign c ∷ []) n h)
-value_sound symbols (Bad f ∷ []) n h = one_token tt (number_sound symbols (Bad f ∷ []) n h)
+value_sound symbols (t ∷ []) n h = one_token tt (number_sound symbols (t ∷ []) n h)
 value_sound symbols (Word w ∷ u ∷ ts) n h = parenthesized symbols (Word w ∷ u ∷ ts) n h
 value_sound symbols (Number z ∷ u ∷ ts) n h = parenthesized symbols (Number z ∷ u ∷ ts) n h
 value_sound symbols (Text bytes ∷ u ∷ ts) n h = parenthesized symbols (Text bytes ∷ u ∷ ts) n h
@@ -152,15 +129,11 @@ value_sound symbols (Bad f ∷ u ∷ ts) n h = parenthesized symbols (Bad f ∷ 
 
 -- ---- separators
 
-and_right : (a b : Bool) → (a && b) ≡ true → b ≡ true
-and_right true b h = h
-and_right false b h = false_is_not_true h
-
 -- tokens without a separator
 pub alone_is : (n : ℕ) (ts : List Lexeme) → tail_of (drop n ts) ≡ None → take n ts ≡ ts
 alone_is zero [] h = refl
 alone_is (suc n) [] h = refl
-alone_is zero (t ∷ ts) h = absurd (nothing_is ts (sym h))
+alone_is zero (t ∷ ts) h = absurd (none-some ts (sym h))
 alone_is (suc n) (t ∷ ts) h = ap (λ more. t ∷ more) (alone_is n ts h)
 
 -- tokens with a separator among them
@@ -173,8 +146,8 @@ at_once : (s : Separator) (depth : ℕ) (t : Lexeme) (ts back : List Lexeme) (b 
     → ((more : List Lexeme) → tail_of (drop (count_before s (level_after depth t) ts) ts) ≡ Some more → Around s (level_after depth t) ts more)
     → tail_of (drop (count_before s depth (t ∷ ts)) (t ∷ ts)) ≡ Some back → Around s depth (t ∷ ts) back
 at_once s depth t ts back true e again h =
-    let same = some_same ts back (rw e at h) in
-    record { token = t; is = and_right (depth == 0) (separates s t) e; whole = rw e (ap (λ more. t ∷ more) same) }
+    let same = same_Some ts back (rw e at h) in
+    record { token = t; is = (and_parts (depth == 0) (separates s t) e).1; whole = rw e (ap (λ more. t ∷ more) same) }
 at_once s depth t ts back false e again h =
     let n = count_before s (level_after depth t) ts in
     let is : count_before s depth (t ∷ ts) ≡ suc n = rw e (add-one n) in
@@ -186,7 +159,7 @@ at_once s depth t ts back false e again h =
     }
 
 pub around : (s : Separator) (depth : ℕ) (ts back : List Lexeme) → tail_of (drop (count_before s depth ts) ts) ≡ Some back → Around s depth ts back
-around s depth [] back h = absurd (nothing_is back h)
+around s depth [] back h = absurd (none-some back h)
 around s depth (t ∷ ts) back h = at_once s depth t ts back (depth == 0 && separates s t) refl (around s (level_after depth t) ts) h
 
 -- ---- items
@@ -201,7 +174,7 @@ byte_sound symbols ts i h =
 point_sound : (symbols : Symbols) (inside : List Lexeme) (i : Item) (o : Option (List Lexeme)) → after_first Comma inside ≡ o
     → point_in symbols (before_first Comma inside) o ≡ Some i → (rest : List Lexeme) → rest ≡ Sign 40 ∷ (inside ++ Sign 41 ∷ [])
     → IsItem symbols (Word (codes "PIXEL") ∷ rest) i
-point_sound symbols inside i None e h rest is = absurd (nothing_is i h)
+point_sound symbols inside i None e h rest is = absurd (none-some i h)
 point_sound symbols inside i (Some row) e h rest is =
     let column = before_first Comma inside in
     let so = then_some (number_below_in SCREEN_WIDTH symbols column) (λ x. option_map (λ y. Pixel x y) (number_below_in SCREEN_HEIGHT symbols row)) i h in
@@ -225,12 +198,5 @@ two_sound symbols t u ts i false e h = byte_sound symbols (t ∷ u ∷ ts) i h
 pub item_sound : (symbols : Symbols) (ts : List Lexeme) (i : Item) → item_in symbols ts ≡ Some i → IsItem symbols ts i
 item_sound symbols [] i h = byte_sound symbols [] i h
 item_sound symbols (Word w ∷ []) i h = named h
-item_sound symbols (Number z ∷ []) i h = byte_sound symbols (Number z ∷ []) i h
-item_sound symbols (Text bytes ∷ []) i h = byte_sound symbols (Text bytes ∷ []) i h
-item_sound symbols (Sign c ∷ []) i h = byte_sound symbols (Sign c ∷ []) i h
-item_sound symbols (Bad f ∷ []) i h = byte_sound symbols (Bad f ∷ []) i h
-item_sound symbols (Word w ∷ u ∷ ts) i h = two_sound symbols (Word w) u ts i (is_the (codes "PIXEL") (Word w)) refl h
-item_sound symbols (Number z ∷ u ∷ ts) i h = two_sound symbols (Number z) u ts i (is_the (codes "PIXEL") (Number z)) refl h
-item_sound symbols (Text bytes ∷ u ∷ ts) i h = two_sound symbols (Text bytes) u ts i (is_the (codes "PIXEL") (Text bytes)) refl h
-item_sound symbols (Sign c ∷ u ∷ ts) i h = two_sound symbols (Sign c) u ts i (is_the (codes "PIXEL") (Sign c)) refl h
-item_sound symbols (Bad f ∷ u ∷ ts) i h = two_sound symbols (Bad f) u ts i (is_the (codes "PIXEL") (Bad f)) refl h
+item_sound symbols (t ∷ []) i h = byte_sound symbols (t ∷ []) i h
+item_sound symbols (t ∷ u ∷ ts) i h = two_sound symbols t u ts i (is_the (codes "PIXEL") t) refl h

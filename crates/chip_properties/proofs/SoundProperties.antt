@@ -1,15 +1,16 @@
 -- What a property is found to state is what it states by the grammar.
 use Rattle.std.proofs.Common.{◌≡◌, ℕ, false, not, List, [], ◌∷◌, Option, Some, None, Result, Ok, Err, IfOk, refl, sym, ◌∙◌, ap}
+use Rattle.std.proofs.lemmas.Option.{none-some, same_Some}
 use Rattle.std.specs.Prelude.{codes, option_map}
 use Rattle.std.proofs.lemmas.List.{take-append-drop}
 use Rattle.chip_lang.specs.declared.limits.TheConstants.{MEMORY_BYTES}
 use Rattle.chip_lang.specs.declared.lexeme.Lexeme.{Lexeme}
-use Rattle.chip_lang.specs.declared.lexeme.Lexeme.TheVariants.{Word, Number, Text, Sign, Bad}
+use Rattle.chip_lang.specs.declared.lexeme.Lexeme.TheVariants.{Word}
 use Rattle.chip_lang.specs.Line.{is_the}
 use Rattle.chip_lang.specs.Value.{Symbols}
 use Rattle.chip_properties.specs.declared.separator.Separator.TheVariants.{Place}
 use Rattle.chip_properties.specs.declared.stated.Kind.{Kind}
-use Rattle.chip_properties.specs.declared.stated.Kind.TheVariants.{Always, Never, Ever, Can}
+use Rattle.chip_properties.specs.declared.stated.Kind.TheVariants.{Always}
 use Rattle.std.specs.declared.alloc.AllocError.{AllocError}
 use Rattle.chip_properties.specs.declared.fault.PropertyFault.{PropertyFault}
 use Rattle.chip_properties.specs.declared.stated.Stated.{Stated}
@@ -18,8 +19,8 @@ use Rattle.chip_properties.specs.Nesting.{is_deep}
 use Rattle.chip_properties.specs.computed.Separated.{before_first, from_first}
 use Rattle.chip_properties.specs.computed.Reading.{if_below, value_in, here_in, at_in, place_in, no_condition, is_always, given_in, property_in, kind_in_front, of_kind, begun_by, stated_in}
 use Rattle.chip_properties.specs.Language.{IsPlace, nowhere, at_here, at_address, IsGiven, a_condition, no_condition as without_condition, is_wanted, IsProperty, IsStated, with_kind, without}
-use Rattle.chip_properties.proofs.Sound.{nothing_is, then_some, mapped_some, if_some, unless_some, word_is, below_is, value_sound}
-use Rattle.chip_properties.proofs.SoundSums.{condition_sound, some_is}
+use Rattle.chip_properties.proofs.Sound.{then_some, mapped_some, if_some, unless_some, word_is, below_is, value_sound}
+use Rattle.chip_properties.proofs.SoundSums.{condition_sound}
 
 -- ---- places
 
@@ -40,7 +41,7 @@ at_sound symbols here ts place h =
 
 pub place_sound : (symbols : Symbols) (here : Option ℕ) (ts : List Lexeme) (place : Option ℕ) → place_in symbols here ts ≡ Some place
     → IsPlace symbols here ts place
-place_sound symbols here [] place h = rw (← some_is None place h) nowhere
+place_sound symbols here [] place h = rw (← same_Some None place h) nowhere
 place_sound symbols here (t ∷ []) place h =
     let so = if_some (is_the (codes "HERE") t) (here_in here) place h in
     rw (word_is (codes "HERE") t so.0) (here_sound symbols here place so.1)
@@ -55,17 +56,15 @@ not_always kind h e = let always = rw e at h in cc
 
 given_sound : (symbols : Symbols) (kind : Kind) (front back : List Lexeme) (c : SeenCondition) → given_in symbols kind front back ≡ Some c
     → IsGiven symbols kind front back c
-given_sound symbols kind [] [] c h = absurd (nothing_is c h)
+given_sound symbols kind [] [] c h = absurd (none-some c h)
 given_sound symbols kind [] (t ∷ ts) c h =
     let so = unless_some (is_always kind) (Some no_condition) c h in
-    rw (← some_is no_condition c so.1) (without_condition (not_always kind so.0))
+    rw (← same_Some no_condition c so.1) (without_condition (not_always kind so.0))
 given_sound symbols kind (t ∷ ts) back c h = a_condition (condition_sound symbols (t ∷ ts) c h)
 
-wanted_is : (kind : Kind) → not (is_always kind) ≡ is_wanted kind
+pub wanted_is : (kind : Kind) → not (is_always kind) ≡ is_wanted kind
 wanted_is Always = refl
-wanted_is Never = refl
-wanted_is Ever = refl
-wanted_is Can = refl
+wanted_is kind = refl
 
 pub property_sound : (symbols : Symbols) (here : Option ℕ) (kind : Kind) (ts : List Lexeme) (p : SeenProperty) → property_in symbols here kind ts ≡ Some p
     → IsProperty symbols here kind ts p
@@ -75,7 +74,7 @@ property_sound symbols here kind ts p h =
     let shallow = unless_some (is_deep 0 ts) _ p h in
     let so = then_some (given_in symbols kind front back) _ p shallow.1 in
     let at = then_some (place_in symbols here back) _ p so.gives in
-    rw (← some_is _ p at.gives) (record {
+    rw (← same_Some _ p at.gives) (record {
       front = front;
       back = back;
       tokens = sym (take-append-drop _ ts);
@@ -106,14 +105,10 @@ begun_sound : (symbols : Symbols) (here : Option ℕ) (ts : List Lexeme) (s : Fo
 begun_sound symbols here ts s None e h =
     let so = kind_sound symbols here Always ts s h in
     rw so.0 (without so.1)
-begun_sound symbols here [] s (Some kind) e h = absurd (nothing_is kind e)
-begun_sound symbols here (Number z ∷ ts) s (Some kind) e h = absurd (nothing_is kind e)
-begun_sound symbols here (Text bytes ∷ ts) s (Some kind) e h = absurd (nothing_is kind e)
-begun_sound symbols here (Sign c ∷ ts) s (Some kind) e h = absurd (nothing_is kind e)
-begun_sound symbols here (Bad f ∷ ts) s (Some kind) e h = absurd (nothing_is kind e)
 begun_sound symbols here (Word w ∷ ts) s (Some kind) e h =
     let so = kind_sound symbols here kind ts s h in
     rw so.0 (with_kind e so.1)
+begun_sound symbols here ts s (Some kind) e h = absurd (none-some kind e)
 
 pub stated_sound : (symbols : Symbols) (here : Option ℕ) (ts : List Lexeme) (kind : Kind) (p : SeenProperty)
     → stated_in symbols here None ts ≡ Some (found kind p) → IsStated symbols here ts kind p

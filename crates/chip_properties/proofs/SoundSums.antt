@@ -1,7 +1,8 @@
 -- What sums, comparisons and conditions are found to be is what they are by the grammar.
 use Rattle.std.proofs.Common.{◌≡◌, ℕ, suc, ◌+◌, ◌^◌, ◌<◌, ◌≤◌, ◌==◌, Bool, true, false, if◌then◌else◌, List, [], ◌∷◌, ◌++◌, length, drop, Option, Some, None, refl, sym, subst, ◌∙◌, ap, append_assoc, add-one, arith}
-use Rattle.std.specs.Prelude.{◌&&◌, codes, fold, nat_lt, option_map, option_and_then}
-use Rattle.std.proofs.lemmas.Bool.Decides.{nat_tests}
+use Rattle.std.proofs.lemmas.Option.{none-some, same_Some}
+use Rattle.std.specs.Prelude.{◌&&◌, codes, fold, nat_lt, option_map}
+use Rattle.std.proofs.lemmas.Bool.{and_parts, eq-eqb, eqb-false, ltb-true}
 use Rattle.std.proofs.lemmas.List.{append-nil, length-append, take-append-drop}
 use Rattle.chip_lang.specs.declared.lexeme.Lexeme.{Lexeme}
 use Rattle.chip_lang.specs.declared.lexeme.Lexeme.TheVariants.{Sign}
@@ -18,16 +19,7 @@ use Rattle.chip_properties.specs.computed.Separated.{separates, count_before, be
 use Rattle.chip_properties.specs.computed.Reading.{is_item, item_in, value_in, times_in, addend_in, with_addend, added_in, summed, no_sum, sum_in, less_in, greater_in, relation_in, compared, comparison_in, found_with, comparisons_in, condition_in, has_no_or, joint}
 use Rattle.chip_properties.specs.Language.{Addend, a_number, times, IsAddend, a_value, an_item, a_product, joined, AreEach, with, IsSum, signs_of, IsComparison, word_between, IsCondition}
 use Rattle.chip_properties.proofs.Pieces.{pieces_split}
-use Rattle.chip_properties.proofs.Sound.{nothing_is, then_some, mapped_some, if_some, sign_is, word_is, value_sound, item_sound, alone_is, around}
-
-pub some_is : {A : Type 0} (x y : A) → Some x ≡ Some y → x ≡ y
-some_is x y h = cc
-
-less : (n m : ℕ) → nat_lt n m ≡ true → n < m
-less n m h = grind (arith, nat_tests)
-
-unequal : (n m : ℕ) → (n == m) ≡ false → n ≡ m → ⊥
-unequal n m h = grind (arith, nat_tests)
+use Rattle.chip_properties.proofs.Sound.{then_some, mapped_some, if_some, unless_some, sign_is, word_is, value_sound, item_sound, alone_is, around}
 
 -- ---- addends
 
@@ -76,12 +68,8 @@ parts_step s between depth t ts true e only anew on =
       first = [];
       more = anew.first ∷ anew.more;
       are = rw (e, anew.are) refl;
-      tokens = rw (only t (and_right (depth == 0) (separates s t) e)) (ap (λ more. between ∷ more) anew.tokens);
+      tokens = rw (only t (and_parts (depth == 0) (separates s t) e).1) (ap (λ more. between ∷ more) anew.tokens);
     }
-  where
-    and_right : (a b : Bool) → (a && b) ≡ true → b ≡ true
-    and_right true b h = h
-    and_right false b h = absurd (cc)
 parts_step s between depth t ts false e only anew on =
     record {
       first = t ∷ on.first;
@@ -111,7 +99,7 @@ with_is s t (times n i) h = cc
 with_fits : (s t : SeenSum) (a : Addend) → with_addend s a ≡ Some t → s.constant < 2 ^ 32 → t.constant < 2 ^ 32
 with_fits s t (a_number n) h f =
     let so = if_some (nat_lt (s.constant + n) 4294967296) _ t h in
-    let low = less (s.constant + n) 4294967296 so.0 in
+    let low = ltb-true (s.constant + n) 4294967296 so.0 in
     let is = ap (λ (x : SeenSum). x.constant) (with_is s t (a_number n) h) in
     omega arith
 with_fits s t (times n i) h f =
@@ -121,34 +109,26 @@ with_fits s t (times n i) h f =
 -- one more of those that there may be
 few_more : (count long most : ℕ) → (count == most) ≡ false → count ≤ most → (count + 1 ≤ most → count + 1 + long ≤ most) → count + suc long ≤ most
 few_more count long most e low on =
-    let apart = unequal count most e in
+    let apart = eqb-false count most e in
     let more : count + 1 ≤ most = omega arith in
     omega (arith, on more)
 
-summed_step : (symbols : Symbols) (count : ℕ) (s t : SeenSum) (p : List Lexeme) (ps : List (List Lexeme)) (b : Bool) → (count == MOST_TERMS) ≡ b
-    → ((more : SeenSum) → summed symbols (count + 1) more ps ≡ Some t → Summed symbols (count + 1) more ps t)
-    → (if b then None else option_and_then (λ more. summed symbols (count + 1) more ps) (added_in symbols s p)) ≡ Some t → Summed symbols count s (p ∷ ps) t
-summed_step symbols count s t p ps true e again h = absurd (nothing_is t h)
-summed_step symbols count s t p ps false e again h =
-    let so = then_some (added_in symbols s p) (λ more. summed symbols (count + 1) more ps) t h in
+summed_is : (symbols : Symbols) (count : ℕ) (s t : SeenSum) (ps : List (List Lexeme)) → summed symbols count s ps ≡ Some t → Summed symbols count s ps t
+summed_is symbols count s t [] h =
+    record { addends = []; each = tt; sum = sym (same_Some s t h); few = λ low. omega arith; fits = λ low. rw (← same_Some s t h) low }
+summed_is symbols count s t (p ∷ ps) h =
+    let room = unless_some (count == MOST_TERMS) _ t h in
+    let so = then_some (added_in symbols s p) (λ more. summed symbols (count + 1) more ps) t room.1 in
     let at = then_some (addend_in symbols p) (with_addend s) so.found so.is in
-    let on = again so.found so.gives in
+    let on = summed_is symbols (count + 1) so.found t ps so.gives in
     let put = with_is s so.found at.found at.gives in
     record {
       addends = at.found ∷ on.addends;
       each = (addend_sound symbols p at.found at.is, on.each);
       sum = on.sum ∙ ap (λ x. fold with x on.addends) put;
-      few = λ low. few_more count (length on.addends) MOST_TERMS e low on.few;
+      few = λ low. few_more count (length on.addends) MOST_TERMS room.0 low on.few;
       fits = λ low. on.fits (with_fits s so.found at.found at.gives low);
     }
-
-summed_is : (symbols : Symbols) (count : ℕ) (s t : SeenSum) (ps : List (List Lexeme)) → summed symbols count s ps ≡ Some t → Summed symbols count s ps t
-summed_is symbols count s t [] h =
-    record { addends = []; each = tt; sum = sym (same s t h); few = λ low. omega arith; fits = λ low. rw (← same s t h) low }
-  where
-    same : (x y : SeenSum) → Some x ≡ Some y → x ≡ y
-    same x y h = cc
-summed_is symbols count s t (p ∷ ps) h = summed_step symbols count s t p ps (count == MOST_TERMS) refl (λ more. summed_is symbols (count + 1) more t ps) h
 
 pub sum_sound : (symbols : Symbols) (ts : List Lexeme) (s : SeenSum) → sum_in symbols ts ≡ Some s → IsSum symbols ts s
 sum_sound symbols ts s h =
@@ -158,10 +138,7 @@ sum_sound symbols ts s h =
 
 -- ---- comparisons
 
--- a relation in front
-pub record Begins (ts : List Lexeme) (r : Relation) (back : List Lexeme) : Type 0 where
-  pub tokens : ts ≡ signs_of r ++ back
-
+-- a relation in front, and what follows
 abbrev pub Front : Type 0
 Front = Relation × List Lexeme
 
@@ -170,7 +147,7 @@ begins_with r ts = (r, ts)
 
 begun : (r s : Relation) (ts rest back : List Lexeme) → ts ≡ signs_of r ++ rest → Some (begins_with r rest) ≡ Some (begins_with s back) → ts ≡ signs_of s ++ back
 begun r s ts rest back is h =
-    is ∙ ap (λ (p : Front). signs_of p.0 ++ p.1) (some_is (begins_with r rest) (begins_with s back) h)
+    is ∙ ap (λ (p : Front). signs_of p.0 ++ p.1) (same_Some (begins_with r rest) (begins_with s back) h)
 
 less_sound : (ts : List Lexeme) (s : Relation) (back : List Lexeme) → less_in ts ≡ Some (begins_with s back) → Sign 60 ∷ ts ≡ signs_of s ++ back
 less_sound [] s back h = begun Less s (Sign 60 ∷ []) [] back refl h
@@ -192,7 +169,7 @@ greater_sound (t ∷ ts) s back h = first (is_sign_of 61 t) refl h
     first false f h = begun Greater s (Sign 62 ∷ t ∷ ts) (t ∷ ts) back refl h
 
 relation_sound : (ts : List Lexeme) (s : Relation) (back : List Lexeme) → relation_in ts ≡ Some (begins_with s back) → ts ≡ signs_of s ++ back
-relation_sound [] s back h = absurd (nothing_is (begins_with s back) h)
+relation_sound [] s back h = absurd (none-some (begins_with s back) h)
 relation_sound (t ∷ ts) s back h = first (is_sign_of 61 t) refl (is_sign_of 60 t) refl (is_sign_of 62 t) refl h
   where
     first : (a : Bool) → is_sign_of 61 t ≡ a → (b : Bool) → is_sign_of 60 t ≡ b → (c : Bool) → is_sign_of 62 t ≡ c
@@ -200,7 +177,7 @@ relation_sound (t ∷ ts) s back h = first (is_sign_of 61 t) refl (is_sign_of 60
     first true e b f c g h = begun Equal s (t ∷ ts) ts back (ap (λ u. u ∷ ts) (sign_is 61 t e)) h
     first false e true f c g h = ap (λ u. u ∷ ts) (sign_is 60 t f) ∙ less_sound ts s back h
     first false e false f true g h = ap (λ u. u ∷ ts) (sign_is 62 t g) ∙ greater_sound ts s back h
-    first false e false f false g h = absurd (nothing_is (begins_with s back) h)
+    first false e false f false g h = absurd (none-some (begins_with s back) h)
 
 pub comparison_sound : (symbols : Symbols) (ts : List Lexeme) (c : SeenComparison) → comparison_in symbols ts ≡ Some c → IsComparison symbols ts c
 comparison_sound symbols ts c h =
@@ -224,25 +201,19 @@ pub record Compared (symbols : Symbols) (found : List SeenComparison) (ps : List
   pub all : cs ≡ found ++ more
   pub few : length found ≤ MOST_COMPARISONS → length found + length more ≤ MOST_COMPARISONS
 
-compared_step : (symbols : Symbols) (found cs : List SeenComparison) (p : List Lexeme) (ps : List (List Lexeme)) (b : Bool) → (length found == MOST_COMPARISONS) ≡ b
-    → ((c : SeenComparison) → found_with symbols (found ++ c ∷ []) ps ≡ Some cs → Compared symbols (found ++ c ∷ []) ps cs)
-    → (if b then None else option_and_then (λ c. found_with symbols (found ++ c ∷ []) ps) (comparison_in symbols p)) ≡ Some cs → Compared symbols found (p ∷ ps) cs
-compared_step symbols found cs p ps true e again h = absurd (nothing_is cs h)
-compared_step symbols found cs p ps false e again h =
-    let so = then_some (comparison_in symbols p) (λ c. found_with symbols (found ++ c ∷ []) ps) cs h in
-    let on = again so.found so.gives in
+compared_is : (symbols : Symbols) (found cs : List SeenComparison) (ps : List (List Lexeme)) → found_with symbols found ps ≡ Some cs → Compared symbols found ps cs
+compared_is symbols found cs [] h = record { more = []; each = tt; all = sym (same_Some found cs h) ∙ sym (append-nil found); few = λ low. omega arith }
+compared_is symbols found cs (p ∷ ps) h =
+    let room = unless_some (length found == MOST_COMPARISONS) _ cs h in
+    let so = then_some (comparison_in symbols p) (λ c. found_with symbols (found ++ c ∷ []) ps) cs room.1 in
+    let on = compared_is symbols (found ++ so.found ∷ []) cs ps so.gives in
     let long = length-append found (so.found ∷ []) in
     record {
       more = so.found ∷ on.more;
       each = (comparison_sound symbols p so.found so.is, on.each);
       all = on.all ∙ append_assoc found (so.found ∷ []) on.more;
-      few = λ low. few_more (length found) (length on.more) MOST_COMPARISONS e low (rw long at on.few);
+      few = λ low. few_more (length found) (length on.more) MOST_COMPARISONS room.0 low (rw long at on.few);
     }
-
-compared_is : (symbols : Symbols) (found cs : List SeenComparison) (ps : List (List Lexeme)) → found_with symbols found ps ≡ Some cs → Compared symbols found ps cs
-compared_is symbols found cs [] h = record { more = []; each = tt; all = sym (some_is found cs h) ∙ sym (append-nil found); few = λ low. omega arith }
-compared_is symbols found cs (p ∷ ps) h =
-    compared_step symbols found cs p ps (length found == MOST_COMPARISONS) refl (λ c. compared_is symbols (found ++ c ∷ []) cs ps) h
 
 between_is : (is_all : Bool) (t : Lexeme) → separates (joint is_all) t ≡ true → t ≡ word_between is_all
 between_is true t h = word_is (codes "AND") t h
@@ -256,15 +227,12 @@ counted_all s depth (t ∷ ts) h = by_test (depth == 0 && separates s t) refl (c
     by_test : (b : Bool) → (depth == 0 && separates s t) ≡ b
         → (tail_of (drop (count_before s (level_after depth t) ts) ts) ≡ None → count_before s (level_after depth t) ts ≡ length ts)
         → count_before s depth (t ∷ ts) ≡ length (t ∷ ts)
-    by_test true e again = let at = rw e at h in absurd (nothing_is ts (sym at))
+    by_test true e again = let at = rw e at h in absurd (none-some ts (sym at))
     by_test false e again =
         let n = count_before s (level_after depth t) ts in
         let is : count_before s depth (t ∷ ts) ≡ suc n = rw e (add-one n) in
         let at = subst (λ k. tail_of (drop k (t ∷ ts)) ≡ None) is h in
         is ∙ ap suc (again at)
-
-same_count : (n m : ℕ) → n ≡ m → (n == m) ≡ true
-same_count n m h = grind (arith, nat_tests)
 
 no_pieces : (s : Separator) (ts : List Lexeme) → pieces s 0 ts ≡ [] → ⊥
 no_pieces s ts h = let some = sym (pieces_split s ts) ∙ h in cc
@@ -275,7 +243,7 @@ alone_all ts true e first more are none = refl
 alone_all ts false e first more are none = by_rest (after_first Or ts) refl
   where
     by_rest : (o : Option (List Lexeme)) → after_first Or ts ≡ o → false ≡ true
-    by_rest None h = sym e ∙ same_count (count_before Or 0 ts) (length ts) (counted_all Or 0 ts h)
+    by_rest None h = sym e ∙ eq-eqb (count_before Or 0 ts) (length ts) (counted_all Or 0 ts h)
     by_rest (Some back) h =
         let cut : before_first Or ts ∷ pieces Or 0 back ≡ first ∷ more = ap (λ o. before_first Or ts ∷ pieces_in Or o) (sym h) ∙ sym (pieces_split Or ts) ∙ are in
         absurd (no_pieces Or back (ap (drop 1) cut ∙ none))

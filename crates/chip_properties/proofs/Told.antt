@@ -1,10 +1,12 @@
 -- What is read line by line.
-use Rattle.std.proofs.Common.{◌≡◌, ℕ, zero, suc, ◌+◌, ◌<◌, ◌≤◌, ◌==◌, Bool, true, false, if◌then◌else◌, List, [], ◌∷◌, ◌++◌, length, length-append, take, drop, Option, Some, None, Result, Ok, Err, IfOk, IfErr, All, inl, inr, ◌⊎◌, refl, sym, subst, ◌∙◌, ap, add-one, arith}
-use Rattle.std.specs.Prelude.{◌||◌, ◌-◌, filter_map, nat_eq, slice_get}
+use Rattle.std.proofs.Common.{◌≡◌, ℕ, zero, suc, ◌+◌, ◌≤◌, ◌==◌, Bool, true, false, if◌then◌else◌, List, [], ◌∷◌, ◌++◌, length, length-append, take, drop, Option, Some, None, Result, Ok, Err, IfOk, IfErr, All, inl, inr, ◌⊎◌, refl, sym, ◌∙◌, ap, add-one, arith}
+use Rattle.std.specs.Prelude.{◌-◌, filter_map, nat_eq, slice_get}
+use Rattle.std.proofs.lemmas.Bool.{cases_lt, eq-eqb, or_cases, or_left, or_right}
 use Rattle.std.proofs.lemmas.Bool.Decides.{nat_tests}
 use Rattle.std.specs.List.{list_any}
+use Rattle.std.proofs.lemmas.Option.{none-some, same_Some, slice_get_within}
 use Rattle.std.proofs.lemmas.List.Folds.{list_any-append}
-use Rattle.std.proofs.lemmas.List.Elements.{All-append}
+use Rattle.std.proofs.lemmas.List.Elements.{All-nil, All-push}
 use Rattle.std.specs.declared.alloc.AllocError.{AllocError}
 use Rattle.chip_lang.specs.Line.{lexemes_of}
 use Rattle.chip_asm.specs.LineViews.{LineFacts, line_at, line_facts}
@@ -20,8 +22,6 @@ use Rattle.chip_properties.specs.Properties.{AreProperties, is_told}
 use Rattle.chip_properties.specs.SeenProperty.{seen_property}
 use Rattle.chip_properties.specs.computed.Reading.{stated_in}
 use Rattle.chip_properties.specs.inner.Told.{IsAnswer, IsRead, nothing, a_property, a_fault}
-use Rattle.chip_properties.proofs.Sound.{nothing_is}
-use Rattle.chip_properties.proofs.SoundSums.{some_is}
 use Rattle.chip_properties.proofs.SoundProperties.{found, stated_sound}
 use Rattle.chip_properties.proofs.CompleteProperties.{nothing_stated}
 
@@ -57,10 +57,10 @@ abbrev pub FoundNothing : List (List ℕ) → (start address : ℕ) → List ℕ
 FoundNothing lines start address text =
     stated_in (values_of (symbols_of lines)) (Some address) None (lexemes_of (drop start text)) ≡ None
 
-answered_there : (lines : List (List ℕ)) (number start : ℕ) (f : LineFacts) (r : Answer) → line_at lines number ≡ Some f → property_start f ≡ Some start
+pub answered : (lines : List (List ℕ)) (number start : ℕ) (f : LineFacts) (r : Answer) → line_at lines number ≡ Some f → property_start f ≡ Some start
     → IfOk r (λ read. IfOk read (IsStatedBy lines number start f.address f.text)) → IfOk r (λ read. IfErr read (StandsAt number f.text))
     → IfOk r (λ read. IfErr read (λ fault. FoundNothing lines start f.address f.text)) → IfOk r (IsAnswer lines number)
-answered_there lines number start f (Ok (Ok s)) at begins h k none = (
+answered lines number start f (Ok (Ok s)) at begins h k none = (
   h.0,
   record {
     start = start;
@@ -69,22 +69,10 @@ answered_there lines number start f (Ok (Ok s)) at begins h k none = (
     states = stated_sound (values_of (symbols_of lines)) (Some f.address) (lexemes_of (drop start f.text)) s.kind (seen_property s.property) h.1;
   },
 )
-answered_there lines number start f (Ok (Err fault)) at begins h k none =
+answered lines number start f (Ok (Err fault)) at begins h k none =
     let unread = nothing_stated (values_of (symbols_of lines)) (Some f.address) (lexemes_of (drop start f.text)) none in
     (k.there, faulty lines number start f fault at begins k (inl unread))
-answered_there lines number start f (Err e) at begins h k none = tt
-
-pub answered : (lines : List (List ℕ)) (number start : ℕ) (f : LineFacts) (r : Answer) (address : ℕ) (text : List ℕ) → line_at lines number ≡ Some f
-    → property_start f ≡ Some start → address ≡ f.address → text ≡ f.text
-    → IfOk r (λ read. IfOk read (IsStatedBy lines number start address text)) → IfOk r (λ read. IfErr read (StandsAt number text))
-    → IfOk r (λ read. IfErr read (λ fault. FoundNothing lines start address text)) → IfOk r (IsAnswer lines number)
-answered lines number start f r address text at begins d e h k none =
-    answered_there lines number start f r at begins
-    (subst (λ a. IfOk r (λ read. IfOk read (IsStatedBy lines number start a f.text))) d
-    (subst (λ t. IfOk r (λ read. IfOk read (IsStatedBy lines number start address t))) e h))
-    (subst (λ t. IfOk r (λ read. IfErr read (StandsAt number t))) e k)
-    (subst (λ a. IfOk r (λ read. IfErr read (λ fault. FoundNothing lines start a f.text))) d
-    (subst (λ t. IfOk r (λ read. IfErr read (λ fault. FoundNothing lines start address t))) e none))
+answered lines number start f (Err e) at begins h k none = tt
 
 pub refused : (lines : List (List ℕ)) (number start : ℕ) (f : LineFacts) (fault : PropertyFault) → line_at lines number ≡ Some f → property_start f ≡ Some start
     → StandsAt number f.text fault → MOST_PROPERTIES ≤ count_in lines (number - 1) → IsAnswer lines number (Err fault)
@@ -92,35 +80,20 @@ refused lines number start f fault at begins k many = (k.there, faulty lines num
 
 -- a line that isn't there, or states nothing
 pub no_line : (lines : List (List ℕ)) (number : ℕ) → None ≡ line_at lines number → (start : ℕ) (f : LineFacts) → States lines number start f → ⊥
-no_line lines number none start f on = nothing_is f (none ∙ on.there)
+no_line lines number none start f on = none-some f (none ∙ on.there)
 
 pub no_property : (lines : List (List ℕ)) (number : ℕ) (g : LineFacts) → Some g ≡ line_at lines number → None ≡ property_start g
     → (start : ℕ) (f : LineFacts) → States lines number start f → ⊥
 no_property lines number g there none start f on =
-    nothing_is start (none ∙ ap property_start (some_is g f (there ∙ on.there)) ∙ on.begins)
+    none-some start (none ∙ ap property_start (same_Some g f (there ∙ on.there)) ∙ on.begins)
 
 -- ---- over all lines
 
-left_true : (a b : Bool) → a ≡ true → (a || b) ≡ true
-left_true true b h = refl
-left_true false b h = absurd (cc)
-
-right_true : (a b : Bool) → b ≡ true → (a || b) ≡ true
-right_true true b h = refl
-right_true false b h = h
-
-either : (a b : Bool) → (a || b) ≡ true → (a ≡ true) ⊎ (b ≡ true)
-either true b h = inl refl
-either false b h = inr h
-
 any_before : {A : Type 0} (p : A → Bool) (xs : List A) (x : A) → list_any p xs ≡ true → list_any p (xs ++ x ∷ []) ≡ true
-any_before p xs x h = rw (list_any-append p xs (x ∷ [])) (left_true (list_any p xs) _ h)
+any_before p xs x h = rw (list_any-append p xs (x ∷ [])) (or_left (list_any p xs) _ h)
 
 any_last : {A : Type 0} (p : A → Bool) (xs : List A) (x : A) → p x ≡ true → list_any p (xs ++ x ∷ []) ≡ true
-any_last p xs x h = rw (list_any-append p xs (x ∷ [])) (right_true (list_any p xs) _ (left_true (p x) _ h))
-
-same_number : (n m : ℕ) → n ≡ m → (n == m) ≡ true
-same_number n m h = grind (arith, nat_tests)
+any_last p xs x h = rw (list_any-append p xs (x ∷ [])) (or_right (list_any p xs) _ (or_left (p x) _ h))
 
 abbrev pub Numbered : List Stated → List PropertyFault → ℕ → Type 0
 Numbered stated faults n = is_told stated faults n ≡ true
@@ -129,38 +102,23 @@ told_before : (lines : List (List ℕ)) (number : ℕ) (old new : Properties) (n
     → Numbered old.stated.items old.faults.items n → Numbered new.stated.items new.faults.items n
 told_before lines number old new n (nothing none s f) h = rw (s, f) h
 told_before lines number old new n (a_property {s = p} there is s f) h =
-    rw (s, f) (elim (either (list_any (λ q. q.line == n) old.stated.items) _ h) [
-      | inl w ↦ left_true _ _ (any_before (λ q. q.line == n) old.stated.items p w)
-      | inr w ↦ right_true _ _ w
+    rw (s, f) (elim (or_cases (list_any (λ q. q.line == n) old.stated.items) _ h) [
+      | inl w ↦ or_left _ _ (any_before (λ q. q.line == n) old.stated.items p w)
+      | inr w ↦ or_right _ _ w
     ])
 told_before lines number old new n (a_fault {fault = p} there is s f) h =
-    rw (s, f) (elim (either (list_any (λ q. q.line == n) old.stated.items) _ h) [
-      | inl w ↦ left_true _ _ w
-      | inr w ↦ right_true _ _ (any_before (λ q. q.line == n) old.faults.items p w)
+    rw (s, f) (elim (or_cases (list_any (λ q. q.line == n) old.stated.items) _ h) [
+      | inl w ↦ or_left _ _ w
+      | inr w ↦ or_right _ _ (any_before (λ q. q.line == n) old.faults.items p w)
     ])
 
 told_now : (lines : List (List ℕ)) (number : ℕ) (old new : Properties) → IsRead lines number old new
     → (start : ℕ) (f : LineFacts) → States lines number start f → Numbered new.stated.items new.faults.items number
 told_now lines number old new (nothing none s f) start g on = absurd (none start g on)
 told_now lines number old new (a_property {s = p} there is s f) start g on =
-    rw s (left_true _ _ (any_last (λ q. q.line == number) old.stated.items p (same_number p.line number there)))
+    rw s (or_left _ _ (any_last (λ q. q.line == number) old.stated.items p (eq-eqb p.line number there)))
 told_now lines number old new (a_fault {fault = p} there is s f) start g on =
-    rw f (right_true _ _ (any_last (λ q. q.line == number) old.faults.items p (same_number p.line number there)))
-
-less_or_same : (n m : ℕ) → n ≤ m + 1 → (n ≤ m) ⊎ (n ≡ m + 1)
-less_or_same zero m h = inl (omega arith)
-less_or_same (suc n) zero h = inr (omega arith)
-less_or_same (suc n) (suc m) h = elim (less_or_same n m (omega arith)) [ inl w ↦ inl (omega arith) | inr w ↦ inr (omega arith) ]
-
-all_one : {A : Type 0} (P : A → Type 0) (x : A) → P x → All P (x ∷ [])
-all_one P x h zero d low = h
-all_one P x h (suc k) d low = absurd (omega arith)
-
-all_put : {A : Type 0} (P : A → Type 0) (xs : List A) (x : A) → All P xs → P x → All P (xs ++ x ∷ [])
-all_put P xs x h p = All-append P xs (x ∷ []) h (all_one P x p)
-
-all_none : {A : Type 0} (P : A → Type 0) → All P []
-all_none P k d low = absurd (omega arith)
+    rw f (or_right _ _ (any_last (λ q. q.line == number) old.faults.items p (eq-eqb p.line number there)))
 
 -- of the first lines, so many
 pub record UpTo (lines : List (List ℕ)) (count : ℕ) (found : Properties) : Type 0 where
@@ -235,51 +193,46 @@ counted_now lines number old new (a_fault {fault = p} there is s f) =
 stated_on : (lines : List (List ℕ)) (number : ℕ) (old new : Properties) → IsRead lines number old new → All (IsStatedOn lines) old.stated.items
     → All (IsStatedOn lines) new.stated.items
 stated_on lines number old new (nothing none s f) h = rw s h
-stated_on lines number old new (a_property {s = p} there is s f) h = rw s (all_put (IsStatedOn lines) old.stated.items p h is)
+stated_on lines number old new (a_property {s = p} there is s f) h = rw s (All-push (IsStatedOn lines) old.stated.items p h is)
 stated_on lines number old new (a_fault there is s f) h = rw s h
 
 faults_on : (lines : List (List ℕ)) (number : ℕ) (old new : Properties) → IsRead lines number old new → All (StandsOn lines) old.faults.items
     → All (StandsOn lines) new.faults.items
 faults_on lines number old new (nothing none s f) h = rw f h
 faults_on lines number old new (a_property there is s f) h = rw f h
-faults_on lines number old new (a_fault {fault = p} there is s f) h = rw f (all_put (StandsOn lines) old.faults.items p h is)
+faults_on lines number old new (a_fault {fault = p} there is s f) h = rw f (All-push (StandsOn lines) old.faults.items p h is)
 
 pub up_to_more : (lines : List (List ℕ)) (count : ℕ) (old new : Properties) → UpTo lines count old → IsRead lines (count + 1) old new
     → UpTo lines (count + 1) new
 up_to_more lines count old new so more = record {
   stated = stated_on lines (count + 1) old new more so.stated;
   faults = faults_on lines (count + 1) old new more so.faults;
-  told = λ n start f low on. elim (less_or_same n count low) [
-    | inl w ↦ told_before lines (count + 1) old new n more (so.told n start f w on)
-    | inr w ↦ subst (λ k. Numbered new.stated.items new.faults.items k) (sym w) (told_now lines (count + 1) old new more start f (subst (λ k. States lines k start f) w on))
+  told = λ n start f low on. elim (cases_lt count n) [
+    | inl w ↦ let now : n ≡ count + 1 = omega arith in rw now (told_now lines (count + 1) old new more start f (rw now at on))
+    | inr w ↦ told_before lines (count + 1) old new n more (so.told n start f w on)
   ];
   counted = omega (arith, counted_now lines (count + 1) old new more, so.counted, count_more lines count);
 }
 
 pub none_yet : (lines : List (List ℕ)) (new : Properties) → new.stated.items ≡ [] → new.faults.items ≡ [] → UpTo lines 0 new
 none_yet lines new s f = record {
-  stated = rw s (all_none (IsStatedOn lines));
-  faults = rw f (all_none (StandsOn lines));
+  stated = rw s (All-nil (IsStatedOn lines));
+  faults = rw f (All-nil (StandsOn lines));
   told = λ n start g low on. absurd (no_line_0 lines n start g low on);
   counted = rw (s, f) refl;
 }
   where
     no_line_0 : (lines : List (List ℕ)) (n start : ℕ) (f : LineFacts) → n ≤ 0 → States lines n start f → ⊥
-    no_line_0 lines zero start f low on = nothing_is f on.there
+    no_line_0 lines zero start f low on = none-some f on.there
     no_line_0 lines (suc n) start f low on = omega arith
-
-get_low : {A : Type 0} (xs : List A) (i : ℕ) (x : A) → slice_get xs i ≡ Some x → i < length xs
-get_low [] i x h = absurd (nothing_is x h)
-get_low (y ∷ xs) zero x h = omega arith
-get_low (y ∷ xs) (suc i) x h = let low = get_low xs i x h in omega arith
 
 -- a line that is there is one of them
 line_low : (lines : List (List ℕ)) (n : ℕ) (f : LineFacts) → line_at lines n ≡ Some f → n ≤ length (line_facts lines)
 line_low lines n f h = by_test (nat_eq n 0) h
   where
     by_test : (b : Bool) → (if b then None else slice_get (line_facts lines) (n - 1)) ≡ Some f → n ≤ length (line_facts lines)
-    by_test true h = absurd (nothing_is f h)
-    by_test false h = let low = get_low (line_facts lines) (n - 1) f h in omega arith
+    by_test true h = absurd (none-some f h)
+    by_test false h = let low = slice_get_within (line_facts lines) (n - 1) f h in omega arith
 
 pub all_told : (lines : List (List ℕ)) (count : ℕ) (new : Properties) → length (line_facts lines) ≤ count → UpTo lines count new → AreProperties lines new
 all_told lines count new many so = record {

@@ -115,14 +115,14 @@ fn misplaced(tokens: &[Lexeme], found: Found) -> Found {
 /// A fault at the first of some tokens that is a name without a value.
 fn undefined(source: &Source, tokens: &[Lexeme], found: Found) -> Found {
     for index in found.first..found.end.min(tokens.len()) {
-        if let Lexeme::Word(word) = &tokens[index] {
-            if source.symbol(word.get()).is_none() {
-                let code = match word.get() == b"DRAWS".as_slice() {
-                    true => FaultCode::NotAsked,
-                    false => FaultCode::UndefinedName,
-                };
-                return Found::at(code, index);
-            }
+        if let Lexeme::Word(word) = &tokens[index]
+            && source.symbol(word.get()).is_none()
+        {
+            let code = match word.get() == b"DRAWS".as_slice() {
+                true => FaultCode::NotAsked,
+                false => FaultCode::UndefinedName,
+            };
+            return Found::at(code, index);
         }
     }
     found
@@ -181,10 +181,8 @@ fn help_for(reader: &Reader<'_>, tokens: &[Lexeme], found: Found) -> Result<Vec<
 
 /// What helps where a token can't stand after those before it, or nothing.
 fn help_at(token: &Lexeme, before: &[Lexeme]) -> &'static [u8] {
-    let follows = |sign: u8| match before.last() {
-        Some(last) => is_sign_of(sign, last),
-        None => false,
-    };
+    let last = before.last();
+    let follows = |sign: u8| last.is_some_and(|last| is_sign_of(sign, last));
     match token {
         Lexeme::Sign(b'=') if follows(b'=') => b"write = for equal",
         Lexeme::Sign(b'<') if follows(b'=') => b"write <=",
@@ -213,10 +211,7 @@ fn has_relation(tokens: &[Lexeme]) -> bool {
 
 /// What helps where a word can't stand after the tokens before it, or nothing.
 fn help_at_word(word: &[u8], before: &[Lexeme]) -> &'static [u8] {
-    let follows_at = match before.last() {
-        Some(last) => is_the(b"AT", last),
-        None => false,
-    };
+    let follows_at = before.last().is_some_and(|last| is_the(b"AT", last));
     if word == b"AND".as_slice() || word == b"OR".as_slice() {
         b"a condition has and alone, or or alone: write two properties"
     } else if word == b"HERE".as_slice() && follows_at {

@@ -78,13 +78,17 @@ pub record Moves (p : Setting) (executed : List Bool) (forgotten : ℕ) (s : Sta
 abbrev pub forgotten_at : View → ℕ → ℕ
 forgotten_at v place = slice_index v.forgotten place
 
-pub record Joins (p : Setting) (v : View) (forgotten : ℕ) (s : State) (t : ℕ) : Type 0 where
-  pub place : ℕ
+-- the place holds a state like this one, with the ticks as at this step
+pub record IsAt (p : Setting) (v : View) (place forgotten : ℕ) (s : State) (t : ℕ) : Type 0 where
   pub kept : place < length v.steps
-  pub early : slice_index v.steps place ≤ t
   pub phased : phase p (slice_index v.steps place) ≡ phase p t
   pub within : AreWithin forgotten (forgotten_at v place)
   pub alike : Alike (forgotten_at v place) (v.member place) s
+
+pub record Joins (p : Setting) (v : View) (forgotten : ℕ) (s : State) (t : ℕ) : Type 0 where
+  pub place : ℕ
+  pub early : slice_index v.steps place ≤ t
+  pub at : IsAt p v place forgotten s t
 
 abbrev pub Ends : Setting → View → (forgotten : ℕ) → State → ℕ → Type 0
 Ends p v forgotten s t =
@@ -230,24 +234,19 @@ abbrev pub HasWays : (p : Setting) (forgotten : ℕ) (s : State) → Ways → Ty
 HasWays p forgotten s (Keys choices) = HasChoices p forgotten s choices
 HasWays p forgotten s (Values read) = HasValues p forgotten s read
 
--- the place holds a state like this one, with the ticks as at this step
-pub record IsAt (p : Setting) (m : Members) (place forgotten : ℕ) (s : State) (t : ℕ) : Type 0 where
-  pub kept : place < length m.steps.items
-  pub phased : phase p (slice_index m.steps.items place) ≡ phase p t
-  pub within : AreWithin forgotten (forgotten_at (view_of m) place)
-  pub alike : Alike (forgotten_at (view_of m) place) ((view_of m).member place) s
+-- where a step of a state that is kept leads, in a later view
+abbrev pub LeadsBy : (next : State → State) → Setting → (m n : Members) → (place step : ℕ) → Type 0
+LeadsBy next p m n place step =
+    GoesTo p (view_of n) (forgotten_at (view_of m) place) ((view_of m).member place)
+    (next ((view_of m).member place)) step
 
--- where a step of a state that is kept leads with some keys down, in a later view
+-- with some keys down
 abbrev pub Leads : Setting → (m n : Members) → (place step keys : ℕ) → Type 0
-Leads p m n place step keys =
-    GoesTo p (view_of n) (forgotten_at (view_of m) place) ((view_of m).member place)
-    (step_of ((view_of m).member place) keys (tick_at p step)) step
+Leads p m n place step keys = LeadsBy (λ s. step_of s keys (tick_at p step)) p m n place step
 
--- likewise where it sets a register to a value of the delay timer
+-- where it sets a register to a value of the delay timer
 abbrev pub LeadsAs : Setting → (m n : Members) → (place step value : ℕ) → Type 0
-LeadsAs p m n place step value =
-    GoesTo p (view_of n) (forgotten_at (view_of m) place) ((view_of m).member place)
-    (read_as value ((view_of m).member place)) step
+LeadsAs p m n place step value = LeadsBy (read_as value) p m n place step
 
 -- why some steps in a row ended at a state
 abbrev pub IsEnd : Setting → List Bool → (limit forgotten : ℕ) → State → ℕ → End → Type 0

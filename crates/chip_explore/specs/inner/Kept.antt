@@ -7,9 +7,8 @@
 --     state_with      the state that a base has with some parts, and the bytes and the rows of a
 --                     backdrop
 --     state_of        likewise with the parts, the bytes and the rows of one that is kept
---     nth             the item at a place, if there is one
 --     state_at        the state that is kept at a place, or that of the base where there is none
-use Rattle.std.specs.Prelude.{ℕ, zero, suc, ◌+◌, ◌*◌, ◌^◌, nat_lt, List, [], ◌∷◌, Option, Some, None, fold, length, slice_set, if◌then◌else◌}
+use Rattle.std.specs.Prelude.{ℕ, ◌+◌, ◌*◌, ◌^◌, nat_lt, List, Option, Some, None, fold, length, slice_get, slice_set, if◌then◌else◌}
 use Rattle.chip_machine.specs.Limits.{MEMORY_BYTES}
 use Rattle.chip_machine.specs.Restored.{with_parts, with_screen}
 use Rattle.chip_machine.specs.State.{State, with_memory}
@@ -61,14 +60,9 @@ state_with parts base backdrop =
 abbrev pub state_of : Base → Kept → State
 state_of base kept = state_with (parts_of kept) base kept.backdrop.value
 
-abbrev pub nth : List Kept → ℕ → Option Kept
-nth [] j = None
-nth (kept ∷ rest) zero = Some kept
-nth (kept ∷ rest) (suc j) = nth rest j
-
 abbrev pub state_by : Base → Option Kept → State
 state_by base None = base.machine
 state_by base (Some kept) = state_of base kept
 
 abbrev pub state_at : Base → List Kept → ℕ → State
-state_at base states j = state_by base (nth states j)
+state_at base states j = state_by base (slice_get states j)

@@ -7,17 +7,16 @@
 --     IsRanked        so it is from a state that is kept, with its own rank
 --     IsOpen          a state whose step tells no values of the delay timer apart
 --     IsWay           what is known where some steps with no keys down end
-use Rattle.std.specs.Prelude.{◌≡◌, ℕ, zero, suc, ◌+◌, ◌-◌, ◌^◌, ◌<◌, ◌≤◌, ◌⊎◌, List, None, false, true, is_some, length, slice_index}
+use Rattle.std.specs.Prelude.{◌≡◌, ℕ, zero, suc, ◌+◌, ◌-◌, ◌^◌, ◌<◌, ◌≤◌, ◌⊎◌, List, None, false, true, is_some, slice_index}
 use Rattle.chip_machine.specs.Choices.{IsWithin}
-use Rattle.chip_machine.specs.Forgotten.{AreWithin, IsUnneeded, IsForgottenAfter}
-use Rattle.chip_machine.specs.Relevant.{Alike}
+use Rattle.chip_machine.specs.Forgotten.{IsUnneeded, IsForgottenAfter}
 use Rattle.chip_machine.specs.State.{State}
 use Rattle.chip_machine.specs.Step.{step_of}
 use Rattle.chip_explore.specs.declared.climb.Way.{Way}
 use Rattle.chip_explore.specs.declared.climb.Way.TheVariants.{AtGoals, Joined, Lost}
 use Rattle.chip_explore.specs.declared.limits.TheConstants.{MOST_QUIET_STEPS}
 use Rattle.chip_explore.specs.declared.setting.Setting.{Setting}
-use Rattle.chip_explore.specs.inner.Cover.{forgotten_at, meets_goals, phase, tick_at, View}
+use Rattle.chip_explore.specs.inner.Cover.{forgotten_at, meets_goals, tick_at, IsAt, View}
 use Rattle.chip_explore.specs.inner.Delays.{timed_register}
 use Rattle.chip_explore.specs.inner.Known.{are_known}
 
@@ -31,10 +30,7 @@ pub record IsAtGoals (p : Setting) (forgotten : ℕ) (s : State) : Type 0 where
 
 pub record Falls (p : Setting) (v : View) (ranks : List ℕ) (rank forgotten : ℕ) (s : State) (t : ℕ) : Type 0 where
   pub place : ℕ
-  pub kept : place < length v.steps
-  pub phased : phase p (slice_index v.steps place) ≡ phase p t
-  pub within : AreWithin forgotten (forgotten_at v place)
-  pub alike : Alike (forgotten_at v place) (v.member place) s
+  pub at : IsAt p v place forgotten s t
   pub less : rank_at ranks place < rank
 
 abbrev pub Arrives : Setting → View → (ranks : List ℕ) → (rank forgotten : ℕ) → State → ℕ → Type 0

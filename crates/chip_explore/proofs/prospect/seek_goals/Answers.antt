@@ -1,8 +1,4 @@
-use Rattle.std.proofs.Common.{◌≡◌, ◌≢◌, ◌==◌, ℕ, List, [], length, true, ap, sym, subst, ◌∙◌}
-use Rattle.chip_machine.specs.Step.{step_of}
-use Rattle.chip_replay.specs.Run.{run}
-use Rattle.chip_explore.specs.Prospects.{are_met}
-use Rattle.chip_explore.specs.Scripts.{IsScript}
+use Rattle.std.proofs.Common.{◌≡◌, ◌≢◌, ◌==◌, List, [], length, true, ap, sym, ◌∙◌}
 use Rattle.chip_explore.specs.declared.property.Property.{Property}
 use Rattle.chip_explore.specs.declared.target.Target.{Target}
 use Rattle.chip_explore.proofs.Lost.{lost_from}
@@ -22,9 +18,5 @@ returns g c = λ yes start keys fresh script there t after below.
     let allowed : q.allowed ≡ p.allowed = like.same.allowed ∙ sought.allowed in
     let properties : q.target.properties.now ≡ p.goals.now = ap (λ (t : Target). t.properties.now) like.same.target ∙ sought.target in
     let some : q.target.properties.now ≢ [] = λ none. let empty : p.goals.now ≡ [] = sym properties ∙ none in let yes : c.is_empty.result ≡ true = c.is_empty.ensures ∙ ap (λ (goals : List Property). length goals == 0) empty in let no = c.if-is_empty.false in absurd (cc) in
-    ap (λ (r : ℕ). are_met p.goals.now (run step_of r keys start t)) (sym rate)
-    ∙ ap (λ (goals : List Property). are_met goals (run step_of q.rate keys start t)) (sym properties)
-    ∙ lost_from law.alike law.draws q m base first like.searched (c.is_whole.ensures yes) c.requires.going
-    (ap (λ (t : Target). t.address) like.same.target ∙ sought.address) some start keys fresh
-    (subst (λ (a : ℕ). IsScript a keys) (sym allowed) script)
-    (ap (λ (r : ℕ). run step_of r keys start first) rate ∙ there) t after below
+    rw (← rate, ← properties) (lost_from law.alike law.draws q m base first like.searched (c.is_whole.ensures yes) c.requires.going
+    (ap (λ (t : Target). t.address) like.same.target ∙ sought.address) some start keys fresh (rw allowed script) (rw rate there) t after below)

@@ -3,8 +3,9 @@ use Rattle.chip_properties.proofs.properties.property_on.Goals as goal
 
 pub returns-then-has_room : goal.returns-then-has_room
 returns-then-has_room c =
-    answered c.args.source.now.lines c.args.number c.args.start c.args.line.now c.read.result c.address.result c.text.result.now
-    c.requires.there c.requires.begins c.address.ensures.value c.text.ensures c.read.ensures.stated c.read.ensures.stands c.read.ensures.refused
+    answered c.args.source.now.lines c.args.number c.args.start c.args.line.now c.read.result c.requires.there c.requires.begins
+    (rw (c.address.ensures.value, c.text.ensures) at c.read.ensures.stated) (rw c.text.ensures at c.read.ensures.stands)
+    (rw (c.address.ensures.value, c.text.ensures) at c.read.ensures.refused)
 
 pub returns : goal.returns
 returns c =

@@ -2,8 +2,6 @@ use Rattle.std.proofs.Common.{rules, ◌≡◌, ◌<◌, ℕ, List, Bool, cond, 
 use Rattle.std.proofs.lemmas.List.{get_or_append_left, length-append}
 use Rattle.std.proofs.Math.Seq.{get_or-append_seam}
 use Rattle.chip_machine.specs.Forgotten.{AreWithin}
-use Rattle.chip_machine.specs.Relevant.{Alike}
-use Rattle.chip_machine.specs.State.{State}
 use Rattle.chip_explore.specs.declared.kept.Kept.{Kept}
 use Rattle.chip_explore.specs.inner.Kept.{state_at}
 use Rattle.chip_explore.specs.inner.Cover.{phase}
@@ -75,13 +73,12 @@ returns c =
       joins = λ _.
           record {
             place = length m.steps.items;
-            kept = omega arith;
             early = omega arith;
-            phased = ap (phase p) last;
-            within = subst (λ (f : ℕ). AreWithin c.args.parts f) (sym parts) (record { parts = λ part h. h; bytes = λ at h. h });
-            alike =
-                subst (λ (f : ℕ). Alike f (state_at m.base c.push.new.self.items (length m.steps.items)) c.args.machine.now) (sym parts)
-                (subst (λ (s : State). Alike c.args.parts s c.args.machine.now) (sym member)
-                (alike_within 0 _ _ (c.in_ok-is_same.ensures (search rules)) c.args.parts (all_within c.args.parts)));
+            at = record {
+              kept = omega arith;
+              phased = ap (phase p) last;
+              within = subst (λ (f : ℕ). AreWithin c.args.parts f) (sym parts) (record { parts = λ part h. h; bytes = λ at h. h });
+              alike = rw (parts, member) (alike_within 0 _ _ (c.in_ok-is_same.ensures (search rules)) c.args.parts (all_within c.args.parts));
+            };
           };
     }

@@ -1,7 +1,7 @@
 use Rattle.std.proofs.Common.{◌≡◌, ◌≢◌, ◌<◌, ℕ, false, true, refl, sym, subst, inl, inr, ⊎_elim, arith, ◌∙◌, length, get_or}
 use Rattle.std.proofs.lemmas.List.{length-set}
 use Rattle.chip_explore.specs.inner.Cover.{IsTaken, view_of}
-use Rattle.chip_explore.proofs.Growth.{closed_set, extends_same, goes}
+use Rattle.chip_explore.proofs.Growth.{closed_set, extends_as, goes}
 use Rattle.chip_explore.proofs.members.Members.close.Goals as goal
 
 pub returns-clause-goes : goal.returns-clause-goes
@@ -12,7 +12,7 @@ returns-clause-goes c =
     let kept = c.requires.there.kept in
     let count = c.requires.there.holds.closed in
     let inside : place < length m.closed.items = omega arith in
-    goes p m _ c.requires.there.holds refl (extends_same p (view_of m))
+    goes p m _ c.requires.there.holds refl (extends_as p m m.limit m.executed (omega arith) (λ pc h. h))
     c.requires.there.holds.states
     c.requires.there.holds.forgotten
     (length-set m.closed.items place true ∙ count)

@@ -1,6 +1,7 @@
 use Rattle.std.proofs.Common.{rules, arith, below_more}
 use Rattle.chip_explore.specs.inner.Cover.{LeadsAs}
-use Rattle.chip_explore.proofs.Growth.{goes_up_to, has_values_in, reads_after, reads_before}
+use Rattle.chip_explore.specs.inner.Delays.{read_as}
+use Rattle.chip_explore.proofs.Growth.{goes_up_to, has_values_in, leads_after, leads_before}
 use Rattle.chip_explore.proofs.search.Search.follow_values.Goals as goal
 
 pub follow_as-requires-clause-reads : goal.follow_as-requires-clause-reads
@@ -22,8 +23,8 @@ loop-value-preserved c =
       grows = goes_up_to p l m n _ before.grows.goes told.adds.goes (omega arith);
       leads =
           below_more (λ value. LeadsAs p l n place step value) c.loop-value.value
-          (λ value below. reads_after p l m n told.adds.goes place step value (before.leads value below))
-          (reads_before p l m n before.grows.goes place step c.loop-value.value c.requires.there.kept (told.leads (search rules)));
+          (λ value below. leads_after (read_as value) p l m n told.adds.goes place step (before.leads value below))
+          (leads_before (read_as c.loop-value.value) p l m n before.grows.goes place step c.requires.there.kept (told.leads (search rules)));
     }
 
 pub returns-then-len-most_states-clause-grows : goal.returns-then-len-most_states-clause-grows

@@ -1,7 +1,7 @@
 use Rattle.std.proofs.Common.{rules, ◌≡◌, Result, Ok, Err, OnOk, ap, arith, inr, subst}
 use Rattle.chip_explore.specs.declared.members.Members.{Members}
-use Rattle.chip_explore.specs.inner.Cover.{Adds}
-use Rattle.chip_explore.proofs.Growth.{goes_up_to, joins_at, joins_lowered}
+use Rattle.chip_explore.specs.inner.Cover.{Adds, view_of}
+use Rattle.chip_explore.proofs.Growth.{goes_up_to, still_at}
 use Rattle.chip_explore.proofs.search.Search.join_erased.Goals as goal
 use Rattle.chip_explore.proofs.search.Search.join_erased.Goals.{in_default-via-in-None-1, in_default-via-in-Some+in_ok-is_at+else-branch}
 
@@ -12,12 +12,15 @@ whatever (Err error) holds = tt
 pub returns-then-step-before-clause-joins : goal.returns-then-step-before-clause-joins
 returns-then-step-before-clause-joins c =
     whatever c.note_earlier.result
-    (inr (joins_lowered c.args.setting.now c.args.self.now.members c.lower.new.self c.lower.ensures.goes c.in-Some.place c.args.parts c.args.self.now.runner.machine c.args.step
-    (c.in_ok-is_at.ensures (search rules)) c.lower.ensures.step))
+    (inr (record {
+      place = c.in-Some.place;
+      early = omega (arith, c.lower.ensures.step);
+      at = still_at c.args.setting.now (view_of c.args.self.now.members) (view_of c.lower.new.self) c.lower.ensures.goes.extends _ _ _ _ (c.in_ok-is_at.ensures (search rules));
+    }))
 
 pub returns-clause-joins : goal.returns-clause-joins
 returns-clause-joins c =
-    inr (joins_at c.args.setting.now c.args.self.now.members c.in-Some.place c.args.parts c.args.self.now.runner.machine c.args.step (c.in_ok-is_at.ensures (search rules)) (omega arith))
+    inr (record { place = c.in-Some.place; early = omega arith; at = c.in_ok-is_at.ensures (search rules) })
 
 pub returns-2-clause-joins : goal.returns-2-clause-joins
 returns-2-clause-joins c = whatever c.note.result (inr (c.in_ok-add.ensures.joins (search rules)))
