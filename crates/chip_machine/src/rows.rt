@@ -456,9 +456,11 @@ impl Processor {
             memory.new result }
     {
         let value = self.reg(x);
-        let digits = [value / 100, value / 10 % 10, value % 10];
-        store(memory, self.index(), &digits)?;
-        let span = Span::new(self.index(), digits.len());
+        let tens = value / 10;
+        let digits = [tens / 10, tens % 10, value % 10];
+        let at = self.index();
+        store(memory, at, &digits)?;
+        let span = Span::new(at, digits.len());
         self.advance();
         Ok(span)
     }
