@@ -524,9 +524,6 @@ exchanged old new edit first here m =
 pub readings-set : (lines : List KeptLine) (at : ℕ) (added : KeptLine) → readings_in (set lines at added) ≡ set (readings_in lines) at (reading_in added)
 readings-set lines at added = map-set reading_in lines at added
 
-pub count-texts : (lines : List KeptLine) (texts : List (List ℕ)) → texts_in lines ≡ texts → length lines ≡ length texts
-count-texts lines texts e = sym (length-map lines (λ (k : KeptLine). k.text)) ∙ ap length e
-
 -- an insertion that isn't refused has room
 pub has-room : (count number : ℕ) (text : List ℕ) → insert_refusal count number text ≡ None → count < MOST_LINES
 has-room count number text h = grind (arith, nat_tests)

@@ -27,9 +27,6 @@ use Rattle.chip_asm.specs.Program.{is_unclosed}
 
 -- places of a list with one element more
 
-at-left : {A : Type 0} (xs ys : List A) (k : ℕ) (x : A) → slice_get xs k ≡ Some x → slice_get (xs ++ ys) k ≡ Some x
-at-left xs ys k x h = grind (arith, gets, slice_get_cases, get_or_append_left, length-append)
-
 pub at-end : {A : Type 0} (xs ys : List A) (x : A) → slice_get (xs ++ x ∷ ys) (length xs) ≡ Some x
 at-end [] ys x = refl
 at-end (z ∷ xs) ys x = at-end xs ys x

@@ -3,6 +3,7 @@ pub mod Constants
 pub mod Data
 pub mod Decoding
 pub mod Digits
+pub mod Numbered
 pub mod Numbers
 pub mod OneForm
 pub mod OneWord

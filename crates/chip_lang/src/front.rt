@@ -26,6 +26,7 @@ fn prefix_of(sign: u8) -> Option<Prefix>
     }
 }
 
+#[inline(always)]
 fn operator_of(sign: u8) -> Option<Operator>
     ensures { result ≡ operator_of sign }
 {
@@ -46,6 +47,7 @@ fn operator_of(sign: u8) -> Option<Operator>
 // Above the level of each operator.
 const NO_LEVEL: u32 = 8;
 
+#[inline(always)]
 fn level_of(operator: Operator) -> u32
     ensures { result ≡ level_of operator }
 {

@@ -32,12 +32,18 @@ impl Drop for Lexeme {
     }
 }
 
+/// Room for the tokens of most lines of so many bytes: a line that is longer than most may hold a long
+/// expression.
+fn usual_tokens(bytes: usize) -> usize {
+    if bytes < 64 { USUAL_TOKENS } else { 64 }
+}
+
 /// The tokens of a line with what they hold.
 #[inline(always)]
 pub fn lexemes(alloc: Global, line: &[u8]) -> Result<Vec<Lexeme>, AllocError>
     ensures { IfOk result (λ lexemes. lexemes.items ≡ lexemes_of line.now) }
 {
-    let mut lexemes = Vec::with_capacity(alloc, USUAL_TOKENS)?;
+    let mut lexemes = Vec::with_capacity(alloc, usual_tokens(line.len()))?;
     let mut place = 0;
     while let Some(token) = token_from(line, place) {
         let lexeme = lexeme_of(alloc, line, token)?;

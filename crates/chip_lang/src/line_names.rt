@@ -7,12 +7,11 @@ ghost use Rattle.chip_lang.specs.SeenLine.{seen_line};
 ghost use Rattle.chip_lang.specs.Tree.{tree_of};
 ghost use Rattle.chip_lang.specs.Operand.{operand_of};
 ghost use Rattle.chip_lang.specs.Uses.{names_in, names_in_operand, names_used, name_defined};
-ghost use Rattle.chip_lang.specs.inner.Postfix.{names_of};
 
 use crate::expr::Expr;
 use crate::form::Operand;
 use crate::line::{Body, Line};
-use crate::postfix::Item;
+use crate::short_bytes::ShortBytes;
 use std::marker::Model;
 use std::slice;
 
@@ -43,7 +42,7 @@ pub fn used_names(line: &Line) -> UsedNames<'_>
             }
             Body::Db(exprs) | Body::Dw(exprs) => UsedNames::of_exprs(exprs),
             Body::Code(_, operands) => UsedNames {
-                items: &[],
+                names: &[],
                 exprs: &[],
                 operands,
             },
@@ -68,7 +67,7 @@ pub fn uses(line: &Line, place: usize) -> Option<&[u8]>
 /// Names that are left of those in the expressions of a line, left to right.
 #[derive(Drop)]
 pub struct UsedNames<'a> {
-    items: &'a [Item],
+    names: &'a [ShortBytes],
     exprs: &'a [Expr],
     operands: &'a [Operand],
 }
@@ -79,13 +78,12 @@ impl<'a> Model for UsedNames<'a> {
     ghost use Rattle.chip_lang.specs.Tree.{tree_of};
     ghost use Rattle.chip_lang.specs.Operand.{operand_of};
     ghost use Rattle.chip_lang.specs.Uses.{names_in, names_in_operand};
-    ghost use Rattle.chip_lang.specs.inner.Postfix.{names_of};
 
     ghost Value = { List (List ℕ) };
 
-    ghost view = { λ names. names_of names.items.now
-        ++ (flat_map names_in (map tree_of names.exprs.now)
-        ++ flat_map names_in_operand (map operand_of names.operands.now)) };
+    ghost view = { λ left. left.names.now
+        ++ (flat_map names_in (map tree_of left.exprs.now)
+        ++ flat_map names_in_operand (map operand_of left.operands.now)) };
 }
 
 impl<'a> UsedNames<'a> {
@@ -93,7 +91,7 @@ impl<'a> UsedNames<'a> {
         ensures { result ≡ flat_map names_in (map tree_of exprs.now) }
     {
         UsedNames {
-            items: &[],
+            names: &[],
             exprs,
             operands: &[],
         }
@@ -105,85 +103,72 @@ impl<'a> UsedNames<'a> {
         ensures next { option_copied result ≡ slice_get self.old 0 }
         ensures rest { self.new ≡ drop 1 self.old }
     {
-        if let Some((name, items)) = name_in_items(self.items) {
-            self.items = items;
-            return Some(name);
+        if let Some((name, names)) = self.names.split_first() {
+            self.names = names;
+            return Some(name.get());
         }
-        if let Some((name, items, exprs)) = name_in_each(self.exprs) {
-            self.items = items;
+        if let Some((name, names, exprs)) = name_in_each(self.exprs) {
+            self.names = names;
             self.exprs = exprs;
             return Some(name);
         }
-        let (name, items, operands) = name_in_operands(self.operands)?;
-        self.items = items;
+        let (name, names, operands) = name_in_operands(self.operands)?;
+        self.names = names;
         self.exprs = &[];
         self.operands = operands;
         Some(name)
     }
 }
 
-/// The first name in expressions, the items after it, and the expressions after those.
+/// The first name in expressions, those after it in the same one, and the expressions after that.
 #[tactic(auto, using(crate::proofs::NamesUsed::names_left))]
-fn name_in_each(exprs: &[Expr]) -> Option<(&[u8], &[Item], &[Expr])>
+fn name_in_each(exprs: &[Expr]) -> Option<(&[u8], &[ShortBytes], &[Expr])>
     ensures { MatchOption result (flat_map names_in (map tree_of exprs.now) ≡ [])
         (λ found. flat_map names_in (map tree_of exprs.now) ≡ found.0.now
-        ∷ (names_of found.1.now ++ flat_map names_in (map tree_of found.2.now))) }
+        ∷ (found.1.now ++ flat_map names_in (map tree_of found.2.now))) }
 {
     let mut rest = exprs;
     while let Some((expr, after)) = rest.split_first() {
-        if let Some((name, items)) = name_in(expr) {
-            return Some((name, items, after));
+        if let Some((name, names)) = name_in(expr) {
+            return Some((name, names, after));
         }
         rest = after;
     }
     None
 }
 
-/// The first name in operands, the items after it, and the operands after those.
+/// The first name in operands, those after it in the same one, and the operands after that.
 #[tactic(auto, using(crate::proofs::NamesUsed::names_left))]
-fn name_in_operands(operands: &[Operand]) -> Option<(&[u8], &[Item], &[Operand])>
+fn name_in_operands(operands: &[Operand]) -> Option<(&[u8], &[ShortBytes], &[Operand])>
     ensures { MatchOption result
         (flat_map names_in_operand (map operand_of operands.now) ≡ [])
         (λ found. flat_map names_in_operand (map operand_of operands.now) ≡ found.0.now
-        ∷ (names_of found.1.now
+        ∷ (found.1.now
         ++ flat_map names_in_operand (map operand_of found.2.now))) }
 {
     let mut rest = operands;
     while let Some((operand, after)) = rest.split_first() {
         if let Operand::Value(expr) = operand
-            && let Some((name, items)) = name_in(expr)
+            && let Some((name, names)) = name_in(expr)
         {
-            return Some((name, items, after));
+            return Some((name, names, after));
         }
         rest = after;
     }
     None
 }
 
-/// The first name in an expression, and the items after it.
-fn name_in(expr: &Expr) -> Option<(&[u8], &[Item])>
+/// The first name in an expression, and those after it.
+fn name_in(expr: &Expr) -> Option<(&[u8], &[ShortBytes])>
     ensures { MatchOption result (names_in (tree_of expr.now) ≡ [])
-        (λ found. names_in (tree_of expr.now) ≡ found.0.now ∷ names_of found.1.now) }
+        (λ found. names_in (tree_of expr.now) ≡ found.0.now ∷ found.1.now) }
 {
     match expr {
         Expr::Number(_) => None,
         Expr::Name(name) => Some((name.get(), &[])),
-        Expr::Compound(compound) => name_in_items(compound.items()),
-    }
-}
-
-/// The first name among items, and the items after it.
-#[tactic(auto, using(crate::proofs::NamesUsed::names_left))]
-fn name_in_items(items: &[Item]) -> Option<(&[u8], &[Item])>
-    ensures { MatchOption result (names_of items.now ≡ [])
-        (λ found. names_of items.now ≡ found.0.now ∷ names_of found.1.now) }
-{
-    let mut rest = items;
-    while let Some((item, after)) = rest.split_first() {
-        if let Some(name) = item.name() {
-            return Some((name, after));
+        Expr::Compound(compound) => {
+            let (name, names) = compound.parts().1.split_first()?;
+            Some((name.get(), names))
         }
-        rest = after;
     }
-    None
 }

@@ -28,13 +28,16 @@ fn piece_length(tokens: &[Lexeme]) -> usize
     tokens.len()
 }
 
-/// How many pieces between commas some tokens are.
-fn piece_count(tokens: &[Lexeme]) -> usize {
-    tokens
-        .iter()
-        .filter(|token| is_sign_of(b',', token))
-        .count()
-        .saturating_add(1)
+/// How many pieces a first one and the tokens after its comma are.
+fn piece_count(more: Option<&[Lexeme]>) -> usize {
+    match more {
+        Some(tokens) => tokens
+            .iter()
+            .filter(|token| is_sign_of(b',', token))
+            .count()
+            .saturating_add(2),
+        None => 1,
+    }
 }
 
 // No instruction takes more operands, so that most lines need no more room.
@@ -64,13 +67,16 @@ pub(crate) fn values_of(alloc: Global, tokens: &[Lexeme]) -> Result<Option<Vec<E
     ensures { IfOk result (λ found. option_map (λ values. map tree_of values.items) found
         ≡ listed_values tokens.now) }
 {
-    let mut values = Vec::with_capacity(alloc, piece_count(tokens))?;
+    let mut values = Vec::new(alloc);
     let mut rest = Some(tokens);
     while let Some(tokens) = rest {
         let (piece, more) = first_piece(tokens);
         let Some(value) = parse_expression(alloc, piece)? else {
             return Ok(None);
         };
+        if values.is_empty() {
+            values.reserve_exact(piece_count(more))?;
+        }
         values.push(value)?;
         rest = more;
     }

@@ -13,7 +13,7 @@ use crate::front::{
     closed, free_name, is_reserved, level_in_front, operator_in_front, prefix_in_front, text_number,
 };
 use crate::lexeme::Lexeme;
-use crate::postfix::{Builder, Item};
+use crate::postfix::Builder;
 use std::alloc::{AllocError, Global};
 
 /// The tokens after an expression, which a builder then has on top; none where there is no
@@ -30,24 +30,21 @@ pub fn parse_expression(alloc: Global, tokens: &[Lexeme]) -> Result<Option<Expr>
     if let [token] = tokens {
         return expression_of_token(alloc, token);
     }
-    let mut builder = Builder::new(alloc, operand_count(tokens))?;
+    let mut builder = Builder::new(alloc, usual_items(tokens.len()))?;
     let Some(rest) = parse_level(&mut builder, tokens, 7)? else {
         return Ok(None);
     };
     if rest.is_empty() {
-        Ok(Some(Expr::Compound(builder.finish())))
+        Ok(Some(Expr::Compound(builder.finish()?)))
     } else {
         Ok(None)
     }
 }
 
-/// How many tokens are no sign. An expression has as many items, and more only where a sign stands
-/// before an operand, or parentheses after a sign.
-fn operand_count(tokens: &[Lexeme]) -> usize {
-    tokens
-        .iter()
-        .filter(|token| !matches!(token, Lexeme::Sign(_)))
-        .count()
+/// How many items most expressions of so many tokens have: one for each operand, where a sign stands
+/// between every two.
+fn usual_items(tokens: usize) -> usize {
+    (tokens / 2).saturating_add(1)
 }
 
 /// The expression that one token is, if it is one: most expressions have no more.
@@ -114,7 +111,7 @@ fn parse_prefixed<'a>(builder: &mut Builder, tokens: &'a [Lexeme]) -> Result<Fou
     let Some(rest) = parse_prefixed(builder, &tokens[1..])? else {
         return Ok(None);
     };
-    builder.push(Item::Unary(sign))?;
+    builder.push_unary(sign)?;
     Ok(Some(rest))
 }
 

@@ -1,82 +1,107 @@
 //! Expressions of several tokens, in postfix order.
 
-ghost use Rattle.std.specs.Prelude.{◌≡◌, [], ◌∷◌, IfOk, OnOk, MatchOption};
-ghost use Rattle.chip_lang.specs.Expression.{name, number};
+ghost use Rattle.std.specs.Prelude.{◌≡◌, [], ◌∷◌, ◌++◌, ◌<◌, ◌≤◌, IfOk, OnOk, OnErr, vec_len, vec_capacity};
+ghost use Rattle.chip_lang.specs.Expression.{name, number, unary, binary};
 ghost use Rattle.chip_lang.specs.Uses.{names_in};
-ghost use Rattle.chip_lang.specs.inner.Postfix.{top, popped, pushed, stack_of, name_of_item, names_of};
+ghost use Rattle.chip_lang.specs.inner.Postfix.{top, popped, stack_of};
 
 use crate::expr::{Operator, Prefix};
 use crate::short_bytes::ShortBytes;
 use std::alloc::{AllocError, Global};
 use std::marker::Model;
 
-/// An operand of one token.
-#[derive(Drop)]
-pub(crate) enum Leaf {
+/// A part of an expression. Its names stand beside the items, and an item has the number of one.
+#[derive(Clone, Copy)]
+pub(crate) enum Item {
     /// A number.
     Number(i32),
-    /// A name, in upper case.
-    Name(ShortBytes),
-}
-
-/// A part of an expression.
-#[derive(Drop)]
-pub(crate) enum Item {
-    /// An operand.
-    Operand(Leaf),
+    /// A name.
+    Name(usize),
     /// The sign before an operand, with which the items before it end.
     Unary(Prefix),
     /// The sign between two operands, with which the items before it end.
     Binary(Operator),
-    /// The sign between an operand, with which the items before it end, and another one.
-    WithOperand(Operator, Leaf),
+    /// The sign between an operand, with which the items before it end, and a number.
+    WithNumber(Operator, i32),
+    /// The sign between an operand, with which the items before it end, and a name.
+    WithName(Operator, usize),
 }
 
-impl Item {
-    /// The name in an item, if there is one.
-    pub fn name(&self) -> Option<&[u8]>
-        ensures { MatchOption result (name_of_item self.now ≡ [])
-            (λ name. name_of_item self.now ≡ name.now ∷ []) }
-    {
-        match self {
-            Item::Operand(Leaf::Name(name)) | Item::WithOperand(_, Leaf::Name(name)) => {
-                Some(name.get())
-            }
-            _ => None,
-        }
+/// Makes room for one more item.
+#[cold]
+#[inline(never)]
+fn grow(items: &mut Vec<Item>) -> Result<(), AllocError>
+    ensures ok { OnOk result (vec_len items.new < vec_capacity items.new) }
+    ensures err { OnErr result (vec_capacity items.new ≡ vec_capacity items.old) }
+    ensures same { items.new.items ≡ items.old.items }
+    ensures length { vec_len items.new ≡ vec_len items.old }
+{
+    items.reserve(1)
+}
+
+/// Appends an item.
+#[inline(always)]
+fn push_item(items: &mut Vec<Item>, item: Item) -> Result<(), AllocError>
+    requires { vec_len items.old ≤ vec_capacity items.old }
+    ensures ok { OnOk result (items.new.items ≡ items.old.items ++ item ∷ []) }
+    ensures err { OnErr result (items.new.items ≡ items.old.items) }
+    ensures room { vec_len items.new ≤ vec_capacity items.new }
+{
+    if items.len() == items.capacity() {
+        grow(items)?;
     }
+    items.push_reserved(item);
+    Ok(())
 }
 
-/// An expression of several tokens, which contracts see as a tree. It is one array in postfix order:
-/// operands stand before their sign.
+/// Appends a name. Most expressions with a name have one.
+fn add_name(names: &mut Vec<ShortBytes>, name: ShortBytes) -> Result<(), AllocError>
+    ensures ok { OnOk result (names.new.items ≡ names.old.items ++ name ∷ []) }
+    ensures err { OnErr result (names.new.items ≡ names.old.items) }
+{
+    if names.is_empty() {
+        names.reserve_exact(1)?;
+    }
+    names.push(name)?;
+    Ok(())
+}
+
+/// Items in postfix order, operands before their sign, and their names in upper case, left to right.
+#[derive(Drop)]
+pub(crate) struct Parts {
+    items: Vec<Item>,
+    names: Vec<ShortBytes>,
+}
+
+/// An expression of several tokens, which contracts see as a tree. Few expressions have more than one
+/// token, so its parts take no room in the others.
 #[derive(Drop)]
 pub struct Postfix {
-    items: Vec<Item>,
+    parts: Box<Parts>,
 }
 
 impl Model for Postfix {
-    ghost use Rattle.chip_lang.specs.inner.Postfix.{top, popped, stack_of, tree_code};
-    ghost use Rattle.std.specs.Prelude.{◌≡◌, []};
+    ghost use Rattle.chip_lang.specs.inner.Postfix.{top, stack_of, tree_code, IsWhole};
     ghost use Rattle.chip_lang.specs.Expression.{Tree};
 
     ghost Value = { Tree };
 
     ghost coded = { tree_code };
 
-    ghost view = { λ p. top (stack_of p.items.items) };
+    ghost view = { λ p. top (stack_of p.parts.value.names.items p.parts.value.items.items) };
 
-    ghost invariant = { λ p. popped (stack_of p.items.items) ≡ [] };
+    ghost invariant = { λ p. IsWhole p.parts.value.names.items p.parts.value.items.items };
 }
 
 impl Postfix {
-    /// The items.
+    /// The items, and the names, left to right.
     #[tactic(auto, using(crate::proofs::NamesUsed::names_whole))]
-    pub(crate) fn items(&self) -> &[Item]
-        ensures tree { top (stack_of result.now) ≡ self.now }
-        ensures whole { popped (stack_of result.now) ≡ [] }
-        ensures names { names_of result.now ≡ names_in self.now }
+    pub(crate) fn parts(&self) -> (&[Item], &[ShortBytes])
+        ensures tree { top (stack_of result.1.now result.0.now) ≡ self.now }
+        ensures whole { popped (stack_of result.1.now result.0.now) ≡ [] }
+        ensures names { result.1.now ≡ names_in self.now }
     {
-        &self.items
+        (&self.parts.items, &self.parts.names)
     }
 }
 
@@ -85,18 +110,22 @@ impl Postfix {
 pub(crate) struct Builder {
     alloc: Global,
     items: Vec<Item>,
+    names: Vec<ShortBytes>,
 }
 
 impl Model for Builder {
-    ghost use Rattle.std.specs.Prelude.{List};
-    ghost use Rattle.chip_lang.specs.inner.Postfix.{stack_of, stack_code};
+    ghost use Rattle.std.specs.Prelude.{List, ◌≤◌, vec_len, vec_capacity};
+    ghost use Rattle.chip_lang.specs.inner.Postfix.{stack_of, stack_code, AreNumbered};
     ghost use Rattle.chip_lang.specs.Expression.{Tree};
 
     ghost Value = { List Tree };
 
     ghost coded = { stack_code };
 
-    ghost view = { λ b. stack_of b.items.items };
+    ghost view = { λ b. stack_of b.names.items b.items.items };
+
+    ghost invariant = { λ b. AreNumbered b.names.items b.items.items
+        × (vec_len b.items ≤ vec_capacity b.items) };
 }
 
 impl Builder {
@@ -105,53 +134,75 @@ impl Builder {
         ensures { IfOk result (λ builder. builder ≡ []) }
     {
         let items = Vec::with_capacity(alloc, room)?;
-        Ok(Builder { alloc, items })
-    }
-
-    /// Appends an item.
-    #[tactic(auto, using(std::proofs::lemmas::List::Sums::fold_push))]
-    pub fn push(&mut self, item: Item) -> Result<(), AllocError>
-        ensures { OnOk result (self.new ≡ pushed self.old item) }
-    {
-        self.items.push(item)?;
-        Ok(())
+        Ok(Builder {
+            alloc,
+            items,
+            names: Vec::new(alloc),
+        })
     }
 
     /// Appends a number.
+    #[tactic(auto, using(crate::proofs::Numbered::numbered_items, std::proofs::lemmas::List::Sums::fold_push))]
     pub fn push_number(&mut self, value: i32) -> Result<(), AllocError>
         ensures { OnOk result (self.new ≡ number value ∷ self.old) }
     {
-        self.push(Item::Operand(Leaf::Number(value)))
+        push_item(&mut self.items, Item::Number(value))?;
+        Ok(())
     }
 
     /// Appends a name, given in upper case.
+    #[tactic(auto, using(crate::proofs::Numbered::numbered_items, std::proofs::lemmas::List::Sums::fold_push))]
     pub fn push_name(&mut self, word: &[u8]) -> Result<(), AllocError>
         ensures { OnOk result (self.new ≡ name word.now ∷ self.old) }
     {
         let name = ShortBytes::from_slice(self.alloc, word)?;
-        self.push(Item::Operand(Leaf::Name(name)))
+        self.items.reserve(1)?;
+        let number = self.names.len();
+        add_name(&mut self.names, name)?;
+        self.items.push_reserved(Item::Name(number));
+        Ok(())
+    }
+
+    /// Appends the sign before an operand.
+    #[tactic(auto, using(crate::proofs::Numbered::numbered_items, std::proofs::lemmas::List::Sums::fold_push))]
+    pub fn push_unary(&mut self, sign: Prefix) -> Result<(), AllocError>
+        ensures { OnOk result (self.new ≡ unary sign (top self.old) ∷ popped self.old) }
+    {
+        push_item(&mut self.items, Item::Unary(sign))?;
+        Ok(())
     }
 
     /// Appends the sign between two operands, in one item with the second where that is one token.
-    #[tactic(auto, using(std::proofs::lemmas::List::Sums::fold_push))]
+    #[tactic(auto, using(crate::proofs::Numbered::numbered_items, std::proofs::lemmas::List::Sums::fold_push))]
     pub fn push_binary(&mut self, sign: Operator) -> Result<(), AllocError>
-        ensures { OnOk result (self.new ≡ pushed self.old (Item.Binary sign)) }
+        ensures { OnOk result (self.new ≡ binary sign (top (popped self.old)) (top self.old)
+            ∷ popped (popped self.old)) }
     {
         match self.items.pop() {
-            Some(Item::Operand(leaf)) => self.push(Item::WithOperand(sign, leaf)),
+            Some(Item::Number(value)) => self.items.push_reserved(Item::WithNumber(sign, value)),
+            Some(Item::Name(number)) => self.items.push_reserved(Item::WithName(sign, number)),
             Some(last) => {
-                self.push(last)?;
-                self.push(Item::Binary(sign))
+                self.items.push_reserved(last);
+                push_item(&mut self.items, Item::Binary(sign))?;
             }
-            None => self.push(Item::Binary(sign)),
+            None => push_item(&mut self.items, Item::Binary(sign))?,
         }
+        Ok(())
     }
 
-    /// The expression that all items are.
-    pub fn finish(self) -> Postfix
+    /// The expression that all items are, in no more room than they take.
+    pub fn finish(self) -> Result<Postfix, AllocError>
         requires { popped self ≡ [] }
-        ensures { result ≡ top self }
+        ensures { IfOk result (λ postfix. postfix ≡ top self) }
     {
-        Postfix { items: self.items }
+        let Builder {
+            alloc,
+            mut items,
+            mut names,
+        } = self;
+        items.shrink_to_fit();
+        names.shrink_to_fit();
+        let parts = Box::new(alloc, Parts { items, names })?;
+        Ok(Postfix { parts })
     }
 }

@@ -1,16 +1,17 @@
 //! The value of an expression.
 
 ghost use Rattle.std.specs.Prelude.{◌≡◌, ◌*ℤ◌, pos, ◌^◌, ◌<◌, ℕ, ℤ, neg_ℤ, ◌≤◌, ◌-◌, [], ◌∷◌, List, IfOk, IfErr, IfSome, Ok, Err, length};
-ghost use Rattle.chip_lang.specs.Tree.{tree_of};
+ghost use Rattle.chip_lang.specs.Tree.{tree_of, name};
 ghost use Rattle.chip_lang.specs.Uses.{constant};
 ghost use Rattle.chip_lang.specs.Value.{Symbols, value, value_of_name, or_fault, no_names, apply, apply_prefix, shift_left, shift_right, divide};
 ghost use Rattle.chip_lang.specs.inner.LastValue.{last_value};
-ghost use Rattle.chip_lang.specs.inner.Postfix.{top, popped, leaf_tree, stack_of};
+ghost use Rattle.chip_lang.specs.inner.Postfix.{top, popped, numbered, stack_of};
 
 use crate::expr::{Expr, Operator, Prefix};
 use crate::fault::Fault;
 use crate::names::Names;
-use crate::postfix::{Item, Leaf};
+use crate::postfix::{Item, Postfix};
+use crate::short_bytes::ShortBytes;
 
 /// The value of an expression, or the first fault from the left.
 #[inline(always)]
@@ -20,7 +21,7 @@ pub fn eval<N: Names>(expr: &Expr, names: &N) -> Result<i32, Fault>
     match expr {
         Expr::Number(number) => Ok(*number),
         Expr::Name(name) => value_of_name(names, name.get()),
-        Expr::Compound(compound) => eval_items(compound.items(), names),
+        Expr::Compound(compound) => eval_compound(compound, names),
     }
 }
 
@@ -32,27 +33,48 @@ fn value_of_name<N: Names>(names: &N, name: &[u8]) -> Result<i32, Fault>
     names.value(name).ok_or(Fault::UndefinedName)
 }
 
-#[inline(always)]
-fn value_of_leaf<N: Names>(names: &N, leaf: &Leaf) -> Result<i32, Fault>
-    ensures { result ≡ value (leaf_tree leaf.now) (N.symbols names.now) }
-{
-    match leaf {
-        Leaf::Number(number) => Ok(*number),
-        Leaf::Name(name) => value_of_name(names, name.get()),
+/// The names of an expression, and a table that has their values.
+#[derive(Drop)]
+struct Meanings<'a, N: Names> {
+    words: &'a [ShortBytes],
+    names: &'a N,
+}
+
+impl<'a, N: Names> Meanings<'a, N> {
+    /// The value of the name of this number.
+    #[inline(always)]
+    fn value(&self, number: usize) -> Result<i32, Fault>
+        ensures { result
+            ≡ value (name (numbered self.now.words.now number)) (N.symbols self.now.names.now) }
+    {
+        match self.words.get(number) {
+            Some(word) => value_of_name(self.names, word.get()),
+            None => value_of_name(self.names, &[]),
+        }
     }
+}
+
+#[inline(never)]
+fn eval_compound<N: Names>(compound: &Postfix, names: &N) -> Result<i32, Fault>
+    ensures { result ≡ value compound.now (N.symbols names.now) }
+{
+    let (items, words) = compound.parts();
+    let meanings = Meanings { words, names };
+    eval_items(items, &meanings)
 }
 
 /// The value of the tree that items leave, or its first fault. One turn takes all items of an
 /// expression; a sign with no left side, as no expression has, takes 0 for it.
-#[inline(never)]
-fn eval_items<N: Names>(items: &[Item], names: &N) -> Result<i32, Fault>
-    requires whole { popped (stack_of items.now) ≡ [] }
-    ensures { result ≡ value (top (stack_of items.now)) (N.symbols names.now) }
+#[inline(always)]
+fn eval_items<N: Names>(items: &[Item], meanings: &Meanings<N>) -> Result<i32, Fault>
+    requires whole { popped (stack_of meanings.now.words.now items.now) ≡ [] }
+    ensures { result ≡ value (top (stack_of meanings.now.words.now items.now))
+        (N.symbols meanings.now.names.now) }
 {
     let mut top = 0;
     let mut rest = items;
     while !rest.is_empty() {
-        (top, rest) = eval_right(0, top, rest, names)?;
+        (top, rest) = eval_right(0, top, rest, meanings)?;
     }
     Ok(top)
 }
@@ -64,13 +86,16 @@ fn eval_right<'a, N: Names>(
     left: i32,
     first: i32,
     items: &'a [Item],
-    names: &N,
+    meanings: &Meanings<N>,
 ) -> Result<(i32, &'a [Item]), Fault>
     ensures value { IfOk result (λ found. (under : List ℤ)
-        → last_value (N.symbols names.now) (first ∷ left ∷ under) items.now
-        ≡ last_value (N.symbols names.now) (found.0 ∷ under) found.1.now) }
+        → last_value meanings.now.words.now (N.symbols meanings.now.names.now)
+        (first ∷ left ∷ under) items.now
+        ≡ last_value meanings.now.words.now (N.symbols meanings.now.names.now)
+        (found.0 ∷ under) found.1.now) }
     ensures fault { IfErr result (λ fault. (under : List ℤ)
-        → last_value (N.symbols names.now) (first ∷ left ∷ under) items.now ≡ Err fault) }
+        → last_value meanings.now.words.now (N.symbols meanings.now.names.now)
+        (first ∷ left ∷ under) items.now ≡ Err fault) }
     ensures shorter { IfOk result (λ found. length found.1.now ≤ length items.now - 1) }
 {
     let mut right = first;
@@ -78,13 +103,13 @@ fn eval_right<'a, N: Names>(
     while let Some((item, after)) = rest.split_first() {
         rest = after;
         match item {
-            Item::WithOperand(sign, leaf) => {
-                right = apply(*sign, right, value_of_leaf(names, leaf)?)?;
-            }
+            Item::WithNumber(sign, number) => right = apply(*sign, right, *number)?,
+            Item::WithName(sign, number) => right = apply(*sign, right, meanings.value(*number)?)?,
             Item::Unary(sign) => right = apply_prefix(*sign, right)?,
             Item::Binary(sign) => return Ok((apply(*sign, left, right)?, after)),
-            Item::Operand(leaf) => {
-                (right, rest) = eval_right(right, value_of_leaf(names, leaf)?, after, names)?;
+            Item::Number(number) => (right, rest) = eval_right(right, *number, after, meanings)?,
+            Item::Name(number) => {
+                (right, rest) = eval_right(right, meanings.value(*number)?, after, meanings)?;
             }
         }
     }

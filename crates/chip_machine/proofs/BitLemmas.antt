@@ -1,5 +1,6 @@
 -- Rows of bits: what a shift, an exclusive or and a mask do to each bit.
 use Rattle.std.proofs.Common.{◌≡◌, ℕ, ◌+◌, ◌-◌, ◌*◌, ◌/◌, ◌%◌, ◌^◌, ◌<◌, ◌≤◌, Bool, true, false, not, ◌&&◌, ◌||◌, ◌==◌, ◌≢◌, nat_eq, min, max, refl, sym, ap, ◌∙◌, arith, add-zero, subst, ◌⊎◌, inl, inr, nat_le, ⊎_elim, bit_and, get_or}
+use Rattle.std.proofs.Math.Bool.{or-false}
 use Rattle.std.specs.Int.{bit_at}
 use Rattle.std.specs.Prelude.{bit_or, bit_xor}
 use Rattle.std.specs.Int.Bits.{or_zero_l}
@@ -10,7 +11,7 @@ use Rattle.std.proofs.lemmas.Bool.{false≢true, cases_lt, cases_Bool, eqb-true,
 use Rattle.chip_machine.specs.declared.doubled.TheConstants.{DOUBLED}
 use Rattle.chip_machine.specs.inner.Stored.{differ, any_below}
 use Rattle.chip_machine.specs.Points.{lights}
-use Rattle.chip_machine.proofs.PointLemmas.{any_below-false, any_below_none, any_below_same, or_none}
+use Rattle.chip_machine.proofs.PointLemmas.{any_below-false, any_below_none, any_below_same}
 
 -- ---- each bit of a byte twice
 
@@ -211,7 +212,7 @@ lights_around bits start column fits inside on_screen =
     let by : (128 - start) % 128 ≡ 128 - start = omega arith in
     ap (λ n. lights bits (column - start) || lights (bits * 2 ^ n % 2 ^ 128) column) by
     ∙ ap (λ b. lights bits (column - start) || b) (lights_shl_out bits (128 - start) column on_screen (omega arith))
-    ∙ or_none (lights bits (column - start)))
+    ∙ or-false (lights bits (column - start)))
     (cases_eq start 0)
     ∙ ap (lights bits) here)
     (cases_lt column start)

@@ -1,5 +1,6 @@
 -- Sets of points by their members: two that have the same points are equal.
-use Rattle.std.proofs.Common.{◌≡◌, ℕ, zero, suc, ◌+◌, ◌<◌, ◌≤◌, Bool, true, false, not, ◌&&◌, ◌||◌, ◌==◌, nat_le, nat_eq, ◌-◌, map, refl, sym, ap, subst, ◌∙◌, arith, ◌⊎◌, inl, inr, add-one, ⊎_elim}
+use Rattle.std.proofs.Common.{◌≡◌, ℕ, zero, suc, ◌+◌, ◌<◌, ◌≤◌, Bool, true, false, not, ◌&&◌, ◌||◌, ◌==◌, nat_le, nat_eq, ◌-◌, map, refl, sym, ap, subst, ◌∙◌, arith, ◌⊎◌, add-one, ⊎_elim}
+use Rattle.std.proofs.Math.Bool.{or-false}
 use Rattle.std.specs.List.{list_any, flat_map, range_with_len}
 use Rattle.std.specs.Ordering.{eq_by_cmp, nat_cmp}
 use Rattle.std.specs.Cmp.{IsTotalOrder, nat_cmp_total, tied_then, unsigned_tied}
@@ -199,10 +200,6 @@ unfolding any_below
 any_below_same f g zero h = refl
 any_below_same f g (suc n) h = λ i. any_below_same f g n (λ k lt. h k (omega arith)) i || h n (omega arith) i
 
-pub or_none : (b : Bool) → (b || false) ≡ b
-or_none true = refl
-or_none false = refl
-
 -- a test that passes at no number from n to m
 pub any_below_longer : (test : ℕ → Bool) (n m : ℕ) → n ≤ m → ((k : ℕ) → n ≤ k → k < m → test k ≡ false) → any_below test n ≡ any_below test m
 unfolding any_below
@@ -211,7 +208,7 @@ any_below_longer test n (suc m) h none = ⊎_elim
     (λ (at : n ≡ suc m). ap (any_below test) at)
     (λ (other : n ≡ suc m → ⊥).
     any_below_longer test n m (omega arith) (λ k low high. none k low (omega arith))
-    ∙ sym (or_none (any_below test m))
+    ∙ sym (or-false (any_below test m))
     ∙ ap (λ b. any_below test m || b) (sym (none m (omega arith) (omega arith))))
     (cases_eq n (suc m))
 
@@ -239,13 +236,6 @@ scrolled_left_where n f g kept entered = points_where_alike f (λ c r. is_lit (p
 
 pub on_screen-points_where : (test : ℕ → ℕ → Bool) → IsOnScreen (points_where test)
 on_screen-points_where test c r e = within_rectangle 128 64 c r (and_parts _ (test c r) (sym (is_lit_where test c r) ∙ e)).0
-
-pub on_screen-symmetric_difference : (s t : Points) → IsOnScreen s → IsOnScreen t → IsOnScreen (symmetric_difference s t)
-on_screen-symmetric_difference s t p q c r e = ⊎_elim (λ in_s. p c r in_s) (λ in_t. q c r in_t) (either (is_lit s c r) (is_lit t c r) (sym (is_lit-symmetric_difference s t c r) ∙ e))
-  where
-    either : (a b : Bool) → differ a b ≡ true → (a ≡ true) ⊎ (b ≡ true)
-    either true b _ = inl refl
-    either false b e = inr e
 
 -- ---- a scroll takes each lit pixel to its place, as long as that is on the screen
 

@@ -1,5 +1,6 @@
 -- 64 rows of bits as the pixels of the screen, and the bits that a sprite covers.
 use Rattle.std.proofs.Common.{◌≡◌, ℕ, ◌+◌, ◌-◌, ◌*◌, ◌/◌, ◌%◌, ◌^◌, ◌<◌, ◌≤◌, Bool, true, false, not, ◌&&◌, ◌||◌, ◌==◌, nat_eq, nat_le, length, List, get_or, refl, sym, ap, subst, ◌∙◌, arith, add-zero, bit_and, bit_or, set, get_or-set_same, get_or-set_other, ⊎_elim}
+use Rattle.std.proofs.Math.Bool.{or-false}
 use Rattle.std.specs.Int.{bit_at}
 use Rattle.std.specs.Prelude.{bit_xor}
 use Rattle.std.proofs.lemmas.Bool.{cases_lt, and_left, and_right, lt-leb, le-leb, cond_both, cond-true, cond-false, eq-eqb, ne_eqb}
@@ -10,7 +11,7 @@ use Rattle.chip_machine.specs.Points.{points_where, symmetric_difference, meets,
 use Rattle.chip_machine.specs.inner.Stored.{in_rows, differ, any_below, AreTurned}
 use Rattle.chip_machine.specs.Sprite.{is_set, scale}
 use Rattle.chip_machine.specs.inner.SpriteBytes.{covers_by_length, row_bytes_by_length}
-use Rattle.chip_machine.proofs.PointLemmas.{toggled_where, meets_where, any_below-false, any_below_first, any_below_longer, any_below_more, any_below_none, any_below_same, or_none, scrolled_down_where, scrolled_right_where, scrolled_left_where}
+use Rattle.chip_machine.proofs.PointLemmas.{toggled_where, meets_where, any_below-false, any_below_first, any_below_longer, any_below_more, any_below_none, any_below_same, scrolled_down_where, scrolled_right_where, scrolled_left_where}
 use Rattle.chip_machine.proofs.SpriteLemmas.{before_pixel, covers-inside, covers_left, from_pixel, is_set_right, is_set-inside}
 use Rattle.chip_machine.proofs.BitLemmas.{common_column, either_some, lights-bit_xor, lights_shr, lights_shl, lights_shl_out, stripe_inside, stripe_left, stripe_right}
 
@@ -189,7 +190,7 @@ turned_nowhere start end cover rows low none =
       before = λ _ _. refl;
       after = λ _ _. refl;
       hit = λ test is.
-          or_none (any_below test start)
+          or-false (any_below test start)
           ∙ any_below_longer test start end low (λ row above below. is row above below ∙ any_below_none _ 128 (λ column _. and_right _ _ (none column row above below)));
     }
 

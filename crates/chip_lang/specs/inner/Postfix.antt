@@ -1,13 +1,11 @@
 -- Expressions in postfix order: the stack of trees that items leave (own).
-use Rattle.std.specs.Prelude.{ℕ, pos, List, [], ◌∷◌, ◌≡◌, refl}
-use Rattle.std.specs.Coded.{Coded, code_by, coded_list}
-use Rattle.std.specs.List.{fold, flat_map}
+use Rattle.std.specs.Prelude.{ℕ, pos, List, [], ◌∷◌, ◌≡◌, ◌<◌, Option, Some, None, length, refl}
+use Rattle.std.specs.Coded.{Coded, code_by, coded_list, coded×, coded_ℕ}
+use Rattle.std.specs.List.{fold, flat_map, slice_get}
 use Rattle.std.proofs.Common.{ap, ◌∙◌}
 use Rattle.chip_lang.specs.contracts.postfix.Item as item_type
-use Rattle.chip_lang.specs.declared.postfix.Leaf.{Leaf}
-use Rattle.chip_lang.specs.declared.postfix.Leaf.TheVariants.{Number, Name}
 use Rattle.chip_lang.specs.declared.postfix.Item.{Item}
-use Rattle.chip_lang.specs.declared.postfix.Item.TheVariants.{Operand, Unary, Binary, WithOperand}
+use Rattle.chip_lang.specs.declared.postfix.Item.TheVariants.{Number, Name, Unary, Binary, WithNumber, WithName}
 use Rattle.chip_lang.specs.Expression.{Tree, number, name, unary, binary}
 
 -- The tree on top of a stack. Under the last one stand zeros without end, so that each item has its
@@ -21,62 +19,89 @@ abbrev pub popped : List Tree → List Tree
 popped [] = []
 popped (t ∷ stack) = stack
 
-abbrev pub leaf_tree : Leaf → Tree
-leaf_tree (Number z) = number z
-leaf_tree (Name n) = name n
+abbrev or_empty : Option (List ℕ) → List ℕ
+or_empty (Some n) = n
+or_empty None = []
+
+-- the name of a number, from 0 on; past the last an empty one
+abbrev pub numbered : List (List ℕ) → ℕ → List ℕ
+numbered names k = or_empty (slice_get names k)
 
 -- the stack after an item: a sign takes its operands from the top
-abbrev pub pushed : List Tree → Item → List Tree
-pushed stack (Operand leaf) = leaf_tree leaf ∷ stack
-pushed stack (Unary sign) = unary sign (top stack) ∷ popped stack
-pushed stack (Binary sign) =
+abbrev pub pushed : List (List ℕ) → List Tree → Item → List Tree
+pushed names stack (Number z) = number z ∷ stack
+pushed names stack (Name k) = name (numbered names k) ∷ stack
+pushed names stack (Unary sign) = unary sign (top stack) ∷ popped stack
+pushed names stack (Binary sign) =
     binary sign (top (popped stack)) (top stack) ∷ popped (popped stack)
-pushed stack (WithOperand sign leaf) = binary sign (top stack) (leaf_tree leaf) ∷ popped stack
+pushed names stack (WithNumber sign z) = binary sign (top stack) (number z) ∷ popped stack
+pushed names stack (WithName sign k) =
+    binary sign (top stack) (name (numbered names k)) ∷ popped stack
 
--- the stack that items leave
-abbrev pub stack_of : List Item → List Tree
-stack_of items = fold pushed [] items
-
-abbrev pub name_of_leaf : Leaf → List (List ℕ)
-name_of_leaf (Number z) = []
-name_of_leaf (Name n) = n ∷ []
+-- the stack that items with these names leave
+abbrev pub stack_of : List (List ℕ) → List Item → List Tree
+stack_of names items = fold (pushed names) [] items
 
 -- the name in an item
-abbrev pub name_of_item : Item → List (List ℕ)
-name_of_item (Operand leaf) = name_of_leaf leaf
-name_of_item (Unary sign) = []
-name_of_item (Binary sign) = []
-name_of_item (WithOperand sign leaf) = name_of_leaf leaf
+abbrev pub name_of_item : List (List ℕ) → Item → List (List ℕ)
+name_of_item names (Name k) = numbered names k ∷ []
+name_of_item names (WithName sign k) = numbered names k ∷ []
+name_of_item names i = []
 
--- the names among items
-abbrev pub names_of : List Item → List (List ℕ)
-names_of items = flat_map name_of_item items
+-- the names in items
+abbrev pub names_of : List (List ℕ) → List Item → List (List ℕ)
+names_of names items = flat_map (name_of_item names) items
 
--- ---- a tree as items, by which a proof tells two trees apart
+-- an item has no name, or one of the first so many
+abbrev pub IsAmongFirst : ℕ → Item → Type 0
+IsAmongFirst count (Name k) = k < count
+IsAmongFirst count (WithName sign k) = k < count
+IsAmongFirst count i = Unit
+
+abbrev pub AreAmongFirst : ℕ → List Item → Type 0
+AreAmongFirst count [] = Unit
+AreAmongFirst count (i ∷ items) = IsAmongFirst count i × AreAmongFirst count items
+
+-- the items have the names, each once, from left to right
+pub record AreNumbered (names : List (List ℕ)) (items : List Item) : Type 0 where
+  pub within : AreAmongFirst (length names) items
+  pub all : names_of names items ≡ names
+
+-- items that leave one tree have the names, each once, from left to right
+pub record IsWhole (names : List (List ℕ)) (items : List Item) : Type 0 where
+  pub one : popped (stack_of names items) ≡ []
+  pub all : names_of names items ≡ names
+
+-- ---- a tree as items, each with the name in it, by which a proof tells two trees apart
+
+abbrev pub pushed_named : List Tree → Item × List ℕ → List Tree
+pushed_named stack (i, n) = pushed (n ∷ []) stack i
 
 -- the items of a tree, before others
-abbrev pub items_before : Tree → List Item → List Item
-items_before (number z) rest = Operand (Number z) ∷ rest
-items_before (name n) rest = Operand (Name n) ∷ rest
-items_before (unary sign a) rest = items_before a (Unary sign ∷ rest)
-items_before (binary sign a b) rest = items_before a (items_before b (Binary sign ∷ rest))
+abbrev pub items_before : Tree → List (Item × List ℕ) → List (Item × List ℕ)
+items_before (number z) rest = (Number z, []) ∷ rest
+items_before (name n) rest = (Name 0, n) ∷ rest
+items_before (unary sign a) rest = items_before a ((Unary sign, []) ∷ rest)
+items_before (binary sign a b) rest =
+    items_before a (items_before b ((Binary sign, []) ∷ rest))
 
-pub fold-items_before : (t : Tree) (rest : List Item) (stack : List Tree)
-    → fold pushed stack (items_before t rest) ≡ fold pushed (t ∷ stack) rest
+pub fold-items_before : (t : Tree) (rest : List (Item × List ℕ)) (stack : List Tree)
+    → fold pushed_named stack (items_before t rest) ≡ fold pushed_named (t ∷ stack) rest
 fold-items_before (number z) rest stack = refl
 fold-items_before (name n) rest stack = refl
-fold-items_before (unary sign a) rest stack = fold-items_before a (Unary sign ∷ rest) stack
+fold-items_before (unary sign a) rest stack = fold-items_before a ((Unary sign, []) ∷ rest) stack
 fold-items_before (binary sign a b) rest stack =
-    fold-items_before a (items_before b (Binary sign ∷ rest)) stack
-    ∙ fold-items_before b (Binary sign ∷ rest) (a ∷ stack)
+    fold-items_before a (items_before b ((Binary sign, []) ∷ rest)) stack
+    ∙ fold-items_before b ((Binary sign, []) ∷ rest) (a ∷ stack)
 
-pub top-items_before : (t : Tree) → top (stack_of (items_before t [])) ≡ t
+pub top-items_before : (t : Tree) → top (fold pushed_named [] (items_before t [])) ≡ t
 top-items_before t = ap top (fold-items_before t [] [])
 
 abbrev pub tree_code : Coded Tree
 tree_code =
-    code_by (List Item) (coded_list item_type.the_row.coded)
-    (λ t. items_before t []) (λ items. top (stack_of items)) top-items_before
+    code_by (List (Item × List ℕ))
+    (coded_list (coded× item_type.the_row.coded (coded_list coded_ℕ)))
+    (λ t. items_before t []) (λ items. top (fold pushed_named [] items)) top-items_before
 
 abbrev pub stack_code : Coded (List Tree)
 stack_code = coded_list tree_code

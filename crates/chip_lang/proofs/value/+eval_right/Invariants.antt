@@ -7,8 +7,8 @@ decreases-eval_right g l = length l.items.now
 
 abbrev pub invariant-loop-item : goal.invariant-loop-item
 invariant-loop-item g l = record {
-  same : (under : List ℤ) → last_value (g.N.Names.symbols l.names) (l.fn.first ∷ l.left ∷ under) l.items
-      ≡ last_value (g.N.Names.symbols l.names) (l.right ∷ l.left ∷ under) l.rest;
+  same : (under : List ℤ) → last_value l.meanings.words.now (g.N.Names.symbols l.meanings.names.now) (l.fn.first ∷ l.left ∷ under) l.items
+      ≡ last_value l.meanings.words.now (g.N.Names.symbols l.meanings.names.now) (l.right ∷ l.left ∷ under) l.rest;
   within : length l.rest ≤ length l.items;
 }
 
