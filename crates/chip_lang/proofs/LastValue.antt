@@ -1,5 +1,6 @@
 -- The last value that items put is the value of the tree that they leave.
-use Rattle.std.proofs.Common.{◌≡◌, ℕ, ℤ, pos, List, [], ◌∷◌, ◌++◌, Result, Ok, Err, length, arith, refl, sym, ap, ◌∙◌, ◌⊎◌, inl, inr}
+use Rattle.std.proofs.Common.{◌≡◌, ℕ, ℤ, pos, List, [], ◌∷◌, ◌++◌, Result, Ok, Err, length, arith, refl, sym, ap, ◌∙◌, ◌⊎◌, inl, inr, SFits, w32, to_z, of_z}
+use Rattle.std.proofs.lemmas.Int.{to_z-of_z}
 use Rattle.std.specs.List.{fold}
 use Rattle.chip_lang.specs.declared.fault.Fault.{Fault}
 use Rattle.chip_lang.specs.declared.postfix.Item.{Item}
@@ -100,7 +101,15 @@ pub after_value : (names : List (List ℕ)) (symbols : Symbols) (i : Item) (v : 
 after_value names symbols i v stack rest items is put =
     ap (last_value names symbols stack) is ∙ ap (λ r. r >>= λ x. last_value names symbols (x ∷ values_left i stack) items) put
 
-pub after_fault : (names : List (List ℕ)) (symbols : Symbols) (i : Item) (f : Fault) (stack : List ℤ) (rest items : List Item) → rest ≡ i ∷ items → value_put names symbols i stack ≡ Err f →
+after_fault : (names : List (List ℕ)) (symbols : Symbols) (i : Item) (f : Fault) (stack : List ℤ) (rest items : List Item) → rest ≡ i ∷ items → value_put names symbols i stack ≡ Err f →
     last_value names symbols stack rest ≡ Err f
 after_fault names symbols i f stack rest items is put =
     ap (last_value names symbols stack) is ∙ ap (λ r. r >>= λ x. last_value names symbols (x ∷ values_left i stack) items) put
+
+-- the fault of the item after those with which an operand begins
+pub operand_fault : (names : List (List ℕ)) (symbols : Symbols) (i : Item) (f : Fault) (first left right : ℤ) (all rest items : List Item) → SFits w32 first → SFits w32 left →
+    ((under : List ℤ) → last_value names symbols (to_z w32 (of_z w32 first) ∷ to_z w32 (of_z w32 left) ∷ under) all ≡ last_value names symbols (right ∷ to_z w32 (of_z w32 left) ∷ under) rest) →
+    rest ≡ i ∷ items → ((under : List ℤ) → value_put names symbols i (right ∷ left ∷ under) ≡ Err f) →
+    (under : List ℤ) → last_value names symbols (first ∷ left ∷ under) all ≡ Err f
+operand_fault names symbols i f first left right all rest items in_first in_left same is put under =
+    rw (to_z-of_z w32 first in_first, to_z-of_z w32 left in_left) at same under ∙ after_fault names symbols i f _ rest items is (put under)

@@ -32,10 +32,17 @@ impl Drop for Lexeme {
     }
 }
 
+// The tokens of a line of this many bytes and more begin with room for as many.
+const LONG_LINE_BYTES: usize = 64;
+
 /// Room for the tokens of most lines of so many bytes: a line that is longer than most may hold a long
 /// expression.
 fn usual_tokens(bytes: usize) -> usize {
-    if bytes < 64 { USUAL_TOKENS } else { 64 }
+    if bytes < LONG_LINE_BYTES {
+        USUAL_TOKENS
+    } else {
+        LONG_LINE_BYTES
+    }
 }
 
 /// The tokens of a line with what they hold.

@@ -54,7 +54,7 @@ fn push_item(items: &mut Vec<Item>, item: Item) -> Result<(), AllocError>
     Ok(())
 }
 
-/// Appends a name. Most expressions with a name have one.
+/// Appends a name. Most expressions with a name have one alone, so the first takes exact room.
 fn add_name(names: &mut Vec<ShortBytes>, name: ShortBytes) -> Result<(), AllocError>
     ensures ok { OnOk result (names.new.items ≡ names.old.items ++ name ∷ []) }
     ensures err { OnErr result (names.new.items ≡ names.old.items) }

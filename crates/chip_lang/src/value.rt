@@ -54,6 +54,8 @@ impl<'a, N: Names> Meanings<'a, N> {
     }
 }
 
+/// The value of an expression of several tokens: apart from those of one token, so that these stay
+/// small where they are inlined.
 #[inline(never)]
 fn eval_compound<N: Names>(compound: &Postfix, names: &N) -> Result<i32, Fault>
     ensures { result ≡ value compound.now (N.symbols names.now) }

@@ -1,7 +1,7 @@
 -- Expressions in postfix order: the stack of trees that items leave (own).
-use Rattle.std.specs.Prelude.{ℕ, pos, List, [], ◌∷◌, ◌≡◌, ◌<◌, Option, Some, None, length, refl}
+use Rattle.std.specs.Prelude.{ℕ, pos, List, [], ◌∷◌, ◌≡◌, ◌<◌, length, slice_index_or, refl}
 use Rattle.std.specs.Coded.{Coded, code_by, coded_list, coded×, coded_ℕ}
-use Rattle.std.specs.List.{fold, flat_map, slice_get}
+use Rattle.std.specs.List.{All, fold, flat_map}
 use Rattle.std.proofs.Common.{ap, ◌∙◌}
 use Rattle.chip_lang.specs.contracts.postfix.Item as item_type
 use Rattle.chip_lang.specs.declared.postfix.Item.{Item}
@@ -19,13 +19,9 @@ abbrev pub popped : List Tree → List Tree
 popped [] = []
 popped (t ∷ stack) = stack
 
-abbrev or_empty : Option (List ℕ) → List ℕ
-or_empty (Some n) = n
-or_empty None = []
-
 -- the name of a number, from 0 on; past the last an empty one
 abbrev pub numbered : List (List ℕ) → ℕ → List ℕ
-numbered names k = or_empty (slice_get names k)
+numbered names k = slice_index_or names k []
 
 -- the stack after an item: a sign takes its operands from the top
 abbrev pub pushed : List (List ℕ) → List Tree → Item → List Tree
@@ -58,13 +54,9 @@ IsAmongFirst count (Name k) = k < count
 IsAmongFirst count (WithName sign k) = k < count
 IsAmongFirst count i = Unit
 
-abbrev pub AreAmongFirst : ℕ → List Item → Type 0
-AreAmongFirst count [] = Unit
-AreAmongFirst count (i ∷ items) = IsAmongFirst count i × AreAmongFirst count items
-
 -- the items have the names, each once, from left to right
 pub record AreNumbered (names : List (List ℕ)) (items : List Item) : Type 0 where
-  pub within : AreAmongFirst (length names) items
+  pub within : All (IsAmongFirst (length names)) items
   pub all : names_of names items ≡ names
 
 -- items that leave one tree have the names, each once, from left to right

@@ -1,35 +1,23 @@
-use Rattle.std.proofs.Common.{rules, ◌≡◌, ◌∙◌, ◌∷◌, Ok, Err, ℤ, List, sym, w32, to_z, of_z}
+use Rattle.std.proofs.Common.{rules, ◌≡◌, ◌∙◌, ◌∷◌, Ok, sym, w32, to_z, of_z}
 use Rattle.std.proofs.lemmas.Int.{to_z-of_z}
 use Rattle.chip_lang.specs.declared.postfix.Item.TheVariants.{Binary}
-use Rattle.chip_lang.specs.inner.LastValue.{last_value, value_put}
-use Rattle.chip_lang.proofs.LastValue.{after_value, after_fault, no_more}
+use Rattle.chip_lang.specs.inner.LastValue.{value_put}
+use Rattle.chip_lang.proofs.LastValue.{after_value, operand_fault, no_more}
 use Rattle.chip_lang.proofs.value.+eval_right.Goals as goal
 
 pub returns-in_err-right-in-WithNumber-clause-fault : goal.returns-in_err-right-in-WithNumber-clause-fault
 returns-in_err-right-in-WithNumber-clause-fault g t c =
-    let symbols = g.N.Names.symbols c.args.meanings.now.names.now in
-    let put : (under : List ℤ) → value_put c.args.meanings.now.words.now symbols c.in-Some.item.now (to_z w32 c.loop-item.right-bits ∷ c.args.left ∷ under) ≡ Err c.in_err-right-in-WithNumber.field-0.0 = search rules in
-    let all : (under : List ℤ) → last_value c.args.meanings.now.words.now symbols (c.args.first ∷ c.args.left ∷ under) c.args.items.now ≡ Err c.in_err-right-in-WithNumber.field-0.0 = λ under.
-    rw (to_z-of_z w32 c.args.first c.ranges.first, to_z-of_z w32 c.args.left c.ranges.left) at c.loop-item.invariant.same under
-    ∙ after_fault c.args.meanings.now.words.now symbols c.in-Some.item.now _ _ _ _ c.in-Some.ensures.cases.0 (put under) in
+    let all = operand_fault c.args.meanings.now.words.now (g.N.Names.symbols c.args.meanings.now.names.now) c.in-Some.item.now c.in_err-right-in-WithNumber.field-0.0 c.args.first c.args.left (to_z w32 c.loop-item.right-bits) c.args.items.now _ _ c.ranges.first c.ranges.left c.loop-item.invariant.same c.in-Some.ensures.cases.0 (λ under. search rules) in
     search (rules, all)
 
 pub returns-in_err-right-in-WithName-clause-fault : goal.returns-in_err-right-in-WithName-clause-fault
 returns-in_err-right-in-WithName-clause-fault g t c =
-    let symbols = g.N.Names.symbols c.args.meanings.now.names.now in
-    let put : (under : List ℤ) → value_put c.args.meanings.now.words.now symbols c.in-Some.item.now (to_z w32 c.loop-item.right-bits ∷ c.args.left ∷ under) ≡ Err c.in_err-right-in-WithName.field-0.0 = search rules in
-    let all : (under : List ℤ) → last_value c.args.meanings.now.words.now symbols (c.args.first ∷ c.args.left ∷ under) c.args.items.now ≡ Err c.in_err-right-in-WithName.field-0.0 = λ under.
-    rw (to_z-of_z w32 c.args.first c.ranges.first, to_z-of_z w32 c.args.left c.ranges.left) at c.loop-item.invariant.same under
-    ∙ after_fault c.args.meanings.now.words.now symbols c.in-Some.item.now _ _ _ _ c.in-Some.ensures.cases.0 (put under) in
+    let all = operand_fault c.args.meanings.now.words.now (g.N.Names.symbols c.args.meanings.now.names.now) c.in-Some.item.now c.in_err-right-in-WithName.field-0.0 c.args.first c.args.left (to_z w32 c.loop-item.right-bits) c.args.items.now _ _ c.ranges.first c.ranges.left c.loop-item.invariant.same c.in-Some.ensures.cases.0 (λ under. search rules) in
     search (rules, all)
 
 pub returns-in_err-apply-in-Binary-clause-fault : goal.returns-in_err-apply-in-Binary-clause-fault
 returns-in_err-apply-in-Binary-clause-fault g t c =
-    let symbols = g.N.Names.symbols c.args.meanings.now.names.now in
-    let put : (under : List ℤ) → value_put c.args.meanings.now.words.now symbols c.in-Some.item.now (to_z w32 c.loop-item.right-bits ∷ c.args.left ∷ under) ≡ Err c.in_err-apply-in-Binary.field-0.0 = search rules in
-    let all : (under : List ℤ) → last_value c.args.meanings.now.words.now symbols (c.args.first ∷ c.args.left ∷ under) c.args.items.now ≡ Err c.in_err-apply-in-Binary.field-0.0 = λ under.
-    rw (to_z-of_z w32 c.args.first c.ranges.first, to_z-of_z w32 c.args.left c.ranges.left) at c.loop-item.invariant.same under
-    ∙ after_fault c.args.meanings.now.words.now symbols c.in-Some.item.now _ _ _ _ c.in-Some.ensures.cases.0 (put under) in
+    let all = operand_fault c.args.meanings.now.words.now (g.N.Names.symbols c.args.meanings.now.names.now) c.in-Some.item.now c.in_err-apply-in-Binary.field-0.0 c.args.first c.args.left (to_z w32 c.loop-item.right-bits) c.args.items.now _ _ c.ranges.first c.ranges.left c.loop-item.invariant.same c.in-Some.ensures.cases.0 (λ under. search rules) in
     search (rules, all)
 
 pub returns-in-Binary-clause-value : goal.returns-in-Binary-clause-value
