@@ -4,9 +4,8 @@ ghost use Rattle.chip_lang.specs.Uses.{agree_on};
 ghost use Rattle.chip_asm.specs.Layout.{body_of, value_at};
 ghost use Rattle.chip_symbols.specs.Names.{values_of};
 ghost use Rattle.chip_lang.specs.declared.limits.TheConstants.{IMAGE_BYTES};
-ghost use Rattle.chip_asm.specs.inner.Codes.{is_coded};
 ghost use Rattle.chip_asm.specs.inner.KeptLine.{IsKnownUnder};
-ghost use Rattle.chip_asm.specs.inner.Infos.{AreInfos, IsInfo, AreSteady};
+ghost use Rattle.chip_asm.specs.inner.Infos.{AreInfos, IsInfo, AreSteady, has_code};
 ghost use Rattle.chip_asm.specs.inner.Placements.{placements_of, found, is_accepted, is_pending};
 ghost use Rattle.chip_asm.specs.inner.Passes.{AreCoded, AreSettled, Change, IsEncodedUnder, IsTally, IsUnderWay, again_up_to};
 ghost use Rattle.chip_asm.specs.inner.Records.{reading_in, readings_in};
@@ -159,17 +158,17 @@ fn is_settled(changed: &[bool], kept: &BoxedLine, status: Status) -> bool
 
 /// Whether a line is to be encoded.
 #[inline(always)]
-fn is_again(names: &Table, kept: &BoxedLine, placement: &Placement) -> bool
+fn is_again(names: &Table, kept: &BoxedLine, status: Status) -> bool
     requires { IsInfo names.now.keys kept.now.info kept.now.several (reading_in kept.now) }
     ensures { result
-        ≡ (is_pending placement.now.status
+        ≡ (is_pending status
         || (not (agree_on names.now.before (values_of names.now.symbols) (reading_in kept.now))
-        && is_coded kept.now placement.now)) }
+        && (is_accepted status && has_code (body_of (reading_in kept.now))))) }
 {
-    if placement.status.is_pending() {
+    if status.is_pending() {
         return true;
     }
-    kept.info().is_coded && placement.status.is_accepted() && !keeps_values(names, kept)
+    kept.info().is_coded && status.is_accepted() && !keeps_values(names, kept)
 }
 
 /// The first place from one on of a line that isn't settled, or the end.
@@ -236,15 +235,14 @@ pub(crate) fn encode_lines(
     let mut place = places.start;
     while place < places.end {
         let kept = &lines[place];
-        let mut placement = placements[place];
-        if is_settled(changed, kept, placement.status) {
+        let status = placements[place].status;
+        if is_settled(changed, kept, status) {
             place = next_unsettled(changed, lines, placements, place + 1, places.end);
             continue;
         }
-        if is_again(names, kept, &placement) {
-            let fault = write_line(meter, names, kept, &placement, image);
-            placement.status = Status::coded(fault);
-            tally.put(placements, place, placement);
+        if is_again(names, kept, status) {
+            let fault = write_line(meter, names, kept, &placements[place], image);
+            tally.put_code(placements, place, fault);
         }
         place += 1;
     }

@@ -1,17 +1,20 @@
 //! The code of a line, in its place in the image.
 ghost use Rattle.std.specs.Prelude.{◌≡◌, ℕ, true, ◌+◌, ◌-◌, ◌<◌, ◌≤◌, ◌++◌, drop, if◌then◌else◌, length, slice_index, take};
-ghost use Rattle.chip_lang.specs.Code.{code_length};
+ghost use Rattle.chip_lang.specs.Code.{bytes_coded, code_length, code_of, fault_coded};
+ghost use Rattle.chip_lang.specs.Meter.{one_more};
 ghost use Rattle.chip_lang.specs.declared.limits.TheConstants.{IMAGE_BYTES, MEMORY_BYTES};
 ghost use Rattle.chip_asm.specs.inner.Codes.{IsCopied, IsWritten, is_coded, kept_bytes, kept_fault};
 ghost use Rattle.chip_asm.specs.inner.Infos.{IsInfo};
 ghost use Rattle.chip_asm.specs.inner.Placements.{is_accepted};
 ghost use Rattle.chip_asm.specs.inner.Records.{reading_in};
+ghost use Rattle.chip_symbols.specs.Names.{values_of};
 
 use crate::kept_line::BoxedLine;
+use crate::line_info::Uses;
 use crate::placement::Placement;
 use chip_lang::limits::IMAGE_START;
 use chip_lang::{Fault, Meter, encode_into};
-use chip_symbols::{Scope, Table};
+use chip_symbols::{OneName, Scope, Table};
 use std::ops::Range;
 
 /// The places of the bytes of a line in the image.
@@ -46,6 +49,31 @@ pub(crate) fn byte_or_zero(bytes: &[u8], index: usize) -> u8
     }
 }
 
+/// Encodes a line in its place: its own bytes, with zeros behind them, or zeros alone where it has a
+/// fault, which is answered.
+#[inline(always)]
+fn encode_kept(
+    meter: &mut Meter,
+    names: &Table,
+    kept: &BoxedLine,
+    bytes: &mut [u8],
+) -> Option<Fault>
+    requires info { IsInfo names.now.keys kept.now.info kept.now.several (reading_in kept.now) }
+    requires room { code_length (reading_in kept.now) ≤ length bytes.old }
+    ensures bytes { (k : ℕ) → slice_index bytes.new k
+        ≡ slice_index (bytes_coded (code_of (reading_in kept.now) (values_of names.now.symbols))) k }
+    ensures fault { result
+        ≡ fault_coded (code_of (reading_in kept.now) (values_of names.now.symbols)) }
+    ensures counted { meter.new ≡ record meter.old { encoded = one_more meter.old.encoded } }
+    ensures not_lowered { meter.old.encoded ≤ meter.new.encoded }
+{
+    let line = kept.line();
+    match kept.info().uses {
+        Uses::One(id) => encode_into(meter, line, &OneName::new(names, id), bytes),
+        _ => encode_into(meter, line, &Scope::new(names, kept.numbers()), bytes),
+    }
+}
+
 /// Encodes a line in its place in an image, or puts zeros there where it isn't accepted or has no
 /// code. The fault of its code, if it has one.
 pub(crate) fn write_line(
@@ -70,8 +98,7 @@ pub(crate) fn write_line(
 {
     let bytes = &mut image[places_of(placement)];
     if placement.status.is_accepted() && kept.info().is_coded {
-        let scope = Scope::new(names, kept.numbers());
-        encode_into(meter, kept.line(), &scope, bytes)
+        encode_kept(meter, names, kept, bytes)
     } else {
         bytes.fill(0);
         None

@@ -1,9 +1,9 @@
 //! What the passes find of all lines.
-ghost use Rattle.std.specs.Prelude.{◌≡◌, ◌<◌, ◌≤◌, [], List, Some, length, slice_set, take, true};
+ghost use Rattle.std.specs.Prelude.{◌≡◌, ◌<◌, ◌≤◌, [], List, Some, length, slice_index_or, slice_set, take, true};
 ghost use Rattle.std.specs.List.{list_all};
 ghost use Rattle.chip_lang.specs.Line.{Reading};
 ghost use Rattle.chip_asm.specs.computed.Walk.{address, placed};
-ghost use Rattle.chip_asm.specs.inner.Placements.{IsLayoutOf};
+ghost use Rattle.chip_asm.specs.inner.Placements.{IsLayoutOf, nothing, status_coded};
 ghost use Rattle.chip_asm.specs.inner.Blocks.{AreMarked, is_among};
 ghost use Rattle.chip_asm.specs.inner.Passes.{IsTally};
 
@@ -85,6 +85,24 @@ impl Tally {
         let others = self.faults - placements[at].count();
         placements[at] = new;
         self.faults = others + new.count();
+    }
+
+    /// Puts the fault of the code of an accepted line, or none, in the place of what was known of it.
+    #[inline(always)]
+    pub(crate) fn put_code(&mut self, placements: &mut [Placement], at: usize, fault: Option<Fault>)
+        requires there { at < length placements.old }
+        requires tally { IsTally placements.old self.old }
+        ensures placements { placements.new
+            ≡ slice_set placements.old at (record (slice_index_or placements.old at nothing)
+            { status = status_coded fault }) }
+        ensures tally { IsTally placements.new self.new }
+    {
+        let was = placements[at];
+        if let (Status::Done, None) = (was.status, fault) {
+            return;
+        }
+        let status = Status::coded(fault);
+        self.put(placements, at, Placement { status, ..was });
     }
 
     /// The places between which all lines stand that wait.

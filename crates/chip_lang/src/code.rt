@@ -215,12 +215,17 @@ fn field_of<N: Names>(pattern: Pattern, operand: &Operand, names: &N) -> Result<
         },
         Operand::Special(special) if is_special(*special, pattern) => Ok(0),
         Operand::Special(_) => Err(Fault::WrongOperands),
-        Operand::Value(expr) => match pattern {
-            Pattern::Nibble => number_below(16, eval(expr, names)?),
-            Pattern::Byte => signed_below(256, eval(expr, names)?),
-            Pattern::Address => number_below(4096, eval(expr, names)?),
-            _ => Err(Fault::WrongOperands),
-        },
+        Operand::Value(expr) => {
+            if !matches!(pattern, Pattern::Nibble | Pattern::Byte | Pattern::Address) {
+                return Err(Fault::WrongOperands);
+            }
+            let value = eval(expr, names)?;
+            match pattern {
+                Pattern::Nibble => number_below(16, value),
+                Pattern::Byte => signed_below(256, value),
+                _ => number_below(4096, value),
+            }
+        }
     }
 }
 

@@ -6,4 +6,4 @@ mod table;
 mod values;
 
 pub use name_hasher::NameHasher;
-pub use table::{NameId, Scope, Symbol, Table};
+pub use table::{NameId, OneName, Scope, Symbol, Table};

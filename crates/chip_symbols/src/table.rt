@@ -230,7 +230,17 @@ impl Table {
         None
     }
 
+    /// The value of a name.
+    #[inline(never)]
+    fn value_of(&self, name: &[u8]) -> Option<i32>
+        ensures { result ≡ value_among self.now.symbols name.now }
+    {
+        let index = self.keys.get_index_of(name)?;
+        self.values.get(index)
+    }
+
     /// The name of a number.
+    #[inline(always)]
     fn name(&self, id: NameId) -> &[u8]
         requires { id.number < length self.now.keys }
         ensures { result.now ≡ key_at self.now.keys id.number }
@@ -389,16 +399,6 @@ impl<'a> Scope<'a> {
         }
         Some(*id)
     }
-
-    /// The value of a name that stands elsewhere.
-    #[inline(never)]
-    fn value_elsewhere(&self, name: &[u8]) -> Option<i32>
-        ensures { result ≡ value_among self.now.symbols name.now }
-    {
-        let table = self.table;
-        let index = table.keys.get_index_of(name)?;
-        table.values.get(index)
-    }
 }
 
 impl<'a> Names for Scope<'a> {
@@ -410,7 +410,55 @@ impl<'a> Names for Scope<'a> {
         self.place.set(place.wrapping_add(1));
         match self.number_at(place, name) {
             Some(id) => table.values.get(id.number as usize),
-            None => self.value_elsewhere(name),
+            None => table.value_of(name),
         }
+    }
+}
+
+/// A table, which is mostly asked for one name. The value of that name is found beforehand.
+#[derive(Drop)]
+pub struct OneName<'a> {
+    table: &'a Table,
+    name: &'a [u8],
+    value: Option<i32>,
+}
+
+impl<'a> Model for OneName<'a> {
+    ghost use Rattle.std.specs.Prelude.{◌≡◌};
+    ghost use Rattle.chip_symbols.specs.Tables.{Tables, tables_code, value_among};
+
+    ghost Value = { Tables };
+
+    ghost coded = { tables_code };
+
+    ghost view = { λ o. o.table.now };
+
+    ghost invariant = { λ o. o.value ≡ value_among o.table.now.symbols o.name.now };
+}
+
+impl<'a> OneName<'a> {
+    /// A table, and the number of the name of which it is mostly going to be asked.
+    #[inline(always)]
+    pub fn new(table: &'a Table, id: NameId) -> Self
+        requires { id.number < length table.now.keys }
+        ensures { result ≡ table.now }
+    {
+        OneName {
+            table,
+            name: table.name(id),
+            value: table.values.get(id.number as usize),
+        }
+    }
+}
+
+impl<'a> Names for OneName<'a> {
+    ghost symbols = { λ o. values_of o.symbols };
+
+    #[inline(always)]
+    fn value(&self, name: &[u8]) -> Option<i32> {
+        if name == self.name {
+            return self.value;
+        }
+        self.table.value_of(name)
     }
 }

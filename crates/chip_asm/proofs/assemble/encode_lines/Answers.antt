@@ -15,8 +15,8 @@ use Rattle.chip_asm.proofs.assemble.encode_lines.Goals.{After-index-lines-place,
 here : (c : After-index-lines-place) → Reached c.args.lines.now c.loop-place.placements c.loop-place.place c.index-lines-place.result
 here c = reached c.args.lines.now c.loop-place.placements c.loop-place.place c.index-lines-place.result (c.loop-place.invariant.laid ∙ c.requires.laid) (omega (arith, c.loop-place-test.true, c.requires.within)) c.index-lines-place.is
 
-pub slice_copy_out-placement : goal.slice_copy_out-placement
-slice_copy_out-placement c = (here (goal.at.slice_copy_out-placement c).After-index-lines-place).many
+pub bounds-placements-place : goal.bounds-placements-place
+bounds-placements-place c = (here (goal.at.bounds-placements-place c).After-index-lines-place).many
 
 pub is_settled-requires : goal.is_settled-requires
 is_settled-requires c = (c.args.names.now, (search rules, c.differences-changed.ensures))
@@ -47,13 +47,13 @@ loop-place-preserved c =
     elim c.if-is_again.branch [
       | then-is_again w ↦
           let now : Placement = record q { status = status_coded (kept_fault names kept q) } in
-          let is = w.put.ensures.placements ∙ ap (λ s. set qs place (record q { status = s })) (w.coded-placement.ensures ∙ ap status_coded w.write_line-fault.ensures.fault) in
-          let noted = noted-set qs w.put.new.placements place now is r.many in
+          let is = w.put_code.ensures.placements ∙ ap (λ f. set qs place (record q { status = status_coded f })) w.write_line-fault.ensures.fault in
+          let noted = noted-set qs w.put_code.new.placements place now is r.many in
           let again = sym c.is_again.ensures ∙ w.if-is_again.true in
           record {
             after = omega arith;
             within = omega arith;
-            tally = rw (w.placements-is, w.tally-is) w.put.ensures.tally;
+            tally = rw (w.placements-is, w.tally-is) w.put_code.ensures.tally;
             laid = ap (map found) (w.placements-is ∙ is) ∙ map-set_same found qs place now nothing (found-coded q (kept_fault names kept q) (again-accepted q kept _ again)) ∙ i.laid;
             behind = λ k past. ap (λ l. slice_get l k) w.placements-is ∙ noted.others k (λ same. omega arith) ∙ i.behind k (omega arith);
             coded = λ e u a. rw (w.placements-is, w.image-is)

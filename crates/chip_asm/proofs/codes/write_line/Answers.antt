@@ -1,7 +1,6 @@
 use Rattle.std.proofs.Common.{◌≡◌, ◌∙◌, ◌-◌, [], None, true, ap, arith, cond, drop, get_or, length, replicate, rules, sym, take}
 use Rattle.std.proofs.lemmas.List.{length-drop, length-take}
 use Rattle.chip_lang.specs.Code.{bytes_coded, code_of, coded}
-use Rattle.chip_lang.specs.SeenLine.{seen_line}
 use Rattle.chip_lang.specs.declared.limits.TheConstants.{IMAGE_START}
 use Rattle.chip_asm.specs.Layout.{body_of}
 use Rattle.chip_symbols.specs.Names.{values_of}
@@ -19,15 +18,13 @@ returns-then-info-clause-written c =
     let kept = c.args.kept.now in
     let names = c.args.names.now in
     let has : has_code (body_of (reading_in kept)) ≡ true = sym c.requires.info.coded ∙ ap (λ i. i.is_coded) (sym c.info.ensures) ∙ c.if-info.true in
-    let is : code_of (seen_line c.line.result.now) (values_of c.new-scope.result.symbols) ≡ coded (code_kept names kept)
-    = ap (λ line. code_of (seen_line line) (values_of c.new-scope.result.symbols)) c.line.ensures ∙ ap (λ t. code_of (reading_in kept) (values_of t.symbols)) c.new-scope.ensures
-    ∙ code-read (reading_in kept) (values_of names.symbols) has in
-    let bytes : bytes_coded (code_of (seen_line c.line.result.now) (values_of c.new-scope.result.symbols)) ≡ kept_bytes names kept q
+    let is : code_of (reading_in kept) (values_of names.symbols) ≡ coded (code_kept names kept) = code-read (reading_in kept) (values_of names.symbols) has in
+    let bytes : bytes_coded (code_of (reading_in kept) (values_of names.symbols)) ≡ kept_bytes names kept q
     = ap bytes_coded is ∙ bytes-coded (code_kept names kept) ∙ sym (ap (λ b. cond b (bytes_in_code (code_kept names kept)) []) (sym c.is_accepted.ensures ∙ c.if-is_accepted.true)) in
     let long : length (take (c.places_of.result.end - c.places_of.result.start) (drop c.places_of.result.start c.args.image.now)) ≡ q.size
     = omega (arith, length-take (c.places_of.result.end - c.places_of.result.start) (drop c.places_of.result.start c.args.image.now), length-drop c.places_of.result.start c.args.image.now) in
     rw c.places_of.ensures.start
-    (put q (kept_bytes names kept q) c.encode_into.new.bytes c.args.image.now _ (omega arith) c.requires.low c.requires.high (c.encode_into.auto.bytes ∙ long) (λ k h. c.encode_into.ensures.bytes k ∙ ap (λ l. get_or l k 0) bytes))
+    (put q (kept_bytes names kept q) c.encode_kept.new.bytes c.args.image.now _ (omega arith) c.requires.low c.requires.high (c.encode_kept.auto.bytes ∙ long) (λ k h. c.encode_kept.ensures.bytes k ∙ ap (λ l. get_or l k 0) bytes))
 
 pub returns-else-is_accepted-clause-written : goal.returns-else-is_accepted-clause-written
 returns-else-is_accepted-clause-written c =

@@ -13,4 +13,6 @@ returns-in-Some c =
     ∙ sym (value-of-name _ c.args.name.now) ∙ ap (λ (t : Tables). value_of_name (values_of t.symbols) c.args.name.now) (c.table.view_is ∙ c.self.view_is)
 
 pub returns-in-None : goal.returns-in-None
-returns-in-None c = c.value_elsewhere.ensures ∙ sym (value-of-name c.args.self.now.symbols c.args.name.now)
+returns-in-None c =
+    c.value_of.ensures ∙ sym (value-of-name _ c.args.name.now)
+    ∙ ap (λ (t : Tables). value_of_name (values_of t.symbols) c.args.name.now) c.self.view_is
