@@ -4,14 +4,14 @@
 ; Both profiles, --rate 10 to 15. A turn is 3 ticks of the delay timer.
 ; V3 and V4: the ball's column and row      V5 and V6: its way, 1 or 255, which is -1
 ; V7: the paddle's column      V8: the score      V9: the lives      V0 to V2, VB, VC: for work
-; What always holds:
-; - V9 is at most LIVES, and never grows during a game; it is 0 at OVER, and at least 1 at WIN
-; - V8 is at most BRICKS, and never falls during a game; it is BRICKS at WIN, and less at OVER
-; - at TURN, as many bricks are gone as V8 says, and the digits on the screen show V8 and V9
-; - at TURN, V3 is at most 63 and V4 is from TOP to 30: the ball is above the paddle's row
-; - from TURN on, V5 and V6 are 1 or 255; V7 is even and at most 56, and VA is 31
-; - from each turn one can still come to OVER, by leaving the ball alone
-; - only the bytes at DIGITS change, the call stack has at most one address, the machine never stops
+;! always V9 <= LIVES
+;! always V8 <= BRICKS
+;! V9 = 0 and V8 < BRICKS at OVER
+;! V9 >= 1 and V8 = BRICKS at WIN
+;! V3 <= 63 and V4 >= TOP and V4 <= 30 at TURN
+;! V5 = 1 or V5 = 255 at TURN
+;! V7 <= 56 and VA = 31 at TURN
+;! always DEPTH <= 1
 LIVES   EQU 3
 BRICKS  EQU 16              ; two rows of eight
 TOP     EQU 7               ; the ball's uppermost row

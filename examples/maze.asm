@@ -3,13 +3,13 @@
 ; Both profiles, --rate 10 to 15. A turn is 8 ticks of the delay timer.
 ; V5 and V6: the player's column and row on the screen      V7: his place in MAP
 ; V8: the time left, in turns      V9: 1 once he has the key, 0 before      V0 to V4: for work
-; What always holds:
-; - from READY to WIN or LOST, the player is never in a wall: the byte of MAP at V7 is not '#'
-; - at TURN, V7 is V6 / 3 * WIDE + V5 / 3: the place in MAP is that on the screen
-; - V8 is at most TIME and V9 at most 1; during a game V8 never grows, and V9 never goes back to 0
-; - at WIN he has the key (V9 is 1) and stands in the door; at LOST no time is left (V8 is 0)
-; - from each turn one can still lose, by waiting; once the time is too short, one can't win any more
-; - the memory never changes, the call stack has at most one address, and the machine never stops
+;! always V8 <= TIME
+;! always V9 <= 1
+;! V5 <= DOORX and V6 <= 21 and V7 < (WIDE * 9) at TURN
+;! V9 = 1 and V5 = DOORX and V6 = DOORY and V8 > 0 at WIN
+;! V8 = 0 at LOST
+;! can at LOST
+;! always DEPTH <= 1
 WIDE    EQU 21              ; cells in a row of MAP; a cell is 3 by 3 pixels
 DOORX   EQU 20 * 3          ; the door's column and row on the screen
 DOORY   EQU 5 * 3

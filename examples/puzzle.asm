@@ -5,13 +5,13 @@
 ; A place is a number from 0 to 47: 8 times the row, plus the column.
 ; V5: the man's place      V6 and V7: the places of the boxes A and B      V9: the level, 0 or 48
 ; V1: the place for LOOK and PUT      V4: the way of a step      V0, V2, V3, VA, VB: for work
-; What always holds:
-; - at TURN, nobody is in a wall: the bytes of LEVELS at V9 + V5, V9 + V6 and V9 + V7 are not '#'
-; - at TURN, V5, V6 and V7 differ from one another, and the screen shows man and boxes there
-; - V9 is 0 or 48, and becomes 0 again only after WIN; at WIN it is 48, and both boxes are on dots
-; - at LOST a box is on an x; at TURN none is
-; - from each turn one can still win, as 5 begins the level anew; without 5 one can't always
-; - the memory never changes, the call stack has at most two addresses, and the machine never stops
+;! V9 = 0 or V9 = 48 at TURN
+;! V5 <= 47 and V6 <= 47 and V7 <= 47 at TURN
+;! V5 <> V6 and V5 <> V7 and V6 <> V7 at TURN
+;! V9 = 48 at WIN
+;! always DEPTH <= 2
+;! ever at LOST
+;! can at WIN
 START:  LD V9, 0
 LEVEL:  CLS
         LD V1, 0            ; draw the level, place by place
