@@ -80,18 +80,21 @@ export function writeKeys(script) {
   return script.events.map(({ step, key, down }) => `${step} ${key} ${word(down)}\n`).join('');
 }
 
+// The number of a key, which may be a letter too, or null.
+const readKey = (text) => (/^[a-f]$/i.test(text) ? Number.parseInt(text, 16) : readNumber(text));
+
 /**
  * Reads a text of key events that the program takes: `STEP KEY down` or `up` in a line, a `;` before a comment, numbers as in a
- * script. Which texts it takes the program says (`keys` of the bridge); what can't be read is thrown with its line.
+ * script, keys also as letters. Which texts it takes the program says (`keys` of the bridge); what can't be read is thrown with its line.
  */
 export function readKeys(text) {
   const events = text.split('\n').flatMap((line, place) => {
     const words = line.replace(/;.*/s, '').trim();
     if (words === '') return [];
     const [step, key, state, ...more] = words.split(/ +/);
-    const event = { step: readNumber(step), key: readNumber(key ?? ''), down: state === 'down' };
+    const event = { step: readNumber(step), key: readKey(key ?? ''), down: state === 'down' };
     const isEvent = event.step !== null && event.key !== null && event.key < KEYS && (event.down || state === 'up') && more.length === 0;
-    if (!isEvent) throw new Error(`line ${place + 1} of the keys is not an event: ${line.slice(0, 60)}`);
+    if (!isEvent) throw new Error(`line ${place + 1} of the keys: expected STEP KEY down or STEP KEY up, as in "10 4 down"; found "${line.slice(0, 60)}"`);
     return [event];
   });
   return new KeyScript(new Map(events.map((event) => [`${event.step} ${event.key}`, event])).values());

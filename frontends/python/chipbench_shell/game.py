@@ -5,18 +5,22 @@ from __future__ import annotations
 import difflib
 import itertools
 import os
+import re
 from collections.abc import Sequence
 from dataclasses import dataclass, field
 from pathlib import Path
 
 from chipbench import Bench, Fault, Refused, State, Symbol, join_lines, refusal, split_lines
 from chipbench_files import FileError, read_file, replace_file
-from chipbench_lsp.document import line_edits, over_limits, same_ends
+from chipbench_lsp.document import LINE_BYTES, line_edits, over_limits, same_ends
 
 from .console import state_folder
 from .values import Mistake, Values, counted
 
 Events = dict[tuple[int, int], bool]
+# a line of a file of key events whose key is a letter, and what is said where a line is not an event
+KEY_LETTER = re.compile(rb"^(\S+ +)([A-Fa-f])(?= |$)")
+KEY_LINE = "expected STEP KEY down or STEP KEY up, as in `10 4 down` (KEY is 0 to 15, or A to F)"
 MEMORY_BYTES = 4096
 
 
@@ -93,6 +97,9 @@ class Game:
         chosen = {name: value for name, value in vars(self.settings).items() if value is not None}
         if image is not None:
             return Bench(image=image, program=self._program, **chosen)
+        for number, code, sentence in over_limits(split_lines(source)):
+            column = LINE_BYTES + 1 if code == "O1" else 1
+            raise Mistake(f"{self.name}:{number + 1}:{column}: {code}: {sentence}")
         return Bench(source, program=self._program, **chosen)
 
     @property
@@ -119,13 +126,14 @@ class Game:
 
     def read_keys(self, content: bytes, name: str) -> None:
         """Adds the key events of a file."""
-        lines = [line.partition(b";")[0].strip(b" \t\r") for line in split_lines(content)]
+        lines = [line.partition(b";")[0].strip(b" ") for line in split_lines(content)]
         for number, line in enumerate(lines, 1):
             if not line:
                 continue
-            answer = self.bench.exchange([b"kins " + line])[0]
+            answer = self.bench.exchange([b"kins " + KEY_LETTER.sub(rb"\1#\2", line)])[0]
             if answer != b"ok\n":
-                raise Mistake(f"{name}, line {number}: {self.sentence(answer.split()[1].decode())}")
+                code = answer.split()[1].decode()
+                raise Mistake(f"{name}:{number}: {KEY_LINE if code == 'C1' else self.sentence(code)}")
 
     def sentence(self, code: str) -> str:
         """A code with its sentence, and where the source's faults are the cause, the first of them."""

@@ -14,6 +14,14 @@ from .values import Condition, Mistake, Subject
 
 # how many writes without a change are looked at before the shell says at which step it is
 TOLD_STEPS = 1000
+# the low byte of the instruction that sets a timer: FX15 and FX18
+SETTING_BYTES = {"DT": 0x15, "ST": 0x18}
+
+
+def sets_timer(state: State, timer: str) -> bool:
+    """Whether the instruction that comes next sets a timer. Otherwise only a tick changes it."""
+    high, low = state.memory[state.pc : state.pc + 2]
+    return high >> 4 == 0xF and low == SETTING_BYTES[timer]
 
 
 def register_test(condition: Condition) -> Test:
@@ -117,7 +125,7 @@ class Moves(Commands):
 
         Goes to the next step at a place, or at which a comparison becomes true. A place is a label, a line by its
         number, or an address such as #2a0. A subject is a register (V0 to VF, I, PC, DT, ST), or a byte of the memory
-        such as [BALL+1]. The signs are = != < <= > >=.
+        such as [BALL+1]. The signs are = <> < <= > >=; != is <> too.
         """
         if not text:
             raise Mistake("until takes a place or a comparison: until LOOP, until V3 = 5")
@@ -181,7 +189,9 @@ class Moves(Commands):
     def _tell_change(self, subject: Subject, step: int) -> None:
         before, after = self.game.state(step), self.game.state(step + 1)
         digits = subject.digits
-        self.say(f"{subject.shown} {subject.value(before):0{digits}x} -> {subject.value(after):0{digits}x} by {self.where(before)}")
+        is_ticked = subject.register in SETTING_BYTES and not sets_timer(before, subject.register)
+        cause = f"the tick of step {step}" if is_ticked else self.where(before)
+        self.say(f"{subject.shown} {subject.value(before):0{digits}x} -> {subject.value(after):0{digits}x} by {cause}")
 
     def do_who(self, text: str) -> None:
         """who SUBJECT
@@ -217,8 +227,9 @@ class Moves(Commands):
     def do_break(self, text: str) -> None:
         """break [PLACE] [if SUBJECT = NUMBER]
 
-        Sets a breakpoint at a place, as for until. With `if` it counts only where a comparison of a register holds.
-        Without a place it lists them.
+        Sets a breakpoint at a place, as for until. With `if` the breakpoint counts only where a comparison of a register
+        holds. NUMBER is worked out each time a search begins, so a register there has the value of that moment. Without a
+        place it lists the breakpoints.
         """
         if not text:
             self.say(*(f"breakpoint {point}" for point in self.game.breakpoints) if self.game.breakpoints else ["no breakpoints"])

@@ -18,11 +18,12 @@ TERM = re.compile(
     )(?![A-Za-z0-9_])\s*""",
     re.VERBOSE,
 )
-COMPARISON = re.compile(r"\s*(==|!=|<=|>=|=|<|>)\s*")
+COMPARISON = re.compile(r"\s*(==|!=|<>|<=|>=|=|<|>)\s*")
 COMPARED: dict[str, Callable[[int, int], bool]] = {
     "=": operator.eq,
     "==": operator.eq,
     "!=": operator.ne,
+    "<>": operator.ne,
     "<": operator.lt,
     "<=": operator.le,
     ">": operator.gt,

@@ -119,6 +119,18 @@ class Moves(AtTerminal):
             ("who I", "I 0000 -> 0212 by step 1, 0202, line 4: LD I, BUF"),
         )
 
+    def test_a_tick_changes_a_timer(self) -> None:
+        """The timers tick where ten steps were made: ST is 5 after step 1, and the tick of step 9 makes it 4."""
+        terminal = self.opened("        LD V0, 5\n        LD ST, V0\nLOOP:   ADD V1, 1\n        JP LOOP\n")
+        self.answers(
+            terminal,
+            ("watch ST", "ST 00 -> 05 by step 1, 0202, line 2: LD ST, V0\nstep 2, 0204, line 3: LOOP:   ADD V1, 1"),
+            ("watch ST", "ST 05 -> 04 by the tick of step 9\nstep 10, 0204, line 3: LOOP:   ADD V1, 1"),
+            ("goto 15", "step 15, 0206, line 4: JP LOOP"),
+            ("who ST", "ST 05 -> 04 by the tick of step 9"),
+            ("until V1 <> 4", "step 11, 0206, line 4: JP LOOP"),
+        )
+
     def test_break_and_continue(self) -> None:
         self.answers(
             self.opened(),

@@ -157,7 +157,7 @@ class Pipes(AtPipe):
             (("--image", "none.ch8"), 3, "there is no file none.ch8"),
             (("--keys", "none.keys"), 3, "there is no file none.keys"),
             ((".",), 3, "is not a file"),
-            (("game.asm", "--keys", "game.asm"), 2, "game.asm, line 1: C1: no such command"),
+            (("game.asm", "--keys", "game.asm"), 2, "game.asm:1: expected STEP KEY down or STEP KEY up, as in `10 4 down` (KEY is"),
             (("--bad",), 2, "unrecognized arguments: --bad"),
         ):
             with self.subTest(arguments):
@@ -168,7 +168,16 @@ class Pipes(AtPipe):
     def test_a_source_that_does_not_open(self) -> None:
         Path(self.folder, "long.asm").write_text("; " + "x" * 199)
         status, output, errors = self.shell("", "long.asm")
-        self.assertEqual((status, output, errors), (2, "", "chipbench-shell: O1: line too long\n"))
+        told = "chipbench-shell: long.asm:1:201: O1: the line has 201 bytes; a source's line has at most 200\n"
+        self.assertEqual((status, output, errors), (2, "", told))
+
+    def test_keys_by_letters_and_by_numbers(self) -> None:
+        Path(self.folder, "letters.keys").write_text("10 a down\n  20  F  up ; comment\n30 #b down\n40 11 up\n")
+        _, output, _ = self.shell("keys\n", "game.asm", "--keys", "letters.keys")
+        self.assertEqual(output.splitlines()[1:], ["10 10 down", "20 15 up", "30 11 down", "40 11 up"])
+        Path(self.folder, "wrong.keys").write_text("10 4 down\n10 ab down\n")
+        status, _, errors = self.shell("", "game.asm", "--keys", "wrong.keys")
+        self.assertEqual((status, errors[:45]), (2, "chipbench-shell: wrong.keys:2: expected STEP "))
 
     def test_a_program_that_is_not_there(self) -> None:
         status, _, errors = self.shell("", "game.asm", "--program", "/nowhere")
