@@ -1,7 +1,7 @@
 -- The lines of a file of key events: a line `S K down` or `S K up` is what `kins S K down` or
--- `kins S K up` is in a script (own).
-use Rattle.std.specs.Prelude.{ℕ, ◌==◌, Bool, List, [], ◌++◌, codes, map, if◌then◌else◌}
-use Rattle.std.specs.List.{before_first, list_all}
+-- `kins S K up` is in a script, where K may be a letter A to F too (own).
+use Rattle.std.specs.Prelude.{ℕ, ◌-◌, ◌==◌, ◌&&◌, ◌||◌, Bool, false, List, [], ◌∷◌, ◌++◌, codes, length, map, nat_le, if◌then◌else◌, take, drop}
+use Rattle.std.specs.List.{before_first, list_all, position_or_len}
 use Rattle.std.specs.Str.Lines.{lines}
 
 abbrev pub is_space : ℕ → Bool
@@ -14,9 +14,42 @@ is_semicolon byte = byte == 59
 abbrev pub said : List ℕ → List ℕ
 said line = before_first is_semicolon line
 
+-- a text from its first byte on that is no space
+abbrev pub skip_spaces : List ℕ → List ℕ
+skip_spaces [] = []
+skip_spaces (byte ∷ text) = if is_space byte then skip_spaces text else byte ∷ text
+
+-- a text from its first space on
+abbrev pub skip_word : List ℕ → List ℕ
+skip_word text = drop (position_or_len is_space text) text
+
+-- a text from its second word on, where words are separated by spaces; empty where it has one word
+unfoldable pub from_second_word : List ℕ → List ℕ
+from_second_word text = skip_spaces (skip_word (skip_spaces text))
+
+-- what comes before the second word
+abbrev pub before_second_word : List ℕ → List ℕ
+before_second_word text = take (length text - length (from_second_word text)) text
+
+-- whether a word is one letter A to F, of either case
+unfoldable pub is_key_letter : List ℕ → Bool
+is_key_letter [] = false
+is_key_letter (letter ∷ []) = nat_le 65 letter && nat_le letter 70 || nat_le 97 letter && nat_le letter 102
+is_key_letter (letter ∷ other ∷ word) = false
+
+-- a text with `#` before it, where its first word is such a letter
+unfoldable pub with_sign : List ℕ → List ℕ
+with_sign text = if is_key_letter (before_first is_space text) then codes "#" ++ text else text
+
+-- a text whose second word has `#` before it, where that is such a letter: `10 a down` is
+-- `10 #a down`
+abbrev pub with_key_number : List ℕ → List ℕ
+with_key_number text = before_second_word text ++ with_sign (from_second_word text)
+
 -- the line of a script that does the same: an empty one where the line is blank or only a comment
 unfoldable pub key_command : List ℕ → List ℕ
-key_command line = if list_all is_space (said line) then [] else codes "kins " ++ said line
+key_command line =
+    if list_all is_space (said line) then [] else codes "kins " ++ with_key_number (said line)
 
 -- those of a file, whose lines are cut as a source's
 abbrev pub key_commands : List ℕ → List (List ℕ)

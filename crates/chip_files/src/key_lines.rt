@@ -1,8 +1,8 @@
 //! The lines of a file of key events.
-ghost use Rattle.std.specs.Prelude.{◌≡◌, ◌==◌, ◌<◌, ◌≤◌, ◌∷◌, IfOk, length};
-ghost use Rattle.std.specs.List.{list_all, position_or_len};
+ghost use Rattle.std.specs.Prelude.{◌≡◌, ◌==◌, ◌<◌, ◌≤◌, ◌∷◌, ◌++◌, IfOk, OnOk, length};
+ghost use Rattle.std.specs.List.{before_first, list_all, position_or_len};
 ghost use Rattle.std.specs.Str.Lines.{lines, strip_carriage_return};
-ghost use Rattle.chip_files.specs.KeyLines.{is_space, key_command, said};
+ghost use Rattle.chip_files.specs.KeyLines.{is_space, is_key_letter, key_command, said, from_second_word, skip_spaces, skip_word, with_sign};
 
 use memchr::memchr;
 use std::alloc::{AllocError, Global};
@@ -22,7 +22,8 @@ pub fn first_line(bytes: &[u8]) -> (&[u8], &[u8])
 }
 
 /// The line of a script that does what a line of the file says: a line `S K down` or `S K up` is
-/// `kins S K down` or `kins S K up`. A semicolon begins a comment, and a line may be blank.
+/// `kins S K down` or `kins S K up`. K may be a letter A to F too, of either case, before which the
+/// script's line has a `#`. A semicolon begins a comment, and a line may be blank.
 ///
 /// # Errors
 ///
@@ -35,9 +36,63 @@ pub fn key_command(alloc: Global, line: &[u8]) -> Result<Vec<u8>, AllocError>
     let mut command = Vec::new(alloc);
     if !is_blank(text) {
         command.extend_from_slice(b"kins ")?;
-        command.extend_from_slice(text)?;
+        let key = from_second_word(text);
+        command.extend_from_slice(&text[..text.len() - key.len()])?;
+        push_key(&mut command, key)?;
     }
     Ok(command)
+}
+
+// Adds a text that begins with a key, with `#` before it where the key is a letter.
+#[tactic(auto, unfolding(crate::specs::KeyLines::with_sign))]
+fn push_key(command: &mut Vec<u8>, text: &[u8]) -> Result<(), AllocError>
+    ensures { OnOk result (command.new.items ≡ command.old.items ++ with_sign text.now) }
+{
+    if is_key_letter(&text[..place_of(b' ', text)]) {
+        command.push(b'#')?;
+    }
+    command.extend_from_slice(text)?;
+    Ok(())
+}
+
+// Whether a word is one letter A to F, of either case.
+#[tactic(auto, unfolding(crate::specs::KeyLines::is_key_letter))]
+fn is_key_letter(word: &[u8]) -> bool
+    ensures { result ≡ is_key_letter word.now }
+{
+    match word {
+        [letter] => (b'A' <= *letter && *letter <= b'F') || (b'a' <= *letter && *letter <= b'f'),
+        _ => false,
+    }
+}
+
+// A text from its second word on.
+#[tactic(auto, unfolding(crate::specs::KeyLines::from_second_word))]
+fn from_second_word(text: &[u8]) -> &[u8]
+    ensures value { result.now ≡ from_second_word text.now }
+    ensures within { length result.now ≤ length text.now }
+{
+    skip_spaces(skip_word(skip_spaces(text)))
+}
+
+// A text from its first byte on that is no space.
+fn skip_spaces(text: &[u8]) -> &[u8]
+    ensures value { result.now ≡ skip_spaces text.now }
+    ensures within { length result.now ≤ length text.now }
+{
+    let mut rest = text;
+    while let [b' ', tail @ ..] = rest {
+        rest = tail;
+    }
+    rest
+}
+
+// A text from its first space on.
+fn skip_word(text: &[u8]) -> &[u8]
+    ensures value { result.now ≡ skip_word text.now }
+    ensures within { length result.now ≤ length text.now }
+{
+    &text[place_of(b' ', text)..]
 }
 
 // What a line says, without its comment.

@@ -29,8 +29,8 @@ impl From<AllocError> for KeyFileError {
 }
 
 /// Makes the key events of a file, one after another: a line `S K down` or `S K up` does what
-/// `kins S K down` or `kins S K up` does in a script. A semicolon begins a comment, and a line may
-/// be blank.
+/// `kins S K down` or `kins S K up` does in a script. K may be a letter A to F too. A semicolon begins
+/// a comment, and a line may be blank.
 ///
 /// # Errors
 ///

@@ -80,12 +80,12 @@ export function writeKeys(script) {
   return script.events.map(({ step, key, down }) => `${step} ${key} ${word(down)}\n`).join('');
 }
 
-// The number of a key, which may be a letter too, or null.
-const readKey = (text) => (/^[a-f]$/i.test(text) ? Number.parseInt(text, 16) : readNumber(text));
+/** The number of a key, written as a number or as a letter A to F of either case. */
+const readKey = (word) => readNumber(/^[a-f]$/i.test(word) ? `#${word}` : word);
 
 /**
  * Reads a text of key events that the program takes: `STEP KEY down` or `up` in a line, a `;` before a comment, numbers as in a
- * script, keys also as letters. Which texts it takes the program says (`keys` of the bridge); what can't be read is thrown with its line.
+ * script, and letters A to F as keys. Which texts it takes the program says (`keys` of the bridge); what can't be read is thrown with its line.
  */
 export function readKeys(text) {
   const events = text.split('\n').flatMap((line, place) => {

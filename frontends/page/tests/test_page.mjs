@@ -128,8 +128,8 @@ test('keys: a script as a text', () => {
   assert.equal(writeKeys(script), '20 5 down\n40 5 up\n');
   assert.deepEqual(readKeys(writeKeys(script)).events, script.events);
   assert.deepEqual(readKeys('; a play\n\n  #28 5 up ; held\r\n 20  #5 down').events, script.events);
-  assert.deepEqual(readKeys('1 a down\n2  F up\n').events, [{ step: 1, key: 10, down: true }, { step: 2, key: 15, down: false }]);
-  for (const text of ['20 5 down\n20 16 up\n', '20 5 down\n20 ab up\n', '20 5 down\nhello\n', '1 2 up\n1 2', ';\n1 2 up now', '\n1 2 UP']) assert.throws(() => readKeys(text), /line 2/);
+  assert.deepEqual(readKeys('20 a down\n40 F up').events, new KeyScript().with(20, 10, true).with(40, 15, false).events);
+  for (const text of ['20 5 down\n20 ab up\n', '20 5 down\na 5 up', '20 5 down\n20 16 up\n', '20 5 down\nhello\n', '1 2 up\n1 2', ';\n1 2 up now', '\n1 2 UP']) assert.throws(() => readKeys(text), /line 2/);
 });
 
 test('texts: bytes stay as they were', () => {
