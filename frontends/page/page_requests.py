@@ -322,7 +322,7 @@ class Bridge:
         return place
 
     def keys(self, request: dict[str, Any]) -> dict[str, Any]:
-        """Whether the program takes a file of key events: the first line that it refuses, and its code."""
+        """Whether the program takes a file of key events: the first line that it refuses, and why."""
         content = bytes_of(request.get("text"), MAX_FILE)
         return {"refused": self._refused_by_run(content) if self._takes_keys else self._refused_by_debug(content)}
 
@@ -333,12 +333,12 @@ class Bridge:
         finally:
             empty.unlink()
             place.unlink()
-        found = re.search(r" line (\d+): ([A-Z]\d+)$", errors.strip())
+        found = re.search(r":(\d+): (.+)$", errors.strip())
         if status == 0:
             return None
         if found is None:
             raise Refused(409, errors.strip() or f"the program ended with status {status}")
-        return {"line": int(found[1]), "code": found[2]}
+        return {"line": int(found[1]), "why": found[2]}
 
     def _refused_by_debug(self, content: bytes) -> dict[str, Any] | None:
         """For a program without `--keys`: each line is what follows `kins` in a script."""
@@ -352,5 +352,5 @@ class Bridge:
             empty.unlink()
         for number, answer in zip(numbers, output.decode("latin-1").splitlines()):
             if answer != "ok":
-                return {"line": number, "code": answer.removeprefix("no ")}
+                return {"line": number, "why": answer.removeprefix("no ")}
         return None

@@ -206,14 +206,14 @@ export class ProgramRequests {
     return { tape: steps.map((line) => line.split(' ')[FIRST_REGISTER]).join('') };
   }
 
-  // Whether the program takes a file of key events: the first line that it refuses, and its code.
+  // Whether the program takes a file of key events: the first line that it refuses, and why.
   keys({ text }) {
     const files = new Map([['empty', new Uint8Array()], ['keys', bytesOf(text)]]);
     const { status, errors } = this.runOnce(['run', 'empty', '--steps', '0', '--keys', 'keys'], files);
     if (status === 0) return { refused: null };
-    const found = /line (\d+): ([A-Z]\d+)$/.exec(errors.trim());
+    const found = /:(\d+): (.+)$/.exec(errors.trim());
     if (!found) throw new Refused(409, errors.trim());
-    return { refused: { line: Number(found[1]), code: found[2] } };
+    return { refused: { line: Number(found[1]), why: found[2] } };
   }
 
   search({ source, keys, options, ...question }) {

@@ -137,15 +137,8 @@ fn push_failure(
         }
         Verdict::BadKeys(number, code) => {
             push_place(text, file, case.line, case.name)?;
-            let mut digits = Buffer::new();
-            let number = digits.format(*number as u64).as_bytes();
-            push_parts(
-                text,
-                &[b"line ", number, b" of the key events: no ", code.0],
-            )?;
-            push_title(text, code.0)?;
-            text.push(b'\n')?;
-            Ok(())
+            let why = format!(in alloc; "line {number} of the key events: {code}\n")?;
+            text.extend_from_slice(why.as_bytes())
         }
         Verdict::Answered(others) => {
             for step in &case.steps {

@@ -3,7 +3,9 @@ ghost use Rattle.std.specs.Prelude.{◌≡◌};
 ghost use Rattle.clap.specs.Words.{kind_of};
 ghost use Rattle.chip_host.specs.Endings.{ending_status, failure_status, settings_failure, arguments_failure};
 
+use crate::limits::EVENT_BYTES;
 use chip_cases::CaseFault;
+use chip_replay::{KEYS, LAST_STEP, MOST_EVENTS};
 use chip_session::SetError;
 use chip_trace::HeaderError;
 use clap::error::ErrorKind;
@@ -21,13 +23,34 @@ pub enum Ending {
     Short,
 }
 
-/// The code of a refusal.
+/// The code of why a line of a file of key events is refused. As text, what was expected of the line.
 #[derive(Clone, Copy, Debug)]
 pub struct Code(pub &'static [u8]);
 
 impl fmt::Display for Code {
     fn fmt<W: fmt::Write>(&self, f: &mut fmt::Formatter<W>) -> fmt::Result {
-        f.write_str(str::from_utf8(self.0).unwrap_or("?"))
+        let last_key = KEYS - 1;
+        let with_letter = EVENT_BYTES - 1;
+        match self.0 {
+            [b'C', b'2'] => write!(
+                f,
+                "the line is too long; expected at most {EVENT_BYTES} bytes before a comment, \
+                 {with_letter} where KEY is a letter"
+            ),
+            [b'N', b'5'] => write!(f, "STEP is too large; expected at most {LAST_STEP}"),
+            [b'N', b'6'] => write!(
+                f,
+                "there is no such KEY; expected 0 to {last_key}, or A to F"
+            ),
+            [b'N', b'7'] => f.write_str(
+                "an earlier line already has an event of that STEP and KEY",
+            ),
+            [b'N', b'9'] => write!(f, "there are over {MOST_EVENTS} events"),
+            _ => write!(
+                f,
+                "expected STEP KEY down or STEP KEY up, as in `10 4 down` (KEY is 0 to {last_key}, or A to F)"
+            ),
+        }
     }
 }
 
@@ -84,7 +107,7 @@ pub enum Failure<'a> {
     #[error("chipbench: no property in line {0}\n")]
     NoProperty(u32),
     /// The line of that number of a key file is refused.
-    #[error("chipbench: keys {0} line {1}: {2}\n")]
+    #[error("chipbench: {0}:{1}: {2}\n")]
     BadKeys(&'a str, usize, Code),
     /// The first line of a trace doesn't name columns.
     #[error("chipbench: {0} is not a trace: {1}\n")]

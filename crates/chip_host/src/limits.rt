@@ -2,6 +2,10 @@
 
 pub use chip_session::limits::{COMMAND_BYTES, SCRIPT_BYTES, SCRIPT_LINES};
 
+/// How many bytes before its comment a line of a file of key events has at most, where its key is a
+/// number: a command begins with `kins `. With a letter it has one fewer, since a `#` is put before it.
+pub(crate) const EVENT_BYTES: usize = COMMAND_BYTES - 5;
+
 /// How many bytes a file of key events has at most.
 pub const KEY_FILE_BYTES: u32 = 10_000_000;
 

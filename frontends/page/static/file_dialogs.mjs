@@ -2,7 +2,6 @@
 
 import { readBytes, refusal } from './answers.mjs';
 import { request } from './bridge.mjs';
-import { codeText } from './codes.mjs';
 import { byId, element, grouped } from './dom.mjs';
 import { download, readByteString } from './files.mjs';
 import { readGame, writeGame } from './game_file.mjs';
@@ -164,7 +163,7 @@ export class FileDialogs {
   /** Which scripts of keys there are the program says. */
   async #checkKeys(text) {
     const { refused } = await request('keys', { text });
-    if (refused !== null) throw new Error(`line ${refused.line} of the keys: ${refused.code}, ${codeText(refused.code)}`);
+    if (refused !== null) throw new Error(`line ${refused.line} of the keys: ${refused.why}`);
   }
 
   // Earlier texts -------------------------------------------------------------------------------------------------------------

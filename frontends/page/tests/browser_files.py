@@ -358,10 +358,15 @@ class FileTests(PageTests):
             browser.wait("chipbenchPage.model.keys.size > 0 || document.querySelector('.notice') !== null")
             assert browser.value("chipbenchPage.model.keys.size") == 3, self.text_of("#notices")
             self.check_step(text, 300, ["kins 100 5 down", "kins 120 5 up", "kins 200 12 down"])
-            for line, code in (("100 16 down", "N6"), ("100 5 down", "N7"), ("1 2 3", "C1"), ("5 5 down now", "C1")):
+            for line, why in (
+                ("100 16 down", "there is no such KEY"),
+                ("100 5 down", "an earlier line already has"),
+                ("1 2 3", "expected STEP KEY"),
+                ("5 5 down now", "expected STEP KEY"),
+            ):
                 keys.write_text(f"; a comment\n100 5 down\n{line}\n")
                 self.upload(keys)
-                browser.wait(f"/line 3 of the keys: {code}/.test(document.getElementById('notices').textContent)")
+                browser.wait(f"/line 3 of the keys: {why}/.test(document.getElementById('notices').textContent)")
                 assert browser.value("chipbenchPage.model.keys.size") == 3
 
     def test_source_with_keys(self) -> None:

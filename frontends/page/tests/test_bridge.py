@@ -668,11 +668,18 @@ class KeyFiles(Running):
     def test_what_is_refused(self) -> None:
         for text, refused in (
             ("; a comment\n\n10 5 down ; held\r\n  20 #5 up\n#1f 5 down", None),
-            ("10 5 down\n\n10 16 down\n", {"line": 3, "code": "N6"}),
-            ("10 5 down\n10 5 up\n", {"line": 2, "code": "N7"}),
+            ("10 5 down\n\n10 16 down\n", {"line": 3, "why": "N6"}),
+            ("10 5 down\n10 5 up\n", {"line": 2, "why": "N7"}),
             ("", None),
         ):
             self.assertEqual(self.good("keys", text=text)["refused"], refused, text)
+
+    def test_what_a_program_with_keys_refuses(self) -> None:
+        self.bridge._takes_keys = True
+        why = "there is no such KEY; expected 0 to 15, or A to F"
+        for answer, refused in (((0, b"", ""), None), ((2, b"", f"chipbench: /tmp/a:7:3: {why}\n"), {"line": 3, "why": why})):
+            with unittest.mock.patch.object(page_requests, "run_once", return_value=answer):
+                self.assertEqual(self.good("keys", text="10 5 down")["refused"], refused)
 
 
 def what_is_open(running: "subprocess.Popen[str]") -> dict[str, Any]:

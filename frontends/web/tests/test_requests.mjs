@@ -56,7 +56,7 @@ test('the program answers words, files of key events and searches', { skip }, ()
   assert.equal(requests.word({ word: 'dis', content: '\x00\xe0' }).output, 'CLS\n');
   assert.match(requests.word({ word: 'explain', code: 'F9' }).output, /^F9/);
   assert.deepEqual(requests.keys({ text: '3 1 down\n' }), { refused: null });
-  assert.deepEqual(requests.keys({ text: '3 1 down\n3 20 down\n' }), { refused: { line: 2, code: 'N6' } });
+  assert.deepEqual(requests.keys({ text: '3 1 down\n3 20 down\n' }), { refused: { line: 2, why: 'there is no such KEY; expected 0 to 15, or A to F' } });
   const about = { source: 'L: ADD V0, 1\nJP L\n', keys: '', options: {}, first: 1, last: 101 };
   assert.deepEqual(requests.search({ ...about, most: 2, isLast: false, where: [['v0', ['05'], false]] }).steps, [9, 10]);
   const onOcto = { ...about, options: { profile: 'octo' } };
