@@ -68,12 +68,12 @@ def version():
 def package(output, given, **options):
     """Makes the packages with a program, or with the built one where none is given."""
     program_option = ["--program", given] if given else []
-    return run(TOP / "packaging/chipbench-package", *program_option, "--output", output, **options).decode()
+    return run(TOP / "packaging/chipbench-package", *program_option, "--to", output, **options).decode()
 
 
 def is_repository():
     """Whether git knows the commit of these files."""
-    if shutil.which("git") is None:
+    if shutil.which("git") is None or not (TOP / ".git").exists():
         return False
     return subprocess.run(["git", "-C", TOP, "rev-parse", "HEAD"], capture_output=True).returncode == 0
 

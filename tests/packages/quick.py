@@ -1,4 +1,5 @@
 """The quick tests: no network, no root, seconds."""
+import email.utils
 import fnmatch
 import os
 import pathlib
@@ -340,6 +341,93 @@ class TestLaunchers(unittest.TestCase):
         self.assertEqual((done.returncode, b"python3" in done.stderr), (127, True))
 
 
+def set_writable(top, is_writable):
+    """Lets everybody write below a folder, or nobody."""
+    for place, folders, files in os.walk(top):
+        for path in [place, *(os.path.join(place, name) for name in folders + files)]:
+            mode = os.lstat(path).st_mode
+            if not os.path.islink(path):
+                os.chmod(path, mode | 0o200 if is_writable else mode & ~0o222)
+
+
+class TestMakingPackages(unittest.TestCase):
+    """chipbench-package in an unpacked download, which nobody may write, below a repository of something else."""
+
+    @classmethod
+    def setUpClass(cls):
+        missing = [tool for tool in ("dpkg-deb", "strip", "readelf", "git") if shutil.which(tool) is None]
+        if missing:
+            raise unittest.SkipTest(f"no command {missing[0]}")
+        cls.folder = pathlib.Path(tempfile.mkdtemp(prefix="chipbench-package-tests-"))
+        cls.addClassCleanup(shutil.rmtree, cls.folder)
+        cls.folder.chmod(0o755)
+        run("git", "init", "--quiet", cls.folder)
+        (cls.folder / "home").mkdir()
+        (cls.folder / "home").chmod(0o777)
+        run("git", "-C", cls.folder, "-c", "user.name=a", "-c", "user.email=a@b", "commit", "--quiet", "--allow-empty", "--message", "other")
+        cls.top = cls.folder / "download"
+        shutil.copytree(TOP, cls.top, symlinks=True, ignore=shutil.ignore_patterns(".git", "out", "__pycache__"))
+        shutil.copy(given(), cls.folder / "program")
+        set_writable(cls.top, False)
+        cls.addClassCleanup(set_writable, cls.top, True)
+
+    def make(self, *more, **options):
+        """How chipbench-package ends for a user who isn't root, and what it says."""
+        user = {"user": 65534, "group": 65534, "extra_groups": []} if os.geteuid() == 0 else {}
+        environment = {"PATH": os.environ["PATH"], "HOME": str(self.folder / "home"), **options}
+        command = [self.top / "packaging/chipbench-package", "--program", self.folder / "program", *more]
+        done = subprocess.run(command, env=environment, stdin=subprocess.DEVNULL, capture_output=True, text=True, timeout=600, **user)
+        return done.returncode, done.stdout, done.stderr
+
+    def tools_without(self, *names):
+        """A folder for the PATH with all commands but some."""
+        tools = pathlib.Path(tempfile.mkdtemp(dir=self.folder))
+        tools.chmod(0o755)
+        for folder in reversed(os.environ["PATH"].split(os.pathsep)):
+            for path in pathlib.Path(folder).glob("*"):
+                if path.name not in names:
+                    (tools / path.name).unlink(missing_ok=True)
+                    (tools / path.name).symlink_to(path)
+        return str(tools)
+
+    def test_a_missing_command_is_named_with_its_package(self):
+        tools = self.tools_without("strip")
+        refused = (1, "", "chipbench-package: not on the PATH: strip. On Debian run: sudo apt install binutils\n")
+        self.assertEqual(self.make(PATH=tools), refused)
+        tools = self.tools_without("dpkg-deb", "gzip", "strip", "readelf")
+        named = "not on the PATH: strip, readelf, dpkg-deb, gzip. On Debian run: sudo apt install binutils dpkg gzip\n"
+        self.assertEqual(self.make(PATH=tools), (1, "", f"chipbench-package: {named}"))
+
+    def test_a_folder_that_cannot_be_written_is_named_first(self):
+        status, _, said = self.make()
+        self.assertEqual((status, said.count("\n")), (1, 1))
+        self.assertIn(f"{self.top} can't be written", said)
+        self.assertIn("--to FOLDER", said)
+        status, _, said = self.make("--to", self.folder / "program")
+        self.assertEqual((status, "is not a folder" in said), (1, True))
+
+    def test_packages_of_a_download(self):
+        made = self.folder / "home/made"
+        status, printed, said = self.make("--to", made)
+        if "needs the C library" in said:
+            self.skipTest(f"no program is built, and {STAND_IN} needs a later C library")
+        self.assertEqual((status, said), (0, ""))
+        self.assertIn("commit: unknown\n", printed)
+        top = f"chipbench-{version()}-x86_64-linux"
+        with tarfile.open(made / f"{top}.tar.gz") as archive:
+            files = {member.name for member in archive.getmembers() if not member.isdir()}
+            times = {member.mtime for member in archive.getmembers()}
+        self.assertEqual(files, {f"{top}/{entry.target}" for entry in entries("plain")})
+        date = re.search(r"(?m)^ -- .*>  (.*)$", (TOP / "packaging/changelog").read_text(encoding="utf-8"))[1]
+        self.assertEqual(times, {int(email.utils.parsedate_to_datetime(date).timestamp())})
+        self.assertTrue((made / f"chipbench_{version()}_amd64.deb").is_file())
+
+    def test_an_installation_of_a_download_names_no_commit_of_another_repository(self):
+        prefix = self.folder / "prefix"
+        run(self.top / "packaging/chipbench-install", prefix, "--program", self.folder / "program")
+        self.assertIn("commit: unknown\n", (prefix / DOCUMENTS / "BUILD").read_text(encoding="utf-8"))
+
+
 class TestPackages(unittest.TestCase):
     """The packages of the commit, made twice."""
 
@@ -411,5 +499,5 @@ class TestPackages(unittest.TestCase):
         needed = run("readelf", "-d", sys.executable).decode().count("(NEEDED)")
         if needed < 2:
             self.skipTest("no program with other libraries is known here")
-        run(TOP / "packaging/chipbench-package", "--program", sys.executable, "--output", self.folder / "three", status=1)
+        run(TOP / "packaging/chipbench-package", "--program", sys.executable, "--to", self.folder / "three", status=1)
         self.assertFalse((self.folder / "three").exists())
