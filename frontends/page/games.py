@@ -44,11 +44,13 @@ def game_page() -> dict[str, Any]:
     module = session_module()
     try:
         from one_file import game_template
-    except ImportError:
+
+        template = game_template()
+    except (ImportError, OSError):
         module = None
     if module is None:
         return {"template": None, "module": None}
-    return {"template": game_template(), "module": base64.b64encode(module).decode("ascii")}
+    return {"template": template, "module": base64.b64encode(module).decode("ascii")}
 
 
 def tape_of(program: str, place: Path, seed: str) -> str:

@@ -106,7 +106,7 @@ class Bridge:
         return example(self._program, name, steps)
 
     def document(self, request: dict[str, Any]) -> dict[str, Any]:
-        """A document that a page of `explain` names, or none."""
+        """A document that a page of `explain` names, or the licences; none where it isn't there."""
         if request.get("name") not in DOCUMENTS:
             raise Refused(400, "no such document")
         return {"text": document(request["name"])}

@@ -2,10 +2,13 @@
 
 import base64
 import hashlib
+import html
 import os
 import re
 
 HERE = os.path.dirname(os.path.abspath(__file__))
+# in the repository, and where it is installed
+NOTICES = [os.path.join(os.path.dirname(os.path.dirname(HERE)), "THIRD-PARTY"), os.path.join(os.path.dirname(HERE), "THIRD-PARTY")]
 IMPORT = re.compile(r"^import (\{[^}]*\}) from '\./([\w.]+)';\n", re.M)
 # what a module gives, where it is made and at its end
 GIVEN = re.compile(r"^export (?:async )?(?:class|function\*?|const) (\w+)", re.M)
@@ -22,6 +25,12 @@ WebAssembly.compile(bytes).then((module) => {
 def text_of(*path):
     with open(os.path.join(*path), encoding="utf-8") as file:
         return file.read()
+
+
+def notices():
+    """The licences of all that a page contains, as text of HTML."""
+    place = next((place for place in NOTICES if os.path.exists(place)), NOTICES[0])
+    return html.escape(text_of(place), quote=False)
 
 
 def encoded(content):
@@ -79,5 +88,5 @@ def game_template():
     """The page of a game, but for what is of one game: @TITLE@, @SETTINGS@, @GAME@ and @MODULE@ stand in its place."""
     script = bundle(["session.mjs", "game.mjs"]) + GAME_SCRIPT
     style = text_of(HERE, "game.css")
-    parts = {"POLICY": policy([script], [style], "'wasm-unsafe-eval'"), "STYLE": style, "SCRIPT": script}
-    return re.sub("@(POLICY|STYLE|SCRIPT)@", lambda found: parts[found[1]], text_of(HERE, "game.html"))
+    parts = {"POLICY": policy([script], [style], "'wasm-unsafe-eval'"), "STYLE": style, "SCRIPT": script, "NOTICES": notices()}
+    return re.sub("@(POLICY|STYLE|SCRIPT|NOTICES)@", lambda found: parts[found[1]], text_of(HERE, "game.html"))

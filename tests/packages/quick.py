@@ -1,6 +1,8 @@
 """The quick tests: no network, no root, seconds."""
 import email.utils
 import fnmatch
+import html
+import json
 import os
 import pathlib
 import re
@@ -19,6 +21,9 @@ LISTED_FOLDERS = ("docs", "examples", "frontends")
 # The folders that documents may link to, though they aren't installed.
 REPOSITORY_ALONE = (".ci", "bench", "crates", "tests", "tools")
 RECORD = "share/chipbench/INSTALLED"
+# The kit's own libraries; parts of them follow works of others.
+KIT_LIBRARIES = {"core", "io", "libc", "os", "std", "std_alloc", "std_collections", "std_heap", "std_io"}
+PORTED_PARTS = {"core::dec2flt::": "fast-float2", "core::fmt::unicode::": "Unicode-data", "core::char::": "Unicode-data"}
 
 
 def given():
@@ -31,10 +36,17 @@ def omitted():
     return [line.split()[1] for line in lines if line.startswith("omit ")]
 
 
+def noted_names():
+    """The works that packaging/copyright names."""
+    text = (TOP / "packaging/copyright").read_text(encoding="utf-8")
+    return {name for line in re.findall(r"^Files: (.*)", text, re.M) for name in line.split()} - {"*"}
+
+
 def ported_crates(crate):
     """The crates of the kit that a crate of the repository stands on."""
     lines = (TOP / "crates.txt").read_text(encoding="utf-8").splitlines()
-    below = {name: rest.split() for name, _, rest in (line.partition(":") for line in lines if not line.startswith("#"))}
+    rows = [line.partition(":") for line in lines if line and not line.startswith("#")]
+    below = {name.split()[0]: rest.split() for name, _, rest in rows}
     found, waiting = set(), [crate]
     while waiting:
         name = waiting.pop()
@@ -71,14 +83,6 @@ class TestList(unittest.TestCase):
         first = (TOP / "packaging/changelog").read_text(encoding="utf-8").splitlines()[0]
         self.assertEqual(re.match(r"chipbench \((.*?)\) ", first).group(1), version())
 
-    def test_copyright_has_the_licence_and_the_crates(self):
-        text = (TOP / "packaging/copyright").read_text(encoding="utf-8")
-        licence = (TOP / "LICENSE").read_text(encoding="utf-8").split("\n\n", 2)[2]
-        lines = [line.strip() for line in text.split("License: Expat\n")[-1].splitlines()]
-        self.assertEqual([line for line in licence.splitlines() if line], [line for line in lines if line != "."])
-        named = {name for line in re.findall(r"^Files: (.*)", text, re.M) for name in line.split()}
-        self.assertEqual(named - {"*"}, ported_crates("chipbench"))
-
     def check_manual(self, name, *command):
         """The manual page of a launcher has each option of its help."""
         manual = (TOP / f"packaging/{name}.1").read_text(encoding="utf-8").replace("\\-", "-")
@@ -96,6 +100,68 @@ class TestList(unittest.TestCase):
         self.check_manual("chipbench-steps", TOP / "frontends/python/chipbench_steps")
 
 
+class TestNotices(unittest.TestCase):
+    """The licences of all that is linked with the program, or in its modules, and where their text goes."""
+
+    def setUp(self):
+        self.folder = pathlib.Path(tempfile.mkdtemp(prefix="chipbench-package-tests-"))
+        self.addCleanup(shutil.rmtree, self.folder)
+        self.notices = (TOP / "THIRD-PARTY").read_text(encoding="utf-8")
+
+    def module(self, name):
+        module = TOP / "release" / name
+        if not module.is_file():
+            self.skipTest(f"there is no release/{name}")
+        return module
+
+    def test_licence_is_that_of_the_repository(self):
+        licence = (TOP / "LICENSE").read_text(encoding="utf-8").split("\n\n", 2)[2]
+        self.assertIn(licence, self.notices)
+
+    def test_copyright_names_the_crates(self):
+        self.assertEqual((ported_crates("chipbench") | ported_crates("chip_web")) - KIT_LIBRARIES - noted_names(), set())
+
+    def test_copyright_names_what_the_program_is_linked_with(self):
+        if shutil.which("readelf") is None:
+            self.skipTest("no command readelf")
+        table = run("readelf", "--syms", "--wide", self.module("chipbench")).decode().splitlines()
+        symbols = [fields[7] for fields in map(str.split, table) if len(fields) > 7 and fields[3] == "FUNC" and "::" in fields[7]]
+        crates = {symbol.split("::")[0] for symbol in symbols}
+        self.assertIn("clap", crates)
+        self.assertEqual({crate for crate in crates if not crate.startswith("chip")} - KIT_LIBRARIES - noted_names(), set())
+        within = {name for part, name in PORTED_PARTS.items() if any(symbol.startswith(part) for symbol in symbols)}
+        self.assertEqual(within - noted_names(), set())
+
+    def test_notices_name_each_work_with_its_holder(self):
+        for name in noted_names():
+            self.assertRegex(self.notices, rf"(?m)^(?:\S+, )?{name}\b.*\n    Copyright \(c\) \S")
+
+    def test_notices_in_the_page(self):
+        self.module("session.wasm"), self.module("chipbench.wasm")
+        run(TOP / "frontends/web/page", self.folder / "page.html", TOP / "release")
+        page = (self.folder / "page.html").read_text(encoding="utf-8")
+        self.assertEqual(html.unescape(re.search(r'<pre id="licences-text"[^>]*>([^<]*)</pre>', page)[1]), self.notices)
+
+    def test_notices_in_an_exported_game(self):
+        run(TOP / "frontends/web/game", TOP / "examples/bounce.asm", self.folder / "game.html", "--module", self.module("session.wasm"))
+        game = (self.folder / "game.html").read_text(encoding="utf-8")
+        self.assertEqual(html.unescape(re.search(r"<summary>Licences</summary><pre>([^<]*)</pre>", game)[1]), self.notices)
+
+    def test_notices_in_the_package_for_node(self):
+        run(TOP / "packaging/node-package", self.module("chipbench.wasm"), self.folder / "node.tgz")
+        with tarfile.open(self.folder / "node.tgz") as archive:
+            self.assertEqual(archive.extractfile("package/THIRD-PARTY").read().decode(), self.notices)
+            names = set(json.load(archive.extractfile("package/package.json"))["files"])
+            self.assertEqual({f"package/{name}" for name in names | {"package.json"}}, set(archive.getnames()) - {"package"})
+
+    def test_notices_of_an_installed_page(self):
+        run(TOP / "packaging/chipbench-install", self.folder / "prefix", "--program", given())
+        share = self.folder / "prefix/share/chipbench"
+        ask = "import html, documents, games, one_file; print(documents.document('THIRD-PARTY') in html.unescape(one_file.game_template()))"
+        done = run(sys.executable, "-B", "-c", ask, env={"PYTHONPATH": str(share / "page")}, cwd="/")
+        self.assertEqual(done.decode(), "True\n")
+
+
 class TestRelease(unittest.TestCase):
     """The released program beside a copy of the sources: what the gate refuses, and what ./chipbench runs."""
 
@@ -106,7 +172,7 @@ class TestRelease(unittest.TestCase):
         self.addCleanup(shutil.rmtree, self.top)
         for folder in ("crates", "docs", "examples", "frontends/page", "frontends/web", "packaging", "release"):
             shutil.copytree(TOP / folder, self.top / folder, ignore=shutil.ignore_patterns("out", "__pycache__"))
-        for file in ("chipbench", "crates.txt", "HANDLES"):
+        for file in ("chipbench", "crates.txt", "HANDLES", "THIRD-PARTY"):
             shutil.copy(TOP / file, self.top)
 
     def check(self, status):

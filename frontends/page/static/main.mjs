@@ -24,6 +24,7 @@ import { askName, chooseName, FileDialogs } from './file_dialogs.mjs';
 import { FindBar } from './find_bar.mjs';
 import { GameExport } from './game_export.mjs';
 import { Keypad } from './keypad.mjs';
+import { showLicences } from './licences.mjs';
 import { MemoryView } from './memory_view.mjs';
 import { Model } from './model.mjs';
 import { notice, takeAway } from './notices.mjs';
@@ -210,6 +211,7 @@ class Page {
     byId('show-settings').addEventListener('click', () => this.settings.open());
     byId('show-find').addEventListener('click', () => this.#act('find'));
     byId('show-help').addEventListener('click', () => byId('help').showModal());
+    byId('licences').addEventListener('toggle', showLicences);
     byId('download-case').hidden = !this.#about.words.includes('test');
     for (const menu of document.querySelectorAll('.menu')) this.#listenToMenu(menu);
     listen({ player: this.player, look: () => this.model.look, act: (name) => this.#act(name) });

@@ -96,7 +96,10 @@ class Running(unittest.TestCase):
 
 
 class Documents(Running):
-    """The documents that pages of `explain` name."""
+    """The documents that pages of `explain` name, and the licences."""
+
+    def test_the_licences(self) -> None:
+        self.assertEqual(self.good("document", name="THIRD-PARTY")["text"], (TOP / "THIRD-PARTY").read_text(encoding="utf-8"))
 
     def test_a_document(self) -> None:
         self.assertEqual(self.good("document", name="LANGUAGE")["text"], (TOP / "docs/LANGUAGE.md").read_text(encoding="utf-8"))
