@@ -223,6 +223,18 @@ class TestRootWithPython(unittest.TestCase):
         for user in (USER, None):
             answers_initialize(self, *self.root.command("chipbench-lsp", user=user))
 
+    def test_extension_for_vscode_is_linked_as_its_document_says(self):
+        text = self.root.shell(f"cat /usr/{DOCUMENTS}/frontends/editors/README.md")
+        [folder] = re.findall(r"(?m)^    (EDITORS=\S+) +# the Debian package$", text)
+        commands = re.findall(r"(?m)^    ((?:mkdir|ln) .*)$", text)
+        self.root.shell("\n".join([folder, *commands, "test -s ~/.vscode/extensions/chipbench/package.json", "rm -r ~/.vscode"]))
+
+    def test_notices_are_those_of_the_repository(self):
+        notices = (common.TOP / "THIRD-PARTY").read_text(encoding="utf-8")
+        ask = "from documents import document; from games import game_page; print(document('THIRD-PARTY')); assert 'Licences' in game_page()['template']"
+        shown = self.root.shell(f'PYTHONPATH=/usr/share/chipbench/page python3 -B -c "{ask}"')
+        self.assertEqual(shown, notices + "\n")
+
     def test_steps(self):
         self.root.shell("chipbench-steps --count 1 --instruction DXYN steps && test -s steps/DXYN.json && rm -r steps")
 

@@ -105,6 +105,27 @@ def named_documents(text):
     return re.findall(r"[^\s,;:()]*\b[A-Z]{2,}\.md", text.replace("\\-", "-"))
 
 
+def anchors(text):
+    """The places of a Markdown file that a link can name, as they are made of its headings."""
+    headings = (re.sub(r"\[([^]]*)\]\([^)]*\)", r"\1", line).lower() for line in re.findall(r"(?m)^#+ (.*)$", text))
+    return {re.sub(r"[^\w\- ]", "", heading).replace(" ", "-") for heading in headings}
+
+
+def dead_links(top):
+    """The links of the Markdown files below a folder that lead to nothing there, each with its file."""
+    dead = []
+    for document in sorted(pathlib.Path(top).rglob("*.md")):
+        text = re.sub(r"(?ms)^ *```.*?^ *```", "", document.read_text(encoding="utf-8"))
+        for link in re.findall(r"\]\(([^)\s]+)[^)]*\)", text) + re.findall(r"(?:src|href)=\"([^\"]+)\"", text):
+            path, _, place = link.partition("#")
+            target = (document.parent / path).resolve() if path else document
+            is_here = target.exists() and target.is_relative_to(pathlib.Path(top).resolve())
+            is_named = not place or not target.is_file() or place in anchors(target.read_text(encoding="utf-8"))
+            if ":" not in link and not (is_here and is_named):
+                dead.append(f"{document.relative_to(top)}: {link}")
+    return dead
+
+
 def answers_initialize(test, *command):
     """A language server answers the first request of the protocol."""
     request = b'{"jsonrpc":"2.0","id":1,"method":"initialize","params":{"capabilities":{}}}'

@@ -13,13 +13,11 @@ import tarfile
 import tempfile
 import unittest
 
-from common import DOCUMENTS, STAND_IN, TOP, Page, answers_initialize, contents, entries, image_of
+from common import DOCUMENTS, STAND_IN, TOP, Page, answers_initialize, contents, dead_links, entries, image_of
 from common import is_repository, named_documents, package, program, run, version
 
 # The folders whose every file is either installed or left out by name.
 LISTED_FOLDERS = ("docs", "examples", "frontends")
-# The folders that documents may link to, though they aren't installed.
-REPOSITORY_ALONE = (".ci", "bench", "crates", "tests", "tools")
 RECORD = "share/chipbench/INSTALLED"
 # The kit's own libraries; parts of them follow works of others.
 KIT_LIBRARIES = {"core", "io", "libc", "os", "std", "std_alloc", "std_collections", "std_heap", "std_io"}
@@ -338,13 +336,40 @@ class TestInstall(unittest.TestCase):
 
     def test_links_of_documents_are_there(self):
         self.installed()
-        top = self.prefix / DOCUMENTS
-        for document in sorted(top.rglob("*.md")):
-            for link in re.findall(r"\]\(([^)#\s]+)[^)]*\)", document.read_text(encoding="utf-8")):
-                target = os.path.relpath(document.parent / link, top)
-                if ":" in link or target.split("/")[0] in REPOSITORY_ALONE:
-                    continue
-                self.assertTrue((top / target).exists(), f"{document}: {link}")
+        self.assertEqual(dead_links(self.prefix), [])
+
+
+class TestReadmeOfEditors(unittest.TestCase):
+    """The commands that link the extension for VS Code, as the README of the editors has them, each in a home of its own."""
+
+    def setUp(self):
+        self.folder = pathlib.Path(tempfile.mkdtemp(prefix="chipbench-package-tests-"))
+        self.addCleanup(shutil.rmtree, self.folder)
+        text = (TOP / "frontends/editors/README.md").read_text(encoding="utf-8")
+        self.folders = re.findall(r"(?m)^    (EDITORS=.*?) +# (.*)$", text)
+        self.commands = re.findall(r"(?m)^    ((?:mkdir|ln) .*)$", text)
+
+    def link(self, which, top):
+        """Runs the commands in a folder, twice, and gives the extension's settings as the link leads to them."""
+        home = self.folder / "home"
+        lines = [*(line for line, name in self.folders if name.startswith(which)), *self.commands, *self.commands]
+        run("sh", "-euc", "\n".join(lines), cwd=top, env={"PATH": os.environ["PATH"], "HOME": str(home)})
+        return json.loads((home / ".vscode/extensions/chipbench/package.json").read_text(encoding="utf-8"))["name"]
+
+    def test_of_a_clone(self):
+        self.assertEqual(self.link("a clone", TOP), "chipbench")
+
+    def test_of_the_archive_and_an_installation(self):
+        for which, prefix in (("the archive", self.folder / "archive"), ("packaging/chipbench-install", self.folder / "home/.local")):
+            with self.subTest(which):
+                run(TOP / "packaging/chipbench-install", prefix, "--program", given())
+                self.assertEqual(self.link(which, prefix), "chipbench")
+                shutil.rmtree(prefix)
+
+    def test_of_the_debian_package(self):
+        [line] = [line for line, name in self.folders if name.startswith("the Debian package")]
+        targets = {f"/usr/{entry.target}" for entry in entries("debian")}
+        self.assertIn(f"{line.removeprefix('EDITORS=')}/vscode/package.json", targets)
 
 
 class TestLaunchers(unittest.TestCase):
@@ -456,6 +481,23 @@ class TestMakingPackages(unittest.TestCase):
                     (tools / path.name).symlink_to(path)
         return str(tools)
 
+    def test_the_commit_of_a_clone_of_another_user(self):
+        if os.geteuid() != 0:
+            self.skipTest("only root makes a clone of another user")
+        clone = self.folder / "clone"
+        (clone / "packaging").mkdir(parents=True)
+        commit = pathlib.Path(shutil.copy(TOP / "packaging/commit", clone / "packaging"))
+        run("git", "init", "--quiet", clone)
+        run("git", "-C", clone, "add", ".")
+        run("git", "-C", clone, "-c", "user.name=a", "-c", "user.email=a@b", "commit", "--quiet", "--message", "first")
+        named = run("git", "-C", clone, "rev-parse", "HEAD")
+        stranger = {"user": 65534, "group": 65534, "extra_groups": [], "env": {"PATH": os.environ["PATH"], "HOME": str(self.folder / "home")}}
+        self.assertEqual(run(commit, **stranger), named)
+        run(commit, "--changed", status=1, **stranger)
+        commit.write_text(commit.read_text(encoding="utf-8") + "# changed\n", encoding="utf-8")
+        run(commit, "--changed", "packaging", status=0, **stranger)
+        run(commit, "--changed", "crates", status=1, **stranger)
+
     def test_a_missing_command_is_named_with_its_package(self):
         tools = self.tools_without("strip")
         refused = (1, "", "chipbench-package: not on the PATH: strip. On Debian run: sudo apt install binutils\n")
@@ -471,6 +513,14 @@ class TestMakingPackages(unittest.TestCase):
         self.assertIn("--to FOLDER", said)
         status, _, said = self.make("--to", self.folder / "program")
         self.assertEqual((status, "is not a folder" in said), (1, True))
+
+    def test_a_file_that_is_not_there_is_named(self):
+        for option in ("program", "module"):
+            name = self.folder / "no folder" / option
+            status, _, said = self.make(f"--{option}", name, "--to", self.folder / "home/none")
+            self.assertEqual((status, said), (1, f"chipbench-package: there is no {option} {name}: name a file by --{option} FILE\n"))
+        for arguments in (["--what"], ["--to"], ["more"]):
+            self.assertEqual(self.make(*arguments)[0], 2)
 
     def test_packages_of_a_download(self):
         made = self.folder / "home/made"
@@ -551,6 +601,15 @@ class TestPackages(unittest.TestCase):
         compressed = re.compile(r"share/man/|share/doc/chipbench/changelog$")
         targets = {entry.target + (".gz" if compressed.match(entry.target) else "") for entry in entries("debian")}
         self.assertEqual(files, {f"./usr/{target}" for target in targets})
+
+    def test_links_of_documents_of_the_debian_package(self):
+        run("dpkg-deb", "--extract", self.folder / f"one/chipbench_{version()}_amd64.deb", self.folder / "extracted")
+        self.assertEqual(dead_links(self.folder / "extracted"), [])
+
+    def test_control_names_each_profile(self):
+        control = run("dpkg-deb", "--field", self.folder / f"one/chipbench_{version()}_amd64.deb", "Description").decode()
+        table = re.search(r"(?m)^\| Quirk \|(.*)\|$", (TOP / "docs/MACHINE.md").read_text(encoding="utf-8"))[1]
+        self.assertEqual(re.findall(r"`([\w-]+)`", table), re.findall(r"\(((?!chipbench)[a-z0-9-]+)\)", control))
 
     def test_note(self):
         commit = run("git", "-C", TOP, "rev-parse", "HEAD").decode().strip()

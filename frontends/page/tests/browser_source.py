@@ -252,6 +252,15 @@ class SourceTests(PageTests):
             box = browser.value("(({ top, bottom }) => [top, bottom])(document.querySelector('#explanation-text mark').getBoundingClientRect())")
             assert 0 <= box[0] and box[1] <= 1000, box
 
+    def test_licences(self) -> None:
+        """The licences open at the end of the help, whole."""
+        with self.page("CLS\n") as browser:
+            browser.click("#show-help")
+            assert not browser.value("document.getElementById('licences').open")
+            browser.click("#licences summary")
+            browser.wait("document.getElementById('licences-text').textContent.includes('MIT licence')")
+            assert self.text_of("#licences-text") == (TOP / "THIRD-PARTY").read_text(encoding="utf-8")
+
     def test_find_and_replace(self) -> None:
         text = "".join(f"L{number}: LD V{number % 16:X}, {number % 200}\n" for number in range(600))
         with self.page(text) as browser:
