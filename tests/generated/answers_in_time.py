@@ -5,7 +5,8 @@ Each piece comes only once the answer to the one before it was read, so a progra
 import selectors
 import subprocess
 
-SECONDS = 20
+from runner.programs import HANG_SECONDS
+
 # What is written, and what is answered to it. A piece may end in the midst of a command, or hold several.
 PIECES = [
     (b"ins 1 LD V0, 5\n", b"ok\n"),
@@ -22,11 +23,11 @@ END = b"600600e0\n"
 
 
 def taken(output, count):
-    """So many bytes of a pipe, or fewer where they don't come in time."""
+    """So many bytes of a pipe, or fewer where it waits in vain."""
     found = b""
     with selectors.DefaultSelector() as selector:
         selector.register(output, selectors.EVENT_READ)
-        while len(found) < count and selector.select(SECONDS):
+        while len(found) < count and selector.select(HANG_SECONDS):
             piece = output.read1(count - len(found))
             if not piece:
                 break

@@ -10,7 +10,8 @@ import importlib.util
 import math
 import pathlib
 import random
-import subprocess
+
+from runner.programs import limited
 
 EMULATOR = pathlib.Path(__file__).resolve().parent.parent / "trace" / "emulator.py"
 PROGRAMS = 5000
@@ -111,9 +112,7 @@ def most_states(code):
 def wrong_answer(program, number):
     """What is wrong with the answer for a program."""
     code = image(number)
-    ran = subprocess.run(
-        [program, "explore", "--image", "-", *ALLOWED, *MOST_STATES], input=code, capture_output=True, timeout=60, check=False
-    )
+    ran = limited([program, "explore", "--image", "-", *ALLOWED, *MOST_STATES], code)
     answer = ran.stdout.decode().splitlines()
     most = most_states(code)
     if answer[:1] != ["never"] or not answer[-1].startswith("states "):

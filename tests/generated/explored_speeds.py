@@ -14,7 +14,7 @@ import tempfile
 SEARCH = pathlib.Path(__file__).with_name("explored_programs.py")
 PROGRAMS = 1000
 QUICK_PROGRAMS = 200
-GROUP = 50
+GROUP = 25
 # a program with more states at one step is left out
 MOST_STATES = 400
 

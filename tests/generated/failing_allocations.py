@@ -4,17 +4,16 @@ A small library that a C compiler makes here has an allocation fail; without a c
 """
 import os
 import pathlib
-import subprocess
 import tempfile
 
 from runner.preload import library
+from runner.programs import limited
 
 SOURCES = {
     "a loop": "LD V0, 1\nLOOP: SE V0, 0\nJP LOOP\nCLS\nSTOP: JP STOP\n",
     "keys": "LOOP: SKP V0\nJP LOOP\nMORE: LD V1, K\nSE V1, 4\nJP MORE\nLD V1, K\nSE V1, 6\nJP MORE\nCLS\nSTOP: JP STOP\n",
 }
 NO_MEMORY = b"chipbench: out of memory\n"
-SECONDS = 60
 # The library: the allocation of the number FAILS fails.
 LIBRARY = """
 #define _GNU_SOURCE
@@ -47,8 +46,8 @@ void *realloc(void *old, size_t size) {
 def ran(program, folder, environment):
     """The status, the output and the errors of a check."""
     command = [program.file, "check", "--cover", "source"]
-    done = subprocess.run(command, cwd=folder, env=environment, capture_output=True, timeout=SECONDS, check=False)
-    return done.returncode, done.stdout, done.stderr
+    done = limited(command, cwd=folder, env=environment)
+    return done.status, done.stdout, done.stderr
 
 
 def wrong_check(program, source):

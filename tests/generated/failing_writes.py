@@ -15,6 +15,7 @@ import termios
 import time
 
 from runner.preload import library
+from runner.programs import HANG_SECONDS, limited
 
 SOURCE = "".join(f"L{n}: JP L{n}  ; a line of the source\n" for n in range(1700))
 FEW = "image\nregs 1\nfoo\ndel 9999\nregs 2\n"
@@ -31,7 +32,6 @@ RUNS = {
 ERRORS = ("ENOSPC", "EINTR")
 OUTPUT_FAULT = b"chipbench: output fault\n"
 PIPE_BYTES = 4096
-SECONDS = 60
 # The library: the write to standard output of the number FAILS fails with the error ERROR, and a later one makes the file
 # AFTER.
 LIBRARY = """
@@ -62,17 +62,13 @@ def ran(program, words, folder, script, is_file, environment):
     """The status, the output and the errors of a run whose script is a file or comes over a pipe."""
     command = [program.file, *words]
     if not is_file:
-        done = subprocess.run(
-            command, cwd=folder, input=script.encode(), env=environment, capture_output=True, timeout=SECONDS, check=False
-        )
+        done = limited(command, script.encode(), cwd=folder, env=environment)
     else:
         given = pathlib.Path(folder, "script")
         given.write_text(script)
         with open(given, "rb") as file:
-            done = subprocess.run(
-                command, cwd=folder, stdin=file, env=environment, capture_output=True, timeout=SECONDS, check=False
-            )
-    return done.returncode, done.stdout, done.stderr
+            done = limited(command, file, cwd=folder, env=environment)
+    return done.status, done.stdout, done.stderr
 
 
 def wrong_failure(found, whole):
@@ -154,7 +150,7 @@ def wrong_end(program, script, is_file):
                 if not is_file:
                     running.stdin.write(script.encode())
                     running.stdin.close()
-                until = time.monotonic() + SECONDS
+                until = time.monotonic() + HANG_SECONDS
                 while not (waiting(out) == PIPE_BYTES and is_asleep(running.pid)) and time.monotonic() < until:
                     time.sleep(0.001)
                 front = os.read(out, PIPE_BYTES)

@@ -11,6 +11,8 @@ import subprocess
 import tempfile
 import termios
 
+from runner.programs import HANG_SECONDS
+
 WORDS = "ins, rep, del, kins, krep, kdel, image, syms, list, faults, regs, mem, screen, dis"
 SOURCE = b"SPEED EQU 5\nSTART: LD V0, SPEED\nJP START\n"
 FAULTY = b"START: LD V0, 5\nJP STRAT\n"
@@ -66,8 +68,8 @@ class Terminal:
         self.shown = b""
 
     def read(self, until):
-        """What is shown up to the end of a text, or within a minute."""
-        while not self.shown.endswith(until) and select.select([self.ours], [], [], 60)[0]:
+        """What is shown up to the end of a text, or until it waits in vain."""
+        while not self.shown.endswith(until) and select.select([self.ours], [], [], HANG_SECONDS)[0]:
             self.shown += os.read(self.ours, 4096)
         found, self.shown = self.shown, b""
         return found
@@ -87,7 +89,7 @@ def typed(program, words, lines):
             os.write(terminal.ours, line.encode() + b"\n")
             said.append(terminal.read(b"> "))
         os.write(terminal.ours, b"\x04")
-        answers, _ = process.communicate(timeout=120)
+        answers, _ = process.communicate(timeout=HANG_SECONDS)
         said.append(terminal.read(b"\n"))
     finally:
         terminal.close()
@@ -133,7 +135,7 @@ def wrong_silence(program, options, input_typed, errors_shown):
         )
         if input_typed:
             os.write(terminal.ours, b"hlep\n\x04")
-        answers, errors = process.communicate(None if input_typed else b"hlep\n", timeout=120)
+        answers, errors = process.communicate(None if input_typed else b"hlep\n", timeout=HANG_SECONDS)
         os.write(terminal.its, b".")
         shown = terminal.read(b".")
     finally:

@@ -35,23 +35,43 @@ def say(text):
     print(f"package-tests: {text}", file=sys.stderr, flush=True)
 
 
+def install(*tools):
+    """Installs those of these tools that are missing."""
+    missing = [TOOLS[tool] for tool in tools if shutil.which(tool) is None]
+    if missing:
+        say(f"installing {' '.join(missing)}")
+        run("apt-get", "update", timeout=LONG)
+        run("apt-get", "install", "-y", "--no-install-recommends", *missing, timeout=LONG)
+
+
+def bootstrap(suite, folder, packages=()):
+    """Makes a root of this release of Debian, with its smallest system and some packages."""
+    say(f"debootstrap makes a root of {suite}, which takes minutes")
+    included = [f"--include={','.join(packages)}"] if packages else []
+    run("debootstrap", "--variant=minbase", *included, suite, folder, MIRROR, timeout=LONG)
+
+
+def in_root(path, *command, user=None):
+    """The command in a root, as the user or as root."""
+    identity = [f"--userspec={user}:{user}"] if user else []
+    home = f"/home/{user}" if user else "/root"
+    environment = [f"HOME={home}", "PATH=/usr/sbin:/usr/bin:/sbin:/bin", "LC_ALL=C.UTF-8", "TERM=dumb"]
+    environment += ["DEBIAN_FRONTEND=noninteractive", "MANPAGER=cat"]
+    return ["chroot", *identity, str(path), "env", "-i", *environment, *map(str, command)]
+
+
 def prepare(suite, base, keep):
     """Makes the packages and the root that the tests copy."""
     global _folder, _base, _packages
     if os.geteuid() != 0:
         sys.exit("package-tests: the whole needs root, for chroot; --quick doesn't")
-    missing = [name for tool, name in TOOLS.items() if shutil.which(tool) is None]
-    if missing:
-        say(f"installing {' '.join(missing)}")
-        run("apt-get", "update", timeout=LONG)
-        run("apt-get", "install", "-y", "--no-install-recommends", *missing, timeout=LONG)
+    install(*TOOLS)
     _folder = tempfile.TemporaryDirectory(prefix="chipbench-clean-")
     _packages = pathlib.Path(keep).resolve() if keep else pathlib.Path(_folder.name, "packages")
     package(_packages, common.chosen(), timeout=LONG)
     _base = pathlib.Path(base).resolve() if base else pathlib.Path(_folder.name, "base")
     if not base:
-        say(f"debootstrap makes a root of {suite}, which takes minutes")
-        run("debootstrap", "--variant=minbase", suite, _base, MIRROR, timeout=LONG)
+        bootstrap(suite, _base)
 
 
 def debian_package():
@@ -75,11 +95,7 @@ class Root:
 
     def command(self, *command, user=None):
         """The command in this root, as the user or as root."""
-        identity = [f"--userspec={user}:{user}"] if user else []
-        home = f"/home/{user}" if user else "/root"
-        environment = [f"HOME={home}", "PATH=/usr/sbin:/usr/bin:/sbin:/bin", "LC_ALL=C.UTF-8", "TERM=dumb"]
-        environment += ["DEBIAN_FRONTEND=noninteractive", "MANPAGER=cat"]
-        return ["chroot", *identity, str(self.path), "env", "-i", *environment, *map(str, command)]
+        return in_root(self.path, *command, user=user)
 
     def run(self, *command, user=None, **options):
         return run(*self.command(*command, user=user), **options).decode()

@@ -10,6 +10,10 @@ import sys
 import tempfile
 
 TOP = pathlib.Path(__file__).resolve().parents[2]
+sys.path.insert(0, str(TOP / "tests"))
+
+from runner.programs import HANG_SECONDS  # noqa: E402
+
 STEPS = TOP / "packaging" / "chipbench-steps"
 EXAMPLE = TOP / "examples" / "emulator"
 BUILT = TOP / "crates" / "chipbench" / "out" / "chipbench"
@@ -18,12 +22,11 @@ PROFILES = ("schip", "vip")
 # as many cases of each row as the planted bugs have to be found by
 COUNT = int(os.environ.get("STEPS_COUNT") or 30)
 PROGRAMS = 4
-SECONDS = 600
 
 
 def run(*words, status=0, **options):
     """Runs a command that has to end with a status, and returns what it printed."""
-    done = subprocess.run([str(word) for word in words], capture_output=True, text=True, timeout=SECONDS, **options)
+    done = subprocess.run([str(word) for word in words], capture_output=True, text=True, timeout=HANG_SECONDS, **options)
     if done.returncode != status:
         raise AssertionError(f"{words}: status {done.returncode}, not {status}\n{done.stdout}{done.stderr}")
     return done.stdout + done.stderr

@@ -5,7 +5,7 @@ import subprocess
 import time
 import unittest
 
-from common import PROGRAM, STEPS, run, steps, work
+from common import HANG_SECONDS, PROGRAM, STEPS, run, steps, work
 
 
 def take_interrupts():
@@ -49,6 +49,6 @@ class TestArguments(unittest.TestCase):
         while (out / "index.json").exists() and running.poll() is None:
             time.sleep(0.01)
         os.kill(running.pid, signal.SIGINT)
-        _, errors = running.communicate(timeout=120)
+        _, errors = running.communicate(timeout=HANG_SECONDS)
         self.assertEqual((running.returncode, errors), (130, "chipbench-steps: interrupted: the files in OUT are not complete\n"))
         self.assertEqual([name for name in os.listdir(out) if name.endswith((".part", "index.json"))], [])

@@ -18,6 +18,10 @@ import tempfile
 import emulator
 
 TOP = pathlib.Path(__file__).resolve().parents[2]
+sys.path.insert(0, str(TOP / "tests"))
+
+from runner.programs import HANG_SECONDS  # noqa: E402
+
 PROGRAM = TOP / "crates" / "chipbench" / "out" / "chipbench"
 STEPS = 60
 TAPE = bytes.fromhex("3b5a91c7042fe866")
@@ -88,7 +92,7 @@ def below_machine(lines):
 def traced(path, quirks, program):
     """The same, of the program under test."""
     words = ["trace", "--image", path, "--steps", str(STEPS), "--tape", TAPE.hex(), "--quirks", quirks, "--hash"]
-    ran = subprocess.run([program, *words], capture_output=True, text=True, timeout=120)
+    ran = subprocess.run([program, *words], capture_output=True, text=True, timeout=HANG_SECONDS)
     header, *rows = below_machine(ran.stdout.splitlines()) or [ran.stderr]
     names = header.split()[1:]
     rows = [dict(zip(names, row.split(maxsplit=len(names) - 1))) for row in rows]

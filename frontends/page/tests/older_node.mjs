@@ -1,4 +1,7 @@
 // What node 18 lacks of what browsers and node 20 have, for the tests alone.
+import { webcrypto } from 'node:crypto';
+
+globalThis.crypto ??= webcrypto;
 
 globalThis.CustomEvent ??= class CustomEvent extends Event {
   constructor(name, { detail = null, ...rest } = {}) {

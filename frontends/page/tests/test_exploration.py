@@ -13,7 +13,9 @@ sys.path.insert(0, str(Path(__file__).resolve().parents[1]))
 
 from exploration import Exploration  # noqa: E402
 
-SEARCHES = "import sys, time; print('chipbench: step 20, 5 states', file=sys.stderr, flush=True); time.sleep(60)"
+# nothing takes as long on the busiest machine
+SECONDS = 1800
+SEARCHES = "import sys, time; print('chipbench: step 20, 5 states', file=sys.stderr, flush=True); time.sleep(3600)"
 FINDS = "import sys; print('S5 3'); print('keys 1'); open(sys.argv[sys.argv.index('--keys-to') + 1], 'w').write('0 3 down\\n'); sys.exit(1)"
 
 
@@ -29,7 +31,7 @@ class ExplorationTests(unittest.TestCase):
         return exploration
 
     def wait(self, condition: Callable[[], bool]) -> None:
-        deadline = time.monotonic() + 120
+        deadline = time.monotonic() + SECONDS
         while not condition():
             self.assertLess(time.monotonic(), deadline)
             time.sleep(0.01)
@@ -52,7 +54,7 @@ class ExplorationTests(unittest.TestCase):
 
     def test_what_it_prints_is_told_as_it_comes(self) -> None:
         """In whole lines, while it goes on."""
-        printed = "import sys, time\nassert '--json' in sys.argv\nprint('{}\\n{\"line\"', end='', flush=True)\ntime.sleep(600)\n"
+        printed = "import sys, time\nassert '--json' in sys.argv\nprint('{}\\n{\"line\"', end='', flush=True)\ntime.sleep(3600)\n"
         exploration = Exploration([sys.executable, "-c", printed], b"", self.folder / "explored-2", prints_json=True)
         self.addCleanup(exploration.stop)
         self.wait(lambda: exploration.told["output"] != "")

@@ -18,7 +18,8 @@ from pathlib import Path
 
 from programs import PYTHON
 
-SECONDS = 60.0
+# Nothing takes as long on the busiest machine.
+SECONDS = 1800.0
 PROMPT = "> "
 #: Sequences of a terminal that move the cursor, paint, or switch a mode.
 SEQUENCE = re.compile(r"\x1b\[[0-9;?]*[A-Za-z]|\x1b[=>]|\x07")
@@ -92,7 +93,7 @@ class Terminal:
         for _ in range(20):
             self.send("\x03")
             with contextlib.suppress(AssertionError):
-                return self.read_until(end, 2.0)
+                return self.read_until(end, 10.0)
         raise AssertionError("Ctrl+C has no effect")
 
     def ask(self, line: str, end: str = PROMPT) -> str:
@@ -126,7 +127,7 @@ class Terminal:
         while time.monotonic() < deadline:
             self.kill(number)
             with contextlib.suppress(subprocess.TimeoutExpired):
-                return self._process.wait(2)
+                return self._process.wait(10)
         raise AssertionError("the signal has no effect")
 
     def hang_up(self) -> int:

@@ -18,7 +18,7 @@ from typing import Any
 
 sys.path.insert(0, str(Path(__file__).resolve().parent))
 
-from client import URI, Client, span  # noqa: E402
+from client import SECONDS, URI, Client, span  # noqa: E402
 from programs import EXAMPLES, TOP, NeedsProgram, NeedsWords  # noqa: E402
 
 from chipbench import Bench, Fault  # noqa: E402
@@ -131,7 +131,7 @@ class Diagnostics(Served):
         self.assertEqual(faults_of(client.open("FOO", other)), [(1, "F3")])
         self.assertEqual(faults_of(client.edit((0, 0), (0, 0), "BAR ")), [(1, "F3")])
         client.tell("textDocument/didClose", {"textDocument": {"uri": other}})
-        while (params := client.told.get(timeout=60)["params"])["uri"] != other:
+        while (params := client.told.get(timeout=SECONDS)["params"])["uri"] != other:
             pass
         self.assertEqual(params["diagnostics"], [])
 

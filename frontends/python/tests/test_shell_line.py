@@ -118,7 +118,7 @@ class Keys(AtTerminal):
         terminal.read_until("Ctrl+C stops")
         began = time.monotonic()
         self.assertIn("stopped; still at step 9", terminal.interrupt())
-        self.assertLess(time.monotonic() - began, 15)
+        self.assertLess(time.monotonic() - began, 60)
         self.answers(
             terminal,
             ("break", "breakpoint line 1"),

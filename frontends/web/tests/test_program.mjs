@@ -6,6 +6,7 @@ import fs from 'node:fs';
 import os from 'node:os';
 import path from 'node:path';
 import test from 'node:test';
+import '../../page/tests/older_node.mjs';
 import { MemoryHost } from '../memory_host.mjs';
 import { run } from '../system.mjs';
 import { capped } from './capped.mjs';

@@ -3,6 +3,7 @@ import assert from 'node:assert/strict';
 import { spawnSync } from 'node:child_process';
 import fs from 'node:fs';
 import test from 'node:test';
+import '../../page/tests/older_node.mjs';
 import { OPTIONS, ProgramRequests, SessionRequests, WORDS } from '../requests.mjs';
 import { STATUS } from '../session.mjs';
 import { modules } from './modules.mjs';
