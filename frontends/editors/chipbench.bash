@@ -20,7 +20,7 @@ _chipbench() {
         run) options="--steps --rate --tape --seed --profile --quirks --keys --image --help" ;;
         trace) options="--steps --rate --tape --seed --profile --quirks --keys --image --from --hash --json --against --help" ;;
         picture) options="--steps --rate --tape --seed --profile --quirks --keys --image --ascii --pbm --png --help" ;;
-        check) options="--json --allow --cover --color --profile --quirks --help" ;;
+        check) options="--json --allow --cover --color --tape --seed --profile --quirks --help" ;;
         test) options="--update --tap --help" ;;
         explore) options="--steps --states --deep --any-speed --keys-allowed --keys-to --progress --rate --tape --seed --profile --quirks --image --want --reach --never --always --cover --help" ;;
         prove) options="--steps --states --deep --any-speed --keys-allowed --keys-to --progress --rate --tape --seed --profile --quirks --only --seconds --json --help" ;;

@@ -375,15 +375,22 @@ def read_listing_line(line: bytes) -> ListingLine:
 
 
 def check(
-    source: str | bytes, program: str | None = None, profile: str | None = None, quirks: str | None = None
+    source: str | bytes,
+    program: str | None = None,
+    profile: str | None = None,
+    quirks: str | None = None,
+    tape: bytes | None = None,
+    seed: int | str | None = None,
 ) -> list[Fault]:
-    """The faults of a source with their places, and then its warnings under a profile and quirks, by the program's `check`.
+    """The faults of a source with their places, and then its warnings, by the program's `check`. The warnings depend on the
+    profile, the quirks, and whether RND has a tape, or a seed that makes one.
 
     >>> [(fault.line, fault.code, fault.start, fault.end) for fault in check("LD V0, COLUMN")]
     [(1, 'F9', 7, 13)]
     """
     content, program = to_bytes(source), program or find_program()
-    options = [*(["--profile", profile] if profile else []), *(["--quirks", quirks] if quirks else [])]
+    named = {"profile": profile, "quirks": quirks, "tape": None if tape is None else tape.hex(), "seed": seed}
+    options = [f"--{name}={value}" for name, value in named.items() if value not in (None, "")]
     status, output, errors = run_once([program, "check", "--json", *options, "-"], content)
     if status not in (0, 1):
         raise Ended(status, errors.strip(), [])

@@ -5,7 +5,7 @@ import tempfile
 
 CODES = [
     f"{letter}{number}"
-    for letter, last in (("F", 17), ("W", 8), ("P", 6), ("N", 10), ("Q", 4), ("C", 2), ("E", 4), ("O", 3), ("S", 7))
+    for letter, last in (("F", 17), ("W", 9), ("P", 6), ("N", 10), ("Q", 4), ("C", 2), ("E", 4), ("O", 3), ("S", 7))
     for number in range(1, last + 1)
 ]
 WORDS = ["ins", "rep", "del", "kins", "krep", "kdel", "image", "syms", "list", "faults", "regs", "mem", "screen", "dis"]

@@ -43,6 +43,7 @@ LINES = {
     ),
     "W7": (["without the instruction", "profile schip"], ["CLS"]),
     "W8": (["lead there", "delete", "`explore --cover`"], ["LD V0, 1\nLOOP: SKP V0\nJP LOOP\nCLS", "LD V0, 1\nLOOP: SE V0, 0\nJP LOOP"]),
+    "W9": (["`check` and the other commands", "`--seed 1`", "`--tape 2a91`", "`--allow W9`"], ["RND V0, 0"]),
     "P1": (["condition", "place", "`;! never at BUG`"], ["STOP: JP STOP\n;! always V0 <= 7", "BUG: JP BUG\n;! never at BUG"]),
     "P2": (
         ["two comparisons", "`;! 0 < V0 and V0 < 5`", "in parentheses"],

@@ -7,11 +7,13 @@ use Rattle.chip_asm.specs.Lines.{lines_of, open_fault}
 use Rattle.chip_asm.specs.Program.{image_of}
 use Rattle.chip_asm.specs.declared.refusal.OpenError.{OpenError}
 use Rattle.chip_asm.specs.declared.refusal.OpenError.TheVariants as unopened
+use Rattle.chip_session.specs.Settings.{SessionSettings}
 use Rattle.chip_session.specs.Tally.{Tally}
 use Rattle.chip_arguments.specs.declared.command_line.CheckArguments.{CheckArguments}
 use Rattle.chip_analysis.specs.Exploring.{AsksSet, warning_named}
-use Rattle.chip_analysis.specs.Commands.{Checks, ChecksEach, ChecksOne, IsBadSet}
-use Rattle.chip_host.specs.Reading.{GivesSource, IsSourceUnread}
+use Rattle.chip_analysis.specs.Commands.{Checks, ChecksEach, ChecksOne, IfSet, IsBadSet}
+use Rattle.chip_host.specs.Reading.{GivesSource, IfSettled, IsSourceUnread}
+use Rattle.chip_host.specs.SettingArguments.{settings_asked}
 use Rattle.chip_host.specs.Endings.{Outcome}
 use Rattle.chip_analysis.specs.Checking.{paints, with_ending, worse, IsCheckText, IsPrintedCheckOf, unopened_check}
 use Rattle.chip_host.specs.Printing.{Printed, Prints, PrintsSuch, ending_with, printed, printed_by}
@@ -20,7 +22,7 @@ use Rattle.chip_host.specs.declared.ending.Ending.{Ending}
 use Rattle.chip_host.specs.declared.ending.Ending.TheVariants.{Done, Faulty, Short}
 use Rattle.chip_host.specs.declared.ending.Failure.{Failure}
 use Rattle.chip_host.specs.declared.ending.Failure.TheVariants as failure
-use Rattle.chip_host.proofs.ReadingLemmas.{declines, source_unread}
+use Rattle.chip_host.proofs.ReadingLemmas.{Unsettles, declines, source_unread, unsettles}
 use Rattle.chip_host.proofs.OpenedLemmas.{delivers_such, false_is_true}
 
 done_first : (later : Outcome) → with_ending Done later ≡ later
@@ -125,16 +127,34 @@ module _ {R W : Type 0} (remaining : R → Option (List ℕ)) (contents : W → 
         subst (Each names in_old in_new out_old out_new) (ap (λ e. Ok e) (done_last ending))
         (so_far in_new out_new (Ok Done) (subst (λ these. Each these in_new in_new out_new out_new (Ok Done)) (sym (drop_all place names past)) (refl, refl, refl)))
 
-module _ {R W : Type 0} (remaining : R → Option (List ℕ)) (contents : W → Option (List ℕ)) where
-  -- the argument for warnings names none
-  pub checks_bad : (input : Tally R) (output : Tally W) (takes_color : Bool) (arguments : CheckArguments) (ended : Outcome) (why : Failure) → ended ≡ Err why →
-      IsBadSet why → AsksSet warning_named 0 (option_copied arguments.allowed) None → Checks remaining contents input input output output takes_color arguments ended
-  checks_bad input output takes_color arguments ended why e bad asks =
-      (None, asks, declines remaining input input (output ≡ output) refl IsBadSet ended why e bad refl)
+module _ {R W : Type 0} (remaining : R → Option (List ℕ)) (contents : W → Option (List ℕ)) (in_old in_new : Tally R) (out_old out_new : Tally W)
+    (takes_color : Bool) (arguments : CheckArguments) (ended : Outcome) where
+  abbrev WithAllowed : SessionSettings → Outcome → Type 0
+  WithAllowed settings ended =
+      (allowed : Option ℕ) × AsksSet warning_named 0 (option_copied arguments.allowed) allowed
+      × IfSet remaining in_old in_new (out_new ≡ out_old) allowed (λ set.
+      ChecksEach remaining contents arguments.is_json (paints arguments.color takes_color)
+      (length arguments.sources.items == 1) arguments.sources.items in_old in_new out_old out_new) ended
 
-  pub checks : (in_old in_new : Tally R) (out_old out_new : Tally W) (takes_color : Bool) (arguments : CheckArguments) (set : ℕ) (painted alone : Bool)
-      (names : List (Bor (List ℕ))) (ended : Outcome) → AsksSet warning_named 0 (option_copied arguments.allowed) (Some set) →
-      painted ≡ paints arguments.color takes_color → alone ≡ (length arguments.sources.items == 1) → names ≡ arguments.sources.items →
-      ChecksEach remaining contents arguments.is_json painted alone names in_old in_new out_old out_new ended →
+  -- there are no settings
+  pub checks_unsettled : (why : Failure) → ended ≡ Err why → in_new ≡ in_old → out_new ≡ out_old → Unsettles (settings_asked arguments.settings) why →
       Checks remaining contents in_old in_new out_old out_new takes_color arguments ended
-  checks in_old in_new out_old out_new takes_color arguments set painted alone names ended asks p a n did = (Some set, asks, rw (sym p, sym a, sym n) did)
+  checks_unsettled why e same quiet u =
+      unsettles remaining in_old in_new (out_new ≡ out_old) quiet (settings_asked arguments.settings) WithAllowed ended why e same u
+
+  module _ (settings : SessionSettings) (settled : settings_asked arguments.settings ≡ Some settings) where
+    with_allowed : WithAllowed settings ended → Checks remaining contents in_old in_new out_old out_new takes_color arguments ended
+    with_allowed did =
+        subst (λ (o : Option SessionSettings). IfSettled remaining in_old in_new (out_new ≡ out_old) o WithAllowed ended) (sym settled) (inl did)
+
+    -- the argument for warnings names none
+    pub checks_bad : (why : Failure) → ended ≡ Err why → in_new ≡ in_old → out_new ≡ out_old → IsBadSet why →
+        AsksSet warning_named 0 (option_copied arguments.allowed) None → Checks remaining contents in_old in_new out_old out_new takes_color arguments ended
+    checks_bad why e same quiet bad asks = with_allowed (None, asks, declines remaining in_old in_new (out_new ≡ out_old) quiet IsBadSet ended why e bad same)
+
+    -- each source was checked
+    pub checks : (set : ℕ) (painted alone : Bool) (names : List (Bor (List ℕ))) → AsksSet warning_named 0 (option_copied arguments.allowed) (Some set) →
+        painted ≡ paints arguments.color takes_color → alone ≡ (length arguments.sources.items == 1) → names ≡ arguments.sources.items →
+        ChecksEach remaining contents arguments.is_json painted alone names in_old in_new out_old out_new ended →
+        Checks remaining contents in_old in_new out_old out_new takes_color arguments ended
+    checks set painted alone names asks p a n did = with_allowed (Some set, asks, rw (sym p, sym a, sym n) did)

@@ -1,8 +1,9 @@
 -- What `check` prints of a source (own).
 --     IsCheckText, unopened_check, IsPrintedCheckOf    what is printed of a source, or why it doesn't open
 --     worse, with_ending             how a list of sources ends
+--     gives_tape                     whether the arguments give a tape
 --     paints                         whether what is printed has colours
-use Rattle.std.specs.Prelude.{◌≡◌, ℕ, Bool, true, false, List, ◌++◌, codes, Option, Some, None, Ok, Err}
+use Rattle.std.specs.Prelude.{◌≡◌, ℕ, Bool, true, false, List, ◌++◌, ◌||◌, codes, is_some, Option, Some, None, Ok, Err}
 use Rattle.chip_asm.specs.Program.{image_of}
 use Rattle.chip_asm.specs.declared.refusal.OpenError.{OpenError}
 use Rattle.chip_check.specs.Check.{IsChecked}
@@ -11,6 +12,7 @@ use Rattle.chip_host.specs.declared.ending.Ending.{Ending}
 use Rattle.chip_host.specs.declared.ending.Ending.TheVariants.{Done, Faulty}
 use Rattle.chip_host.specs.Printing.{Printed, printed, unopened_text, ending_with}
 use Rattle.std.specs.Str.Lines.{lines}
+use Rattle.chip_arguments.specs.declared.command_line.SettingArguments.{SettingArguments}
 use Rattle.chip_arguments.specs.declared.command_line.ColorChoice.{ColorChoice}
 use Rattle.chip_arguments.specs.declared.command_line.ColorChoice.TheVariants as color
 use Rattle.chip_host.specs.Endings.{Outcome}
@@ -47,6 +49,10 @@ worse ending later = ending
 abbrev pub with_ending : Ending → Outcome → Outcome
 with_ending ending (Ok later) = Ok (worse ending later)
 with_ending ending (Err why) = Err why
+
+-- the arguments give a tape, or a seed that makes one
+abbrev pub gives_tape : SettingArguments → Bool
+gives_tape arguments = is_some arguments.tape || is_some arguments.seed
 
 -- whether what is printed has colours: where the arguments leave that open, whether the output
 -- takes them

@@ -151,13 +151,16 @@ module _ {R W : Type 0} (remaining : R → Option (List ℕ)) (contents : W → 
 
 module _ {R W : Type 0} (remaining : R → Option (List ℕ)) (contents : W → Option (List ℕ))
     (in_old in_new : Tally R) (out_old out_new : Tally W) where
-  -- `check`: no contract speaks of the warnings, but of which ones the argument names
+  -- `check`: no contract speaks of the warnings, but of the settings and of which warnings the argument
+  -- names
   abbrev pub Checks : (takes_color : Bool) → CheckArguments → Outcome → Type 0
   Checks takes_color arguments ended =
-      (allowed : Option ℕ) × AsksSet warning_named 0 (option_copied arguments.allowed) allowed
+      IfSettled remaining in_old in_new (out_new ≡ out_old) (settings_asked arguments.settings)
+      (λ settings ended. (allowed : Option ℕ)
+      × AsksSet warning_named 0 (option_copied arguments.allowed) allowed
       × IfSet remaining in_old in_new (out_new ≡ out_old) allowed (λ set.
       ChecksEach remaining contents arguments.is_json (paints arguments.color takes_color)
-      (length arguments.sources.items == 1) arguments.sources.items in_old in_new out_old out_new) ended
+      (length arguments.sources.items == 1) arguments.sources.items in_old in_new out_old out_new) ended) ended
 
   -- `explore`
   abbrev pub Explores : ExploreArguments → Outcome → Type 0

@@ -75,12 +75,12 @@ cause_named (s ∷ digit ∷ []) =
     if nat_le 83 s && nat_le s 83 && nat_le 49 digit then digit_to 7 digit else None
 cause_named _ = None
 
--- W and a digit, 1 to 8, or P and a digit, 1 to 6, as 9 to 14
+-- W and a digit, 1 to 9, or P and a digit, 1 to 6, as 10 to 15
 abbrev pub warning_named : List ℕ → Option ℕ
 warning_named (letter ∷ digit ∷ []) =
-    if nat_le 87 letter && nat_le letter 87 && nat_le 49 digit then digit_to 8 digit
+    if nat_le 87 letter && nat_le letter 87 && nat_le 49 digit then digit_to 9 digit
     else (if nat_le 80 letter && nat_le letter 80 && nat_le 49 digit
-    then option_map (λ k. 8 + k) (digit_to 6 digit) else None)
+    then option_map (λ k. 9 + k) (digit_to 6 digit) else None)
 warning_named _ = None
 
 -- a number in decimal, 0 to 15

@@ -3,7 +3,7 @@ ghost use Rattle.std.specs.Prelude.{◌≡◌, IfOk, IsErr, false, true};
 ghost use Rattle.chip_asm.specs.Lines.{lines_of, open_fault};
 ghost use Rattle.chip_asm.specs.Program.{image_of};
 ghost use Rattle.chip_analysis.specs.Commands.{Checks, ChecksEach};
-ghost use Rattle.chip_analysis.specs.Checking.{paints, worse, IsCheckText, IsPrintedCheckOf, unopened_check};
+ghost use Rattle.chip_analysis.specs.Checking.{gives_tape, paints, worse, IsCheckText, IsPrintedCheckOf, unopened_check};
 ghost use Rattle.chip_analysis.specs.inner.Covering.{IsCovered};
 ghost use Rattle.chip_host.specs.Printing.{printed_by, printed};
 
@@ -14,20 +14,23 @@ use chip_arguments::{CheckArguments, ColorChoice, SettingArguments};
 use chip_asm::{OpenError, Source};
 use chip_check::{check_json, check_text, unopened_json};
 use chip_explore::Watcher;
-use chip_host::{Answer, Ending, Failure, FileAccess, System, deliver, read_source, unopened_text};
-use chip_machine::Quirks;
-use chip_session::Counted;
-use chip_warnings::{Warning, warnings};
+use chip_host::{
+    Answer, Ending, Failure, FileAccess, System, deliver, read_source, settings_of, unopened_text,
+};
+use chip_session::{Counted, Settings};
+use chip_warnings::{Asked, Warning, warnings};
 use std::alloc::{AllocError, Global};
 use std::io::{Read, Write};
 use std::time::Clock;
 
 /// How sources are checked, and how what is found in them is printed.
 #[derive(Clone, Copy)]
-pub(crate) struct Checker {
-    /// The warnings that are not printed, Wk at bit k.
+pub(crate) struct Checker<'p> {
+    /// The warnings that are not printed, Wk at bit k and Pk at bit 9 + k.
     allowed: u16,
-    quirks: Quirks,
+    settings: &'p Settings,
+    /// Whether the arguments give the tape of the settings.
+    has_tape: bool,
     /// Whether JSON objects are printed, and not text.
     is_json: bool,
     /// Whether the text has colours.
@@ -38,8 +41,9 @@ pub(crate) struct Checker {
     is_covering: bool,
 }
 
-/// `check`: what is found in each of the sources, one after another. The warnings that are allowed
-/// are judged before the first is read, and a source that can't be read ends the check.
+/// `check`: what is found in each of the sources, one after another. The settings, and then the
+/// warnings that are allowed, are judged before the first is read. A source that can't be read ends the
+/// check.
 pub fn check<'a, F: FileAccess + Clock, I: Read, O: Write, E: Write>(
     system: &System<'_, F>,
     arguments: &CheckArguments<'a>,
@@ -50,11 +54,13 @@ pub fn check<'a, F: FileAccess + Clock, I: Read, O: Write, E: Write>(
     ensures { Checks I.remaining O.contents input.old input.new output.old output.new
         system.now.host.takes_color arguments.now result }
 {
+    let settings = settings_of(system.alloc, &arguments.settings)?;
     let allowed = warnings_of(arguments.allowed)?;
     let names: &[&'a str] = &arguments.sources;
     let checker = Checker {
         allowed,
-        quirks: arguments.quirks,
+        settings: &settings,
+        has_tape: gives_tape(&arguments.settings),
         is_json: arguments.is_json,
         is_painted: paints(arguments.color, system.host.takes_color),
         is_alone: names.len() == 1,
@@ -62,6 +68,13 @@ pub fn check<'a, F: FileAccess + Clock, I: Read, O: Write, E: Write>(
     };
     let mut progress = Progress::new(errors, system.host.has_reader, system.files, None);
     checker.check_each(system, names, input, output, &mut progress)
+}
+
+// Whether the arguments give a tape, or a seed that makes one.
+fn gives_tape(arguments: &SettingArguments<'_>) -> bool
+    ensures { result ≡ gives_tape arguments.now }
+{
+    arguments.tape.is_some() || arguments.seed.is_some()
 }
 
 // Whether what is printed has colours.
@@ -85,16 +98,17 @@ fn worse(ending: Ending, later: Ending) -> Ending
     }
 }
 
-impl Checker {
+impl<'p> Checker<'p> {
     /// A checker of one source that prints faults alone.
-    pub(crate) fn for_faults(is_json: bool) -> Checker
+    pub(crate) fn for_faults(settings: &'p Settings, is_json: bool) -> Checker<'p>
         ensures json { result.is_json ≡ is_json }
         ensures painted { result.is_painted ≡ false }
         ensures alone { result.is_alone ≡ true }
     {
         Checker {
             allowed: 0,
-            quirks: SettingArguments::DEFAULT.quirks,
+            settings,
+            has_tape: false,
             is_json,
             is_painted: false,
             is_alone: true,
@@ -103,15 +117,15 @@ impl Checker {
     }
 
     fn check_each<'a, F: FileAccess, I: Read, O: Write, W: Watcher>(
-        self,
+        &self,
         system: &System<'_, F>,
         names: &[&'a str],
         input: &mut Counted<I>,
         output: &mut Counted<O>,
         watcher: &mut W,
     ) -> Result<Ending, Failure<'a>>
-        ensures { ChecksEach I.remaining O.contents self.is_json self.is_painted self.is_alone
-            names.now input.old input.new output.old output.new result }
+        ensures { ChecksEach I.remaining O.contents self.now.is_json self.now.is_painted
+            self.now.is_alone names.now input.old input.new output.old output.new result }
     {
         let mut ending = Ending::Done;
         for name in names {
@@ -125,14 +139,14 @@ impl Checker {
 
     // What is found in a source, or why it doesn't open.
     fn answer_on<W: Watcher>(
-        self,
+        &self,
         alloc: Global,
         name: &[u8],
         bytes: &[u8],
         watcher: &mut W,
     ) -> Result<Answer, AllocError>
-        ensures { IfOk result (λ answer. IsPrintedCheckOf self.is_json self.is_painted self.is_alone
-            name.now (open_fault bytes.now) (lines_of bytes.now) (printed_by answer)) }
+        ensures { IfOk result (λ answer. IsPrintedCheckOf self.now.is_json self.now.is_painted
+            self.now.is_alone name.now (open_fault bytes.now) (lines_of bytes.now) (printed_by answer)) }
     {
         let source = match Source::open(alloc, bytes) {
             Ok(source) => source,
@@ -140,19 +154,25 @@ impl Checker {
         };
         let covered = self.covered(alloc, &source, watcher)?;
         let coverage = covered.as_ref().map(|covered| covered.coverage());
-        let warnings = warnings(alloc, &source, self.quirks, self.allowed, coverage)?;
+        let asked = Asked {
+            allowed: self.allowed,
+            quirks: self.settings.quirks(),
+            has_tape: self.has_tape,
+            coverage,
+        };
+        let warnings = warnings(alloc, &source, asked)?;
         let text = self.text_of(alloc, name, &source, &warnings)?;
         Ok(Answer::on(&source, text))
     }
 
     // What key scripts execute of a source's image, where that is asked for.
     fn covered<W: Watcher>(
-        self,
+        &self,
         alloc: Global,
         source: &Source,
         watcher: &mut W,
     ) -> Result<Option<Covered>, AllocError>
-        ensures { IfOk result (IsCovered self.is_covering self.quirks
+        ensures { IfOk result (IsCovered self.now.is_covering self.now.settings.now
             (image_of source.now.lines)) }
     {
         if !self.is_covering {
@@ -161,18 +181,18 @@ impl Checker {
         let Some(image) = source.image() else {
             return Ok(None);
         };
-        Ok(Some(Covered::of(alloc, image, self.quirks, watcher)?))
+        Ok(Some(Covered::of(alloc, image, self.settings, watcher)?))
     }
 
     // What is printed of a source and its warnings.
     pub(crate) fn text_of(
-        self,
+        &self,
         alloc: Global,
         name: &[u8],
         source: &Source,
         warnings: &[Warning],
     ) -> Result<Vec<u8>, AllocError>
-        ensures { IfOk result (λ text. IsCheckText self.is_json self.is_painted name.now
+        ensures { IfOk result (λ text. IsCheckText self.now.is_json self.now.is_painted name.now
             source.now.lines text.items) }
     {
         if self.is_json {
@@ -184,13 +204,13 @@ impl Checker {
 
     // Why a source doesn't open: an object, or its code, after its name where there are others.
     pub(crate) fn unopened(
-        self,
+        &self,
         alloc: Global,
         name: &[u8],
         error: OpenError,
     ) -> Result<Answer, AllocError>
         ensures answer { IfOk result (λ answer. printed_by answer ≡ printed
-            (unopened_check self.is_json self.is_alone name.now error) Ending.Faulty) }
+            (unopened_check self.now.is_json self.now.is_alone name.now error) Ending.Faulty) }
         ensures memory { error ≡ OpenError.OutOfMemory → IsErr result }
     {
         if error == OpenError::OutOfMemory {

@@ -1,22 +1,19 @@
 //! `check --cover`: which addresses of a source's image key scripts execute.
-ghost use Rattle.std.specs.Prelude.{◌≡◌, ◌↔◌, ◌∷◌, [], IfOk, IsErr, IsTrue};
-ghost use Rattle.chip_arguments.specs.SettingArguments.{default_arguments};
+ghost use Rattle.std.specs.Prelude.{◌≡◌, ◌↔◌, ◌<◌, IfOk, IsErr, IsTrue};
 ghost use Rattle.chip_machine.specs.Start.{start_of};
 ghost use Rattle.chip_analysis.specs.Exploring.{usual_keys};
 ghost use Rattle.chip_analysis.specs.inner.Covering.{IsCoverage, covered_step};
 
 use crate::exploring::machine_of;
 use crate::sets::ALL_KEYS;
-use chip_arguments::{SettingArguments, USUAL_STATES};
+use chip_arguments::USUAL_STATES;
 use chip_explore::{
     Bounds, Causes, END, Executed, Explored, Outcome, Question, Target, Ticks, Watcher, explore,
 };
-use chip_machine::Quirks;
+use chip_machine::Machine;
+use chip_session::Settings;
 use chip_warnings::Coverage;
 use std::alloc::{AllocError, Global};
-
-// The tape where no argument gives one.
-const USUAL_TAPE: &[u8] = &[0];
 
 /// What key scripts execute of an image.
 #[derive(Drop)]
@@ -27,20 +24,35 @@ pub(crate) struct Covered {
 }
 
 impl Covered {
-    /// What a search over the key scripts of all keys saw, which had the tape, the rate and the
-    /// bounds that `explore` has where no argument gives others. Where memory runs out there is none.
+    /// What a search over the key scripts of all keys saw under these settings, which had the bounds that
+    /// `explore` has where no argument gives others. Where memory runs out there is none.
     pub(crate) fn of<W: Watcher>(
         alloc: Global,
         image: &[u8],
-        quirks: Quirks,
+        settings: &Settings,
         watcher: &mut W,
     ) -> Result<Covered, AllocError>
-        ensures { IfOk result (λ covered. IsCoverage default_arguments.rate usual_keys covered.executed
-            (start_of image.now (0 ∷ []) quirks) covered.within) }
+        ensures { IfOk result (λ covered. IsCoverage settings.now.rate usual_keys covered.executed
+            (start_of image.now settings.now.tape settings.now.quirks) covered.within) }
     {
-        let start = machine_of(alloc, image, USUAL_TAPE, quirks)?;
+        let start = machine_of(alloc, image, settings.tape(), settings.quirks())?;
+        Covered::from_start(alloc, &start, settings.rate(), watcher)
+    }
+
+    // What such a search saw from a state on.
+    fn from_start<W: Watcher>(
+        alloc: Global,
+        start: &Machine,
+        rate: u32,
+        watcher: &mut W,
+    ) -> Result<Covered, AllocError>
+        requires rate { 0 < rate }
+        requires fresh { start.now.core.draws ≡ 0 }
+        ensures { IfOk result (λ covered. IsCoverage rate usual_keys covered.executed start.now
+            covered.within) }
+    {
         let question = Question {
-            rate: SettingArguments::DEFAULT.rate,
+            rate,
             allowed: ALL_KEYS,
             target: Target {
                 causes: Causes::none(),
@@ -54,7 +66,7 @@ impl Covered {
             is_deep: false,
             ticks: Ticks::AtRate,
         };
-        Covered::seen_by(explore(alloc, &start, &question, &bounds, watcher))
+        Covered::seen_by(explore(alloc, start, &question, &bounds, watcher))
     }
 
     // What a search saw, unless memory ran out in it.

@@ -85,7 +85,7 @@ fn prove_source<'a, F: FileAccess, O: Write, T: Teller>(
 {
     let arguments = asked.arguments;
     let name = arguments.search.source.as_bytes();
-    let checker = Checker::for_faults(arguments.is_json);
+    let checker = Checker::for_faults(asked.settings, arguments.is_json);
     match Source::open(system.alloc, bytes) {
         Ok(source) => {
             let Some(image) = source.image() else {

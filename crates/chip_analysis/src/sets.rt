@@ -21,14 +21,14 @@ enum Item {
 }
 
 impl Item {
-    // The number of a stop cause, Sk, of a key, or of a warning: k for Wk, and 8 + k for Pk.
+    // The number of a stop cause, Sk, of a key, or of a warning: k for Wk, and 9 + k for Pk.
     fn number(self, part: &[u8]) -> Option<u32>
         ensures { result ≡ number_by self part.now }
     {
         match (self, part) {
             (Item::Cause, [b'S', digit @ b'1'..=b'7']) => Some(u32::from(*digit - b'0')),
-            (Item::Warning, [b'W', digit @ b'1'..=b'8']) => Some(u32::from(*digit - b'0')),
-            (Item::Warning, [b'P', digit @ b'1'..=b'6']) => Some(8 + u32::from(*digit - b'0')),
+            (Item::Warning, [b'W', digit @ b'1'..=b'9']) => Some(u32::from(*digit - b'0')),
+            (Item::Warning, [b'P', digit @ b'1'..=b'6']) => Some(9 + u32::from(*digit - b'0')),
             (Item::Key, [digit @ b'0'..=b'9']) => Some(u32::from(*digit - b'0')),
             (Item::Key, [b'1', digit @ b'0'..=b'5']) => Some(10 + u32::from(*digit - b'0')),
             _ => None,
@@ -124,7 +124,7 @@ pub(crate) fn keys_of<'a>(text: Option<&'a str>) -> Result<u16, Failure<'a>>
     }
 }
 
-/// The warnings that an argument names, Wk at bit k and Pk at bit 8 + k: none without one.
+/// The warnings that an argument names, Wk at bit k and Pk at bit 9 + k: none without one.
 pub(crate) fn warnings_of<'a>(text: Option<&'a str>) -> Result<u16, Failure<'a>>
     ensures ok { IfOk result (λ set. AsksSet warning_named 0 (option_copied text.entry)
         (Some set)) }

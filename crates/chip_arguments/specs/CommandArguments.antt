@@ -167,7 +167,7 @@ pub record AsksCheck (rows : List Row) (arguments : CheckArguments) : Type 0 whe
   pub is_json : AsksFlag (one_of (codes "json") rows) arguments.is_json
   pub allowed : option_copied arguments.allowed ≡ first_of (codes "allow") rows
   pub color : arguments.color ≡ color_asked (first_of (codes "color") rows)
-  pub quirks : AsksQuirks rows arguments.quirks
+  pub settings : AsksSettings rows arguments.settings
   pub is_covering : AsksFlag (one_of (codes "cover") rows) arguments.is_covering
 
 -- the trace that they ask for

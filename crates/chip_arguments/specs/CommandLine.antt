@@ -112,8 +112,8 @@ cover = flag (codes "cover")
 
 unfoldable pub check : App
 check =
-    with_rule (with_rule (with_rule (with_rule (with_rule (with_rule (with_rule (new_app (codes "check")) sources)
-    json) allow) cover) color) profile) quirks
+    with_rule (with_rule (with_rule (with_rule (with_rule (with_rule (with_rule (with_rule (with_rule (new_app (codes "check"))
+    sources) json) allow) cover) color) tape) seed) profile) quirks
 
 unfoldable pub dis : App
 dis = with_rule (new_app (codes "dis")) image

@@ -141,7 +141,7 @@ impl Argument {
             Argument::Pbm => "Writes a portable bitmap to a file, and prints nothing",
             Argument::Png => "Writes a PNG picture to a file, and prints nothing",
             Argument::Code =>
-                "F1 to F17, W1 to W8, P1 to P6, N1 to N10, Q1 to Q4, C1, C2, E1 to E4, O1 to O3, \
+                "F1 to F17, W1 to W9, P1 to P6, N1 to N10, Q1 to Q4, C1, C2, E1 to E4, O1 to O3, \
                  S1 to S7, or a command of `debug` such as regs [default: all, a line each]",
             Argument::Files => "The files of cases, one or more",
             Argument::Update => "Also writes the answers that are given into the files, atomically",
@@ -199,7 +199,7 @@ impl Argument {
                  standard output is a terminal and NO_COLOR is unset or empty [default: auto]",
             Argument::Json => "Prints a JSON object a line",
             Argument::Allow =>
-                "The warnings that are not printed, W1 to W8 and P1 to P6 with commas between them \
+                "The warnings that are not printed, W1 to W9 and P1 to P6 with commas between them \
                  [default: none]",
             Argument::Reach =>
                 "Also looks for a step at this label of the source, or at an address such as #2A0",

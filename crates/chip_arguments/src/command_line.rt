@@ -104,8 +104,8 @@ pub struct CheckArguments<'a> {
     pub allowed: Option<&'a str>,
     /// When the text has colours.
     pub color: ColorChoice,
-    /// The quirks of the machine for which the sources are written.
-    pub quirks: Quirks,
+    /// The machine for which the sources are written, and its tape.
+    pub settings: SettingArguments<'a>,
     /// Whether each source is searched for instructions that no key script executes.
     pub is_covering: bool,
 }
@@ -593,7 +593,7 @@ fn check_arguments<'a>(
         is_json: is_set(found, "json"),
         allowed: value(found, "allow"),
         color: color_asked(value(found, "color")),
-        quirks,
+        settings: setting_arguments(found, quirks),
         is_covering: is_set(found, "cover"),
     })
 }

@@ -41,8 +41,9 @@ the language of sources: docs/LANGUAGE.md; the machine: docs/MACHINE.md; a guide
 Example: chipbench debug game.asm --rate 15 --seed 7";
 
 const CHECK_NOTES: &str = "\
-With --cover each instruction that no key script executes has W8, with the tape 00 and the rate 10. The search for
+With --cover each instruction that no key script executes has W8, with that tape and the rate 10. The search for
 them may take some seconds, and keeps up to 1000000 states: where it ends there, W8 names the step up to which.
+Without --tape and --seed, the first RND has W9, because each of its random bytes is 0.
 
 Example: chipbench check game.asm --allow W2";
 
@@ -220,6 +221,8 @@ const COMMANDS: [CommandRow; 13] = [
             Argument::Allow,
             Argument::CheckCover,
             Argument::Color,
+            Argument::Tape,
+            Argument::Seed,
             Argument::Profile,
             Argument::Quirks,
         ],

@@ -95,7 +95,7 @@ pub enum Failure<'a> {
     #[error("chipbench: --keys-allowed takes 0 to 15 with commas between them, not {0}\n")]
     BadPlayerKeys(&'a str),
     /// These are no warnings.
-    #[error("chipbench: --allow takes W1 to W8 and P1 to P6 with commas between them, not {0}\n")]
+    #[error("chipbench: --allow takes W1 to W9 and P1 to P6 with commas between them, not {0}\n")]
     BadWarnings(&'a str),
     /// The source has no such place.
     #[error("chipbench: --reach takes a label of the source or an address such as #2A0, not {0}\n")]

@@ -63,9 +63,9 @@ contents_text pages = flat_map title_line pages
 abbrev pub codes_of : List Page → List (List ℕ)
 codes_of pages = map (λ page. page.code.now) pages
 
--- the codes of faults, F1 to F17, of warnings, W1 to W8, and of faults of properties, P1 to P6
+-- the codes of faults, F1 to F17, of warnings, W1 to W9, and of faults of properties, P1 to P6
 abbrev pub line_codes : List (List ℕ)
-line_codes = codes "F1" ∷ codes "F2" ∷ codes "F3" ∷ codes "F4" ∷ codes "F5" ∷ codes "F6" ∷ codes "F7" ∷ codes "F8" ∷ codes "F9" ∷ codes "F10" ∷ codes "F11" ∷ codes "F12" ∷ codes "F13" ∷ codes "F14" ∷ codes "F15" ∷ codes "F16" ∷ codes "F17" ∷ codes "W1" ∷ codes "W2" ∷ codes "W3" ∷ codes "W4" ∷ codes "W5" ∷ codes "W6" ∷ codes "W7" ∷ codes "W8" ∷ codes "P1" ∷ codes "P2" ∷ codes "P3" ∷ codes "P4" ∷ codes "P5" ∷ codes "P6" ∷ []
+line_codes = codes "F1" ∷ codes "F2" ∷ codes "F3" ∷ codes "F4" ∷ codes "F5" ∷ codes "F6" ∷ codes "F7" ∷ codes "F8" ∷ codes "F9" ∷ codes "F10" ∷ codes "F11" ∷ codes "F12" ∷ codes "F13" ∷ codes "F14" ∷ codes "F15" ∷ codes "F16" ∷ codes "F17" ∷ codes "W1" ∷ codes "W2" ∷ codes "W3" ∷ codes "W4" ∷ codes "W5" ∷ codes "W6" ∷ codes "W7" ∷ codes "W8" ∷ codes "W9" ∷ codes "P1" ∷ codes "P2" ∷ codes "P3" ∷ codes "P4" ∷ codes "P5" ∷ codes "P6" ∷ []
 
 -- those of refused commands: of edits N1 to N10, of questions Q1 to Q4, of lines C1 and C2
 abbrev pub command_codes : List (List ℕ)

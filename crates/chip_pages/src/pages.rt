@@ -66,7 +66,7 @@ pub fn word_pages() -> &'static [Page]
 }
 
 // The faults and the warnings of a source's lines, and the faults of its properties.
-static LINE_PAGES: [Page; 31] = [
+static LINE_PAGES: [Page; 32] = [
     Page {
         code: "F1",
         title: "bad character",
@@ -240,9 +240,16 @@ static LINE_PAGES: [Page; 31] = [
     Page {
         code: "W8",
         title: "instruction that no key script executes",
-        meaning: "With `check --cover` alone: whatever keys are down at each step, no step is made at the address of this instruction; where a step is named, none up to that one. The tape is 00, so that RND gives 0, and 10 steps lie between two ticks. An instruction that has W3 has no W8.",
+        meaning: "With `check --cover` alone: whatever keys are down at each step, no step is made at the address of this instruction; where a step is named, none up to that one. The tape is that of --tape or --seed, or else 00, so that RND gives 0. 10 steps lie between two ticks. An instruction that has W3 has no W8.",
         example: Example::Source("LD V0, 1\nLOOP: SE V0, 0\nJP LOOP\nCLS"),
         fix: "Correct what was to lead there, or delete the instruction. `explore --cover` tries another tape or rate.",
+    },
+    Page {
+        code: "W9",
+        title: "RND without a tape or a seed",
+        meaning: "`check` is given neither --tape nor --seed. The random bytes are then all 0, so RND always gives 0. Only the first RND of a source has this warning, and none whose mask is 0, which gives 0 under each tape.",
+        example: Example::Source("RND V0, 63"),
+        fix: "Give `check` and the other commands a seed, as in `--seed 1`, or a tape, as in `--tape 2a91`. `--allow W9` hides the warning.",
     },
     Page {
         code: "P1",

@@ -5,14 +5,15 @@ use Rattle.std.proofs.lemmas.Grind.{flat_map-append}
 use Rattle.std.proofs.lemmas.List.FromFn.{map-range_with_len_more}
 use Rattle.std.proofs.lemmas.List.{map-append, append-nil, map-id, take_more}
 use Rattle.std.proofs.lemmas.List.Elements.{filter-append}
+use Rattle.chip_warnings.specs.declared.asked.Asked.{Asked}
 use Rattle.chip_warnings.specs.declared.flow.Flow.{Flow}
 use Rattle.chip_warnings.specs.declared.seen.Seen.{Seen}
 use Rattle.chip_warnings.specs.declared.warning.Warning.{Warning}
 use Rattle.chip_warnings.specs.declared.warning.WarningCode.{WarningCode}
-use Rattle.chip_warnings.specs.declared.warning.WarningCode.TheVariants.{SplitRows, UnusedName, Unreachable, FallsIntoData, JumpsToData, OddAddress, NotInProfile, NeverExecuted, Property}
+use Rattle.chip_warnings.specs.declared.warning.WarningCode.TheVariants.{SplitRows, UnusedName, Unreachable, FallsIntoData, JumpsToData, OddAddress, NotInProfile, NeverExecuted, AlwaysZero, Property}
 use Rattle.chip_warnings.specs.Marked.{Marked, marked_by}
 use Rattle.chip_warnings.specs.Reach.{flow_after}
-use Rattle.chip_warnings.specs.Warned.{Asked, has_warning, is_property, kinds_after, kinds_on, kinds_told, warned_at}
+use Rattle.chip_warnings.specs.Warned.{has_warning, is_property, kinds_after, kinds_on, kinds_told, warned_at}
 
 -- one warning more
 pub told-more : (old new : List Warning) (w : Warning) → new ≡ old ++ w ∷ [] → kinds_told new ≡ kinds_told old ++ kinds_told (w ∷ [])
@@ -37,6 +38,7 @@ kind-plain asked marked flow s JumpsToData has = refl
 kind-plain asked marked flow s OddAddress has = refl
 kind-plain asked marked flow s NotInProfile has = refl
 kind-plain asked marked flow s NeverExecuted has = refl
+kind-plain asked marked flow s AlwaysZero has = refl
 kind-plain asked marked flow s (Property code) has = absurd (true≢false (sym has))
 
 pub and_right : (a b : Bool) → (a && b) ≡ true → b ≡ true

@@ -1,5 +1,5 @@
 -- What instructions do that warnings ask of them (COSMAC VIP manual; SUPER-CHIP 1.1).
-use Rattle.std.specs.Prelude.{Bool, true, false, Option, Some}
+use Rattle.std.specs.Prelude.{Bool, true, false, not, ◌==◌, Option, Some}
 use Rattle.chip_lang.specs.declared.instr.Instr.{Instr}
 use Rattle.chip_lang.specs.declared.instr.Instr.TheVariants as instr
 
@@ -41,6 +41,11 @@ abbrev pub stores : Option Instr → Bool
 stores (Some (instr.StoreDecimal x)) = true
 stores (Some (instr.StoreRegisters x)) = true
 stores other = false
+
+-- RND makes a byte of random bits, of which those of its mask may be 1; with the mask 0 none may
+abbrev pub draws : Option Instr → Bool
+draws (Some (instr.Random x mask)) = not (mask == 0)
+draws other = false
 
 -- SCD, SCR, SCL, EXIT, LOW, HIGH, LD HF, LD R are those that SUPER-CHIP added
 abbrev pub is_super_instruction : Option Instr → Bool

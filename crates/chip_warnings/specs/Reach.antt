@@ -1,5 +1,6 @@
 -- Where execution comes, by the lines above a line, of which the nearest comes first (own).
 use Rattle.std.specs.Prelude.{ℕ, ◌+◌, ◌==◌, ◌&&◌, ◌||◌, not, Bool, true, false, if◌then◌else◌, List, [], ◌∷◌, Option, Some, None}
+use Rattle.std.specs.List.{list_any}
 use Rattle.chip_lang.specs.declared.limits.TheConstants.{IMAGE_START}
 use Rattle.chip_warnings.specs.declared.flow.Reach.{Reach}
 use Rattle.chip_warnings.specs.declared.flow.Reach.TheVariants.{Comes, Never, Unsure}
@@ -9,7 +10,7 @@ use Rattle.chip_warnings.specs.declared.seen.Says.TheVariants.{Nothing, Code}
 use Rattle.chip_warnings.specs.declared.seen.Seen.{Seen}
 use Rattle.chip_lang.specs.Decoding.{decode_of}
 use Rattle.chip_warnings.specs.Instructions.{goes_elsewhere, jumps_by_table, may_skip}
-use Rattle.chip_warnings.specs.Seen.{base_of, holds_of}
+use Rattle.chip_warnings.specs.Seen.{base_of, holds_of, is_draw}
 
 -- ---- the line above
 
@@ -27,6 +28,10 @@ last_with_bytes (s ∷ above) = if has_bytes s.says then Some s else last_with_b
 abbrev pub begins_since : (above : List Seen) → Bool
 begins_since [] = false
 begins_since (s ∷ above) = not (has_bytes s.says) && (s.begins || begins_since above)
+
+-- a line above draws a random byte
+abbrev pub draws_among : (above : List Seen) → Bool
+draws_among above = list_any (λ (s : Seen). is_draw s.says) above
 
 -- an address comes right after the last line with bytes, where that is an instruction; where there is
 -- none, the start of the image comes
@@ -74,6 +79,7 @@ reach_after jumped (s ∷ above) =
       last = last_with_bytes above;
       begins = begins_since above;
       reach = reach_after jumped above;
+      has_drawn = draws_among above;
     }) s s.says
 
 -- what is known at a line from those above it
@@ -83,4 +89,5 @@ flow_after jumped above =
       last = last_with_bytes above;
       begins = begins_since above;
       reach = reach_after jumped above;
+      has_drawn = draws_among above;
     }

@@ -9,6 +9,7 @@ use Rattle.chip_lang.specs.Uses.{name_defined, names_used}
 use Rattle.chip_lang.specs.declared.instr.Instr.{Instr}
 use Rattle.chip_asm.specs.LineViews.{LineFacts, line_facts}
 use Rattle.chip_properties.specs.Lines.{words_in}
+use Rattle.chip_warnings.specs.Instructions.{draws}
 use Rattle.chip_warnings.specs.declared.seen.Says.{Says}
 use Rattle.chip_warnings.specs.declared.seen.Says.TheVariants.{Nothing, Code, Rows, PerhapsCode, Data}
 use Rattle.chip_warnings.specs.declared.seen.Seen.{Seen}
@@ -56,6 +57,11 @@ base_of says = None
 abbrev pub holds_of : (holds : Option Instr → Bool) → Option ℕ → Bool
 holds_of holds None = false
 holds_of holds (Some base) = holds (decode_of base)
+
+-- an instruction that draws a random byte
+abbrev pub is_draw : Says → Bool
+is_draw (Code base word) = draws (decode_of word)
+is_draw says = false
 
 -- the address in an instruction's word
 abbrev pub target_of : Says → ℕ

@@ -2,6 +2,7 @@
 use Rattle.std.specs.Prelude.{ℕ, ◌+◌, ◌%◌, ◌==◌, ◌&&◌, not, Bool, true, false, List, [], ◌∷◌, length, map, filter, is_none, reverse, take, Option, Some, None, slice_get, slice_index_or}
 use Rattle.std.specs.List.{flat_map, range_with_len}
 use Rattle.chip_machine.specs.declared.quirks.Quirks.{Quirks}
+use Rattle.chip_warnings.specs.declared.asked.Asked.{Asked}
 use Rattle.chip_warnings.specs.declared.coverage.Coverage.{Coverage}
 use Rattle.chip_warnings.specs.declared.flow.Flow.{Flow}
 use Rattle.chip_warnings.specs.declared.flow.Reach.{Reach}
@@ -11,8 +12,8 @@ use Rattle.chip_warnings.specs.declared.seen.Says.TheVariants.{Rows}
 use Rattle.chip_warnings.specs.declared.seen.Seen.{Seen}
 use Rattle.chip_warnings.specs.declared.warning.Warning.{Warning}
 use Rattle.chip_warnings.specs.declared.warning.WarningCode.{WarningCode}
-use Rattle.chip_warnings.specs.declared.warning.WarningCode.TheVariants.{SplitRows, UnusedName, Unreachable, FallsIntoData, JumpsToData, OddAddress, NotInProfile, NeverExecuted, Property}
-use Rattle.chip_warnings.specs.Seen.{base_of, holds_of, is_code, is_data, seen_lines, target_of}
+use Rattle.chip_warnings.specs.declared.warning.WarningCode.TheVariants.{SplitRows, UnusedName, Unreachable, FallsIntoData, JumpsToData, OddAddress, NotInProfile, NeverExecuted, AlwaysZero, Property}
+use Rattle.chip_warnings.specs.Seen.{base_of, holds_of, is_code, is_data, is_draw, seen_lines, target_of}
 use Rattle.chip_warnings.specs.Instructions.{goes_elsewhere, is_super_instruction, leads_to_one}
 use Rattle.chip_warnings.specs.Marked.{Marked, marked_by}
 use Rattle.chip_warnings.specs.Reach.{base_before, flow_after, reach_at}
@@ -89,16 +90,14 @@ is_left_out None s = false
 is_left_out (Some coverage) s =
     is_code s.says && not (slice_index_or coverage.executed.now s.address true)
 
+-- the first line that draws a random byte
+abbrev pub draws_first : Flow → Seen → Bool
+draws_first flow s = is_draw s.says && not flow.has_drawn
+
 -- ---- all kinds
 
--- what is asked: which warnings are switched off, the quirks of the machine, and what a search saw
--- executed, if one was made
-pub record Asked : Type 0 where
-  pub allowed : ℕ
-  pub quirks : Quirks
-  pub coverage : Option Coverage
-
--- a line has a warning of a kind; W8 only without W3
+-- a line has a warning of a kind; W8 only without W3, and W9 on the first line that draws a random byte,
+-- where no tape is given
 abbrev pub has_warning : Asked → Marked → Flow → Seen → WarningCode → Bool
 has_warning asked marked flow s SplitRows = splits_rows flow s
 has_warning asked marked flow s UnusedName = s.unused
@@ -109,13 +108,14 @@ has_warning asked marked flow s OddAddress = is_at_odd_address flow s
 has_warning asked marked flow s NotInProfile = is_not_in_profile asked.quirks s
 has_warning asked marked flow s NeverExecuted =
     is_left_out asked.coverage s && not (is_unreachable marked flow s)
+has_warning asked marked flow s AlwaysZero = draws_first flow s && not asked.has_tape
 has_warning asked marked flow s (Property code) = false
 
--- W1 to W8
+-- W1 to W9
 abbrev pub kinds : List WarningCode
 kinds =
     SplitRows ∷ UnusedName ∷ Unreachable ∷ FallsIntoData ∷ JumpsToData ∷ OddAddress ∷ NotInProfile
-    ∷ NeverExecuted ∷ []
+    ∷ NeverExecuted ∷ AlwaysZero ∷ []
 
 -- the kinds of which a line has a warning that isn't switched off
 unfoldable pub kinds_on : Asked → Marked → Flow → Seen → List WarningCode
@@ -137,7 +137,7 @@ kinds_at asked lines place =
 abbrev pub warned_at : Asked → (lines : List Seen) → (place : ℕ) → List (ℕ × WarningCode)
 warned_at asked lines place = map (λ kind. (place + 1, kind)) (kinds_at asked lines place)
 
--- the warnings W1 to W8 of a source, each with the number of its line, in the order of the lines
+-- the warnings W1 to W9 of a source, each with the number of its line, in the order of the lines
 unfoldable pub warned : Asked → (texts : List (List ℕ)) → List (ℕ × WarningCode)
 warned asked texts =
     flat_map (warned_at asked (seen_lines texts)) (range_with_len 0 (length texts))

@@ -3,14 +3,14 @@ use Rattle.std.specs.Prelude.{ℕ, ◌≡◌, ◌≤◌, ◌+◌, ◌-◌, ◌/�
 use Rattle.chip_properties.specs.Faults.{number_of_property_fault}
 use Rattle.chip_warnings.specs.declared.warning.Warning.{Warning}
 use Rattle.chip_warnings.specs.declared.warning.WarningCode.{WarningCode}
-use Rattle.chip_warnings.specs.declared.warning.WarningCode.TheVariants.{SplitRows, UnusedName, Unreachable, FallsIntoData, JumpsToData, OddAddress, NotInProfile, NeverExecuted, Property}
+use Rattle.chip_warnings.specs.declared.warning.WarningCode.TheVariants.{SplitRows, UnusedName, Unreachable, FallsIntoData, JumpsToData, OddAddress, NotInProfile, NeverExecuted, AlwaysZero, Property}
 
 -- the letter before it: P where a property can't be read, else W
 abbrev pub letter_of_warning : WarningCode → ℕ
 letter_of_warning (Property code) = 80
 letter_of_warning code = 87
 
--- the number of a warning, W1 to W8 and P1 to P6
+-- the number of a warning, W1 to W9 and P1 to P6
 abbrev pub number_of_warning : WarningCode → ℕ
 number_of_warning SplitRows = 1
 number_of_warning UnusedName = 2
@@ -20,11 +20,12 @@ number_of_warning JumpsToData = 5
 number_of_warning OddAddress = 6
 number_of_warning NotInProfile = 7
 number_of_warning NeverExecuted = 8
+number_of_warning AlwaysZero = 9
 number_of_warning (Property code) = number_of_property_fault code
 
--- its bit in a set of warnings: k for Wk, and 8 + k for Pk
+-- its bit in a set of warnings: k for Wk, and 9 + k for Pk
 abbrev pub bit_of_warning : WarningCode → ℕ
-bit_of_warning (Property code) = 8 + number_of_property_fault code
+bit_of_warning (Property code) = 9 + number_of_property_fault code
 bit_of_warning code = number_of_warning code
 
 -- a set has a warning

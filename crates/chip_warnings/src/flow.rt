@@ -1,13 +1,13 @@
 //! Where execution comes, line after line.
 
-ghost use Rattle.std.specs.Prelude.{◌≡◌, ◌∷◌, [], List, ℕ, Bool, Some, false, not, is_some};
+ghost use Rattle.std.specs.Prelude.{◌≡◌, ◌∷◌, ◌||◌, [], List, ℕ, Bool, Some, false, not, is_some};
 ghost use Rattle.chip_warnings.specs.Instructions.{goes_elsewhere, may_skip};
 ghost use Rattle.chip_warnings.specs.Reach.{base_before, comes_next, flow_after, reach_at, reach_past};
-ghost use Rattle.chip_warnings.specs.Seen.{holds_of};
-ghost use Rattle.chip_warnings.specs.Warned.{falls_into_data, has_warning, is_at_odd_address, is_not_in_profile, is_unreachable, jumps_to_data, splits_rows};
+ghost use Rattle.chip_warnings.specs.Seen.{holds_of, is_draw};
+ghost use Rattle.chip_warnings.specs.Warned.{draws_first, falls_into_data, has_warning, is_at_odd_address, is_not_in_profile, is_unreachable, jumps_to_data, splits_rows};
 ghost use Rattle.chip_warnings.specs.inner.Noted.{marked_in};
 
-use crate::coverage::Coverage;
+use crate::asked::Asked;
 use crate::instruction::{
     goes_elsewhere, is_super_instruction, jumps_by_table, leads_to_one, may_skip,
 };
@@ -37,6 +37,8 @@ pub(crate) struct Flow {
     begins: bool,
     /// Whether execution comes to the place after it.
     reach: Reach,
+    /// Whether a line above draws a random byte.
+    has_drawn: bool,
 }
 
 impl Flow {
@@ -48,6 +50,7 @@ impl Flow {
             last: None,
             begins: false,
             reach: Reach::Comes,
+            has_drawn: false,
         }
     }
 
@@ -62,20 +65,27 @@ impl Flow {
                 last: self.last,
                 begins: seen.begins || self.begins,
                 reach: self.reach,
+                has_drawn: self.has_drawn,
             },
-            Says::Code { base, .. } => Flow::past(seen, self.reach_past(marks, seen, base)),
-            _ => Flow::past(seen, Reach::Unsure),
+            Says::Code { base, .. } => self.past(seen, self.reach_past(marks, seen, base)),
+            _ => self.past(seen, Reach::Unsure),
         }
     }
 
     /// Directly after a line with bytes.
-    fn past(seen: &Seen, reach: Reach) -> Flow
-        ensures { result ≡ record { last = Some seen.now; begins = false; reach = reach } }
+    fn past(&self, seen: &Seen, reach: Reach) -> Flow
+        ensures { result ≡ record {
+          last = Some seen.now;
+          begins = false;
+          reach = reach;
+          has_drawn = is_draw seen.now.says || self.now.has_drawn;
+        } }
     {
         Flow {
             last: Some(*seen),
             begins: false,
             reach,
+            has_drawn: seen.says.is_draw() || self.has_drawn,
         }
     }
 
@@ -140,14 +150,11 @@ impl Flow {
     pub(crate) fn has(
         &self,
         code: WarningCode,
+        asked: &Asked<'_>,
         marks: &Marks,
         seen: &Seen,
-        quirks: Quirks,
-        coverage: Option<Coverage<'_>>,
     ) -> bool
-        ensures { (allowed : ℕ) → result ≡ has_warning
-            (record { allowed = allowed; quirks = quirks; coverage = coverage.entry })
-            (marked_in marks.now) self.now seen.now code }
+        ensures { result ≡ has_warning asked.now (marked_in marks.now) self.now seen.now code }
     {
         match code {
             WarningCode::SplitRows => self.splits_rows(seen),
@@ -156,11 +163,12 @@ impl Flow {
             WarningCode::FallsIntoData => self.falls_into_data(marks, seen),
             WarningCode::JumpsToData => data_line(marks, seen).is_some(),
             WarningCode::OddAddress => self.is_at_odd_address(seen),
-            WarningCode::NotInProfile => is_not_in_profile(quirks, seen),
-            WarningCode::NeverExecuted => match coverage {
+            WarningCode::NotInProfile => is_not_in_profile(asked.quirks, seen),
+            WarningCode::NeverExecuted => match asked.coverage {
                 Some(coverage) => coverage.leaves_out(seen) && !self.is_unreachable(marks, seen),
                 None => false,
             },
+            WarningCode::AlwaysZero => self.draws_first(seen) && !asked.has_tape,
             WarningCode::Property(_) => false,
         }
     }
@@ -172,6 +180,13 @@ impl Flow {
         seen.says.is_code()
             && matches!(self.reach_at(marks, seen), Reach::Never)
             && !marks.writes_code
+    }
+
+    /// Whether a line is the first one that draws a random byte.
+    fn draws_first(&self, seen: &Seen) -> bool
+        ensures { result ≡ draws_first self.now seen.now }
+    {
+        seen.says.is_draw() && !self.has_drawn
     }
 
     /// Whether ALIGN puts a zero byte between the rows above and those of a line.

@@ -1,7 +1,7 @@
 //! What instructions do that warnings ask of them, by the word of a form.
 ghost use Rattle.std.specs.Prelude.{◌≡◌};
 ghost use Rattle.chip_lang.specs.Decoding.{decode_of};
-ghost use Rattle.chip_warnings.specs.Instructions.{goes_elsewhere, is_super_instruction, jumps_by_table, leads_to_one, may_skip, points, stores};
+ghost use Rattle.chip_warnings.specs.Instructions.{draws, goes_elsewhere, is_super_instruction, jumps_by_table, leads_to_one, may_skip, points, stores};
 
 use chip_lang::{Instr, decode};
 
@@ -61,6 +61,16 @@ pub(crate) fn stores(base: u16) -> bool
         decode(base),
         Some(Instr::StoreDecimal(_) | Instr::StoreRegisters(_))
     )
+}
+
+/// Whether a word makes a byte of random bits of which some may be 1: RND with a mask other than 0.
+pub(crate) fn draws(word: u16) -> bool
+    ensures { result ≡ draws (decode_of word) }
+{
+    match decode(word) {
+        Some(Instr::Random(_, mask)) => mask != 0,
+        _ => false,
+    }
 }
 
 /// Whether it is one that SUPER-CHIP added: SCD, SCR, SCL, EXIT, LOW, HIGH, LD HF, LD R.

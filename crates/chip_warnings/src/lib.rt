@@ -1,6 +1,7 @@
 //! Warnings: what a source says that it may not mean.
 #![tactic(auto)]
 
+mod asked;
 mod coverage;
 mod flow;
 mod instruction;
@@ -11,6 +12,7 @@ mod survey;
 mod text;
 mod warning;
 
+pub use asked::Asked;
 pub use coverage::Coverage;
 pub use report::warnings;
 pub use warning::{Warning, WarningCode};

@@ -3,11 +3,10 @@
 ghost use Rattle.std.specs.Prelude.{◌≡◌, ◌++◌, ◌&&◌, IfOk, IsSome, OnOk, None, [], All, false, map, not, true};
 ghost use Rattle.chip_asm.specs.Program.{image_of};
 ghost use Rattle.chip_warnings.specs.Warned.{has_warning, kinds_on, kinds_told, warned};
-ghost use Rattle.chip_warnings.specs.inner.Judged.{asked_by};
 ghost use Rattle.chip_warnings.specs.inner.Noted.{marked_in};
 ghost use Rattle.chip_warnings.specs.Warnings.{StandsAt, StandsIn, Adds, is_switched_off};
 
-use crate::coverage::Coverage;
+use crate::asked::Asked;
 use crate::flow::Flow;
 use crate::marks::Marks;
 use crate::seen::Seen;
@@ -16,13 +15,11 @@ use crate::text::{fault_there, help, sentence};
 use crate::warning::{CODES, Warning, WarningCode};
 use chip_asm::{LineView, Source};
 use chip_lang::Span;
-use chip_machine::Quirks;
 use chip_properties::{PropertyFault, properties_of};
 use std::alloc::{AllocError, Global};
 
 /// The warnings of a source, in the order of the lines; none where a line has a fault. Properties that
-/// can't be read are among them, as P1 to P6. `allowed` has bit k set where Wk is switched off, and bit
-/// 8 + k where Pk is. Without the coverage of the source's image no line has W8.
+/// can't be read are among them, as P1 to P6. `asked.coverage` is that of the source's image.
 ///
 /// # Errors
 ///
@@ -30,18 +27,14 @@ use std::alloc::{AllocError, Global};
 pub fn warnings(
     alloc: Global,
     source: &Source,
-    quirks: Quirks,
-    allowed: u16,
-    coverage: Option<Coverage<'_>>,
+    asked: Asked<'_>,
 ) -> Result<Vec<Warning>, AllocError>
     ensures places { IfOk result
-        (λ warnings. All (StandsIn allowed source.now.lines) warnings.items) }
+        (λ warnings. All (StandsIn asked.entry.allowed source.now.lines) warnings.items) }
     ensures faulty { IfOk result
         (λ warnings. image_of source.now.lines ≡ None → warnings.items ≡ []) }
     ensures told { IfOk result (λ warnings. IsSome (image_of source.now.lines)
-        → kinds_told warnings.items ≡ warned
-        (record { allowed = allowed; quirks = quirks; coverage = coverage.entry })
-        source.now.lines) }
+        → kinds_told warnings.items ≡ warned asked.entry source.now.lines) }
 {
     let mut warnings = Vec::new(alloc);
     if source.image().is_none() {
@@ -57,9 +50,7 @@ pub fn warnings(
             let judge = Judge {
                 marks: &survey.marks,
                 flow: &flow,
-                quirks,
-                allowed,
-                coverage,
+                asked,
             };
             judge.push_warnings(alloc, &mut warnings, &line, &seen)?;
             faults = judge.push_fault_at(alloc, &mut warnings, faults, &line)?;
@@ -74,9 +65,7 @@ pub fn warnings(
 pub(crate) struct Judge<'a> {
     pub(crate) marks: &'a Marks,
     pub(crate) flow: &'a Flow,
-    pub(crate) quirks: Quirks,
-    allowed: u16,
-    pub(crate) coverage: Option<Coverage<'a>>,
+    pub(crate) asked: Asked<'a>,
 }
 
 impl<'a> Judge<'a> {
@@ -88,11 +77,12 @@ impl<'a> Judge<'a> {
         line: &LineView<'_>,
         seen: &Seen,
     ) -> Result<(), AllocError>
-        ensures adds { OnOk result (Adds (StandsAt self.now.allowed line.now.number line.now.text)
+        ensures adds { OnOk result
+            (Adds (StandsAt self.now.asked.allowed line.now.number line.now.text)
             warnings.old.items warnings.new.items) }
         ensures told { OnOk result (kinds_told warnings.new.items
             ≡ kinds_told warnings.old.items ++ map (λ kind. (line.now.number, kind))
-            (kinds_on (asked_by self.now) (marked_in self.now.marks.now) self.now.flow.now seen.now)) }
+            (kinds_on self.now.asked (marked_in self.now.marks.now) self.now.flow.now seen.now)) }
     {
         for code in CODES {
             if self.has(*code, seen) {
@@ -105,15 +95,13 @@ impl<'a> Judge<'a> {
 
     /// Whether a line has a warning of a kind that isn't switched off.
     fn has(&self, code: WarningCode, seen: &Seen) -> bool
-        ensures told { result ≡ true → is_switched_off self.now.allowed code ≡ false }
-        ensures value { result ≡ (not (is_switched_off self.now.allowed code)
-            && has_warning (asked_by self.now) (marked_in self.now.marks.now) self.now.flow.now
+        ensures told { result ≡ true → is_switched_off self.now.asked.allowed code ≡ false }
+        ensures value { result ≡ (not (is_switched_off self.now.asked.allowed code)
+            && has_warning self.now.asked (marked_in self.now.marks.now) self.now.flow.now
             seen.now code) }
     {
-        !code.is_switched_off(self.allowed)
-            && self
-                .flow
-                .has(code, self.marks, seen, self.quirks, self.coverage)
+        !code.is_switched_off(self.asked.allowed)
+            && self.flow.has(code, &self.asked, self.marks, seen)
     }
 
     /// The warning of a kind of a line.
@@ -124,8 +112,9 @@ impl<'a> Judge<'a> {
         line: &LineView<'_>,
         seen: &Seen,
     ) -> Result<Warning, AllocError>
-        requires { is_switched_off self.now.allowed code ≡ false }
-        ensures stands { IfOk result (StandsAt self.now.allowed line.now.number line.now.text) }
+        requires { is_switched_off self.now.asked.allowed code ≡ false }
+        ensures stands { IfOk result
+            (StandsAt self.now.asked.allowed line.now.number line.now.text) }
         ensures kind { IfOk result (λ warning. warning.code ≡ code) }
     {
         let span = line.span_of(alloc, fault_there(code))?;
@@ -150,7 +139,8 @@ impl<'a> Judge<'a> {
         faults: &'b [PropertyFault],
         line: &LineView<'_>,
     ) -> Result<&'b [PropertyFault], AllocError>
-        ensures adds { OnOk result (Adds (StandsAt self.now.allowed line.now.number line.now.text)
+        ensures adds { OnOk result
+            (Adds (StandsAt self.now.asked.allowed line.now.number line.now.text)
             warnings.old.items warnings.new.items) }
         ensures told { OnOk result
             (kinds_told warnings.new.items ≡ kinds_told warnings.old.items) }
@@ -174,13 +164,14 @@ impl<'a> Judge<'a> {
         fault: &PropertyFault,
         line: &LineView<'_>,
     ) -> Result<(), AllocError>
-        ensures adds { OnOk result (Adds (StandsAt self.now.allowed line.now.number line.now.text)
+        ensures adds { OnOk result
+            (Adds (StandsAt self.now.asked.allowed line.now.number line.now.text)
             warnings.old.items warnings.new.items) }
         ensures told { OnOk result
             (kinds_told warnings.new.items ≡ kinds_told warnings.old.items) }
     {
         let code = WarningCode::Property(fault.code);
-        if code.is_switched_off(self.allowed) {
+        if code.is_switched_off(self.asked.allowed) {
             return Ok(());
         }
         let end = fault.span.end.min(line.text().len());

@@ -3,10 +3,11 @@
 ghost use Rattle.std.specs.Prelude.{◌≡◌, ◌<◌, ◌+◌, ◌==◌, ◌&&◌, if◌then◌else◌};
 ghost use Rattle.chip_lang.specs.Line.{reading_of};
 ghost use Rattle.chip_lang.specs.SeenLine.{seen_body, seen_line};
-ghost use Rattle.chip_warnings.specs.Seen.{base_of, target_of, begins, first_word, is_code, is_data, says_by_body, says_by_reading};
+ghost use Rattle.chip_warnings.specs.Seen.{base_of, target_of, begins, first_word, is_code, is_data, is_draw, says_by_body, says_by_reading};
 ghost use Rattle.chip_warnings.specs.Warned.{splits_from};
 ghost use Rattle.chip_warnings.specs.declared.seen.Says.{Says};
 
+use crate::instruction::draws;
 use chip_asm::LineView;
 use chip_lang::{Body, Line, decode};
 
@@ -40,6 +41,16 @@ impl Says {
         match self {
             Says::Code { base, .. } => Some(base),
             _ => None,
+        }
+    }
+
+    /// Whether it is an instruction that draws a random byte.
+    pub(crate) fn is_draw(self) -> bool
+        ensures { result ≡ is_draw self }
+    {
+        match self {
+            Says::Code { word, .. } => draws(word),
+            _ => false,
         }
     }
 

@@ -54,8 +54,11 @@ pub(crate) fn sentence(
         }
         WarningCode::JumpsToData => jump_sentence(alloc, seen, judge.marks)?,
         WarningCode::OddAddress => odd_sentence(alloc, seen)?,
-        WarningCode::NotInProfile => missing_sentence(alloc, seen, judge.quirks)?,
-        WarningCode::NeverExecuted => never_sentence(alloc, judge.coverage)?,
+        WarningCode::NotInProfile => missing_sentence(alloc, seen, judge.asked.quirks)?,
+        WarningCode::NeverExecuted => never_sentence(alloc, judge.asked.coverage)?,
+        WarningCode::AlwaysZero => format!(in alloc;
+            "RND always gives 0 without a tape or a seed"
+        )?,
         WarningCode::Property(code) => return Vec::from_slice(alloc, code.sentence()),
     };
     Ok(text.into_bytes())
@@ -118,6 +121,9 @@ pub(crate) fn help(code: WarningCode) -> &'static [u8] {
         WarningCode::JumpsToData => b"",
         WarningCode::OddAddress => b"put ALIGN ON before the data above it, or DB 0 after that",
         WarningCode::NotInProfile => b"schip has it",
+        WarningCode::AlwaysZero => {
+            b"give it random bytes with --seed 1 or --tape 2a91, or hide this with --allow W9"
+        }
         WarningCode::NeverExecuted | WarningCode::Property(_) => b"",
     }
 }

@@ -25,6 +25,8 @@ pub enum WarningCode {
     NotInProfile,
     /// W8: an instruction that no key script executes.
     NeverExecuted,
+    /// W9: RND, where no tape of random bytes is given.
+    AlwaysZero,
     /// P1 to P6: a property that can't be read.
     Property(FaultCode),
 }
@@ -40,10 +42,10 @@ impl WarningCode {
         }
     }
 
-    /// The number that a warning has: 1 to 8.
+    /// The number that a warning has: 1 to 9.
     pub fn number(self) -> u32
         ensures value { result ≡ number_of_warning self }
-        ensures bound { result ≤ 8 }
+        ensures bound { result ≤ 9 }
     {
         match self {
             WarningCode::SplitRows => 1,
@@ -54,17 +56,18 @@ impl WarningCode {
             WarningCode::OddAddress => 6,
             WarningCode::NotInProfile => 7,
             WarningCode::NeverExecuted => 8,
+            WarningCode::AlwaysZero => 9,
             WarningCode::Property(code) => code.number(),
         }
     }
 
-    /// Its bit in a set of warnings: k for Wk, and 8 + k for Pk.
+    /// Its bit in a set of warnings: k for Wk, and 9 + k for Pk.
     fn bit(self) -> u32
         ensures value { result ≡ bit_of_warning self }
-        ensures bound { result ≤ 14 }
+        ensures bound { result ≤ 15 }
     {
         match self {
-            WarningCode::Property(code) => 8 + code.number(),
+            WarningCode::Property(code) => 9 + code.number(),
             _ => self.number(),
         }
     }
@@ -77,7 +80,7 @@ impl WarningCode {
     }
 }
 
-/// The kinds W1 to W8, in the order of their numbers.
+/// The kinds W1 to W9, in the order of their numbers.
 pub(crate) const CODES: &[WarningCode] = &[
     WarningCode::SplitRows,
     WarningCode::UnusedName,
@@ -87,6 +90,7 @@ pub(crate) const CODES: &[WarningCode] = &[
     WarningCode::OddAddress,
     WarningCode::NotInProfile,
     WarningCode::NeverExecuted,
+    WarningCode::AlwaysZero,
 ];
 
 /// A warning, and where it stands.

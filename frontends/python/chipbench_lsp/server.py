@@ -40,6 +40,7 @@ from .wire import (
 PAUSE_SECONDS = 0.25
 WARNING, INFO = 2, 3
 OPTIONS = ("profile", "quirks", "rate", "tape", "seed", "every")
+CHECK_OPTIONS = ("profile", "quirks", "tape", "seed")
 END = object()
 
 Message = dict[str, Any]
@@ -373,12 +374,12 @@ class Server:
         if not self._has_check or program is None or (shown and shown[0]["code"] in ("O1", "O2", "program")):
             return
         uri, edition, lines, source = due, document.edition, document.lines, document.source
-        profile, quirks = self.options.get("profile"), self.options.get("quirks")
+        options = {name: self.options.get(name) for name in CHECK_OPTIONS}
 
         def work() -> None:
             faults = []
             with contextlib.suppress(Exception):
-                faults = chipbench.check(chipbench.join_lines(source), program, profile, quirks)
+                faults = chipbench.check(chipbench.join_lines(source), program, **options)
             self._queue.put(Checked(uri, edition, lines, faults))
 
         self._is_checking = True

@@ -113,11 +113,15 @@ class Game:
 
     def run_options(self) -> list[str]:
         """The options of a run, as `chipbench trace` takes them."""
-        tape = self.settings.tape
+        rate = self.settings.rate
+        return [*self.check_options(), *([] if rate is None else [f"--rate={rate}"])]
+
+    def check_options(self) -> list[str]:
+        """The options of the machine and its tape, as `chipbench check` takes them."""
         chosen = self.settings
-        named = {"profile": chosen.profile, "quirks": chosen.quirks, "rate": chosen.rate, "seed": chosen.seed}
-        options = {**named, "tape": None if tape is None else tape.hex()}
-        return [f"--{name}={value}" for name, value in options.items() if value is not None]
+        tape = None if chosen.tape is None else chosen.tape.hex()
+        named = {"profile": chosen.profile, "quirks": chosen.quirks, "seed": chosen.seed, "tape": tape}
+        return [f"--{name}={value}" for name, value in named.items() if value not in (None, "")]
 
     def key_lines(self) -> str:
         """The key events as the lines of a file of key events."""

@@ -201,9 +201,7 @@ class Looks(Commands):
             path = Path(folder, name)
             path.write_bytes(join_lines(self.game.bench.lines))
             colour = "--color=always" if self.console.has_colours else "--color=never"
-            named = {"profile": self.game.settings.profile, "quirks": self.game.settings.quirks}
-            machine = [f"--{name}={value}" for name, value in named.items() if value]
-            answer = self._run(["check", colour, *machine, str(path)])
+            answer = self._run(["check", colour, *self.game.check_options(), str(path)])
         found = answer.replace(f"{folder}{os.sep}", "").splitlines()
         self.say(*(found or ["no faults and no warnings"]))
 

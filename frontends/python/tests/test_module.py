@@ -255,6 +255,12 @@ class Words(NeedsWords):
         warnings = chipbench.check("CLS\nHERE: JP HERE\nUNUSED EQU 5\n", self.program)
         self.assertEqual([(warning.line, warning.code, warning.is_warning) for warning in warnings], [(3, "W2", True)])
 
+    def test_a_warning_of_random_bytes(self) -> None:
+        """RND has a warning where neither a tape nor a seed is given."""
+        for options, wanted in (({}, ["W9"]), ({"seed": 0}, []), ({"seed": "7"}, []), ({"tape": b"\x2a"}, []), ({"seed": ""}, ["W9"])):
+            warnings = chipbench.check("HERE: RND V0, 7\nJP HERE\n", self.program, **options)
+            self.assertEqual([warning.code for warning in warnings], wanted, options)
+
     def test_a_check_of_what_does_not_open(self) -> None:
         with self.assertRaises(Refused):
             chipbench.check("\n" * 4001, self.program)

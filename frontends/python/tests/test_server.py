@@ -405,6 +405,15 @@ class Places(NeedsWords):
         self.assertEqual(faults_of(client.shown()), [(4, "W2")])
         self.assertEqual(faults_of(client.edit((0, 0), (0, 3), "FOO")), [(1, "F3")])
 
+    def test_random_bytes_of_the_settings(self) -> None:
+        """RND has a warning where the settings give neither a tape nor a seed."""
+        text = "HERE: RND V0, 7\nJP HERE\nUNUSED EQU 5\n"
+        for options, wanted in (({}, [(1, "W9"), (3, "W2")]), ({"seed": 7}, [(3, "W2")]), ({"tape": "2a91"}, [(3, "W2")])):
+            client = Client(self.program, options=options)
+            self.addCleanup(client.kill)
+            self.assertEqual(client.open(text), [])
+            self.assertEqual(faults_of(client.shown()), wanted, options)
+
 
 class WarningsMove(unittest.TestCase):
     def test_which_warnings_stay(self) -> None:

@@ -300,6 +300,12 @@ class Looks(AtTerminal):
         terminal.ask("edit 11         RET")
         self.answers(terminal, ("check", "no faults and no warnings"))
 
+    def test_check_of_random_bytes(self) -> None:
+        source = "HERE: RND V0, 7\nJP HERE\n"
+        self.assertIn("game.asm:1:7: W9: ", self.opened(source, NO_COLOR="1").ask("check"))
+        for option in ("--seed=7", "--tape=2a91"):
+            self.answers(self.opened(source, option, NO_COLOR="1"), ("check", "no faults and no warnings"))
+
     def test_explain(self) -> None:
         terminal = self.opened()
         self.assertTrue(terminal.ask("explain f9").startswith("F9: undefined name\n"))

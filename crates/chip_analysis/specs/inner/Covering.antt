@@ -4,15 +4,14 @@
 --     IsCoverage      under no key script is a step made at another address than these, up to a step,
 --                     or at any step below the end
 --     IsCovered       that of a source's machine, where it is asked for and the source has an image
-use Rattle.std.specs.Prelude.{◌≡◌, ℕ, ◌<◌, ◌-◌, Bool, true, false, List, [], ◌∷◌, Option, Some, None}
-use Rattle.chip_arguments.specs.SettingArguments.{default_arguments}
+use Rattle.std.specs.Prelude.{◌≡◌, ℕ, ◌<◌, ◌-◌, Bool, true, false, List, Option, Some, None}
 use Rattle.chip_explore.specs.Executed.{StaysAmong}
 use Rattle.chip_explore.specs.declared.limits.TheConstants.{END}
 use Rattle.chip_explore.specs.declared.question.Outcome.{Outcome}
 use Rattle.chip_explore.specs.declared.question.Outcome.TheVariants.{Found, Later, Within, Never}
 use Rattle.chip_machine.specs.Start.{start_of}
 use Rattle.chip_machine.specs.State.{State}
-use Rattle.chip_machine.specs.declared.quirks.Quirks.{Quirks}
+use Rattle.chip_session.specs.Settings.{SessionSettings}
 use Rattle.chip_analysis.specs.Exploring.{usual_keys}
 use Rattle.chip_analysis.specs.declared.covering.Covered.{Covered}
 
@@ -28,12 +27,12 @@ IsCoverage rate keys executed start None =
     (n : ℕ) → n < END → StaysAmong rate keys executed start n
 
 -- what `check` takes as executed: nothing, unless it is asked for and there is an image; then that of
--- its machine with these quirks, with the tape 00 and the usual rate, for all keys
-abbrev pub IsCovered : (is_covering : Bool) → Quirks → (image : Option (List ℕ)) → Option Covered
+-- its machine under these settings, for all keys
+abbrev pub IsCovered : (is_covering : Bool) → SessionSettings → (image : Option (List ℕ)) → Option Covered
     → Type 0
-IsCovered true quirks (Some image) (Some covered) =
-    IsCoverage default_arguments.rate usual_keys covered.executed (start_of image (0 ∷ []) quirks)
-    covered.within
-IsCovered true quirks (Some image) None = ⊥
-IsCovered true quirks None covered = covered ≡ None
-IsCovered false quirks image covered = covered ≡ None
+IsCovered true settings (Some image) (Some covered) =
+    IsCoverage settings.rate usual_keys covered.executed
+    (start_of image settings.tape settings.quirks) covered.within
+IsCovered true settings (Some image) None = ⊥
+IsCovered true settings None covered = covered ≡ None
+IsCovered false settings image covered = covered ≡ None

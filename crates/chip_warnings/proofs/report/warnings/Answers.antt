@@ -36,13 +36,13 @@ loop-place-preserved c =
           let there : slice_get texts (line.number - 1) ≡ Some line.text = ap (λ n. slice_get texts (n - 1)) number ∙ text in
           let low : 1 ≤ line.number = omega (arith, number) in
           record {
-            placed = rw w.warnings-is (next_placed c.args.allowed texts line.number line.text low there _ _
-                (next_placed c.args.allowed texts line.number line.text low there _ _ c.loop-place.invariant.placed w.in_ok-push_warnings.ensures.adds)
+            placed = rw w.warnings-is (next_placed c.args.asked.allowed texts line.number line.text low there _ _
+                (next_placed c.args.asked.allowed texts line.number line.text low there _ _ c.loop-place.invariant.placed w.in_ok-push_warnings.ensures.adds)
                 w.in_ok-faults.ensures.adds);
             told = ap (λ v. kinds_told v.items) w.warnings-is
-                ∙ warned-next (record { allowed = c.args.allowed; quirks = c.args.quirks; coverage = c.args.coverage }) lines place s marked c.loop-place.flow _ _ at same c.loop-place.invariant.flow c.loop-place.invariant.told
+                ∙ warned-next c.args.asked lines place s marked c.loop-place.flow _ _ at same c.loop-place.invariant.flow c.loop-place.invariant.told
                 (w.in_ok-faults.ensures.told ∙ w.in_ok-push_warnings.ensures.told
-                ∙ ap (λ n. kinds_told c.loop-place.warnings.items ++ map (λ kind. (n, kind)) (kinds_on (record { allowed = c.args.allowed; quirks = c.args.quirks; coverage = c.args.coverage }) marked c.loop-place.flow s)) number);
+                ∙ ap (λ n. kinds_told c.loop-place.warnings.items ++ map (λ kind. (n, kind)) (kinds_on c.args.asked marked c.loop-place.flow s)) number);
             flow = w.flow-is
                 ∙ w.after-flow.ensures above (c.loop-place.invariant.flow ∙ ap (λ (m : Marked). flow_after m.jumped above) (sym same))
                 ∙ ap (λ (m : Marked). flow_after m.jumped (s ∷ above)) same
@@ -60,4 +60,4 @@ unfolding warned
 returns-clause-told c some =
     let all : c.loop-place.place ≡ length c.args.source.now.lines = omega (arith, c.loop-place.auto.place-end, c.loop-place-test.false, c.lines-place-end.ensures.value) in
     c.loop-place.invariant.told
-    ∙ ap (λ n. flat_map (warned_at (record { allowed = c.args.allowed; quirks = c.args.quirks; coverage = c.args.coverage }) (seen_lines c.args.source.now.lines)) (range_with_len 0 n)) all
+    ∙ ap (λ n. flat_map (warned_at c.args.asked (seen_lines c.args.source.now.lines)) (range_with_len 0 n)) all

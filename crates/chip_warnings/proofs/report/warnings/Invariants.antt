@@ -9,7 +9,7 @@ use Rattle.chip_warnings.proofs.report.warnings.Given as goal
 
 abbrev pub invariant-loop-place : goal.invariant-loop-place
 invariant-loop-place l = record {
-  placed : All (StandsIn l.allowed l.source.lines) l.warnings.items;
-  told : kinds_told l.warnings.items ≡ flat_map (warned_at (record { allowed = l.allowed; quirks = l.quirks; coverage = l.coverage }) (seen_lines l.source.lines)) (range_with_len 0 l.place);
+  placed : All (StandsIn l.asked.allowed l.source.lines) l.warnings.items;
+  told : kinds_told l.warnings.items ≡ flat_map (warned_at l.asked (seen_lines l.source.lines)) (range_with_len 0 l.place);
   flow : l.flow ≡ flow_after (marked_by (seen_lines l.source.lines)).jumped (reverse (take l.place (seen_lines l.source.lines)));
 }

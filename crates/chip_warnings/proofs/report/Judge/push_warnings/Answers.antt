@@ -1,15 +1,15 @@
 use Rattle.std.proofs.Common.{◌≡◌, ◌∙◌, ◌&&◌, ◌++◌, ℕ, Bool, true, false, List, ap, get_or, map, not, sym}
 use Rattle.std.specs.List.{filter}
 use Rattle.std.proofs.lemmas.List.{append-nil, take_all}
+use Rattle.chip_warnings.specs.declared.asked.Asked.{Asked}
 use Rattle.chip_warnings.specs.declared.flow.Flow.{Flow}
 use Rattle.chip_warnings.specs.declared.seen.Seen.{Seen}
 use Rattle.chip_warnings.specs.declared.warning.Warning.{Warning}
 use Rattle.chip_warnings.specs.declared.warning.WarningCode.{WarningCode}
 use Rattle.chip_warnings.specs.declared.warning.WarningCode.TheVariants.{SplitRows}
 use Rattle.chip_warnings.specs.Marked.{Marked}
-use Rattle.chip_warnings.specs.Warned.{Asked, has_warning, kinds, kinds_on, kinds_told}
+use Rattle.chip_warnings.specs.Warned.{has_warning, kinds, kinds_on, kinds_told}
 use Rattle.chip_warnings.specs.Warnings.{is_switched_off}
-use Rattle.chip_warnings.specs.inner.Judged.{asked_by}
 use Rattle.chip_warnings.specs.inner.Noted.{marked_in}
 use Rattle.chip_warnings.proofs.Placed.{adds_one}
 use Rattle.chip_warnings.proofs.Told.{and_right, kind-plain, kind-told, told-more, told-next}
@@ -18,7 +18,7 @@ use Rattle.chip_warnings.proofs.report.Judge.push_warnings.Goals.{then-has+in_ok
 
 pub loop-code-preserved : goal.loop-code-preserved
 loop-code-preserved c =
-    let asked : Asked = asked_by c.args.self.now in
+    let asked : Asked = c.args.self.now.asked in
     let marked : Marked = marked_in c.args.self.now.marks.now in
     let flow : Flow = c.args.self.now.flow.now in
     let s : Seen = c.args.seen.now in
@@ -50,7 +50,7 @@ loop-code-preserved c =
 pub returns-clause-told : goal.returns-clause-told
 unfolding kinds_on
 returns-clause-told c =
-    let asked : Asked = asked_by c.args.self.now in
+    let asked : Asked = c.args.self.now.asked in
     let marked : Marked = marked_in c.args.self.now.marks.now in
     let test : WarningCode → Bool = λ k. not (is_switched_off asked.allowed k) && has_warning asked marked c.args.self.now.flow.now c.args.seen.now k in
     c.loop-code.invariant.told
