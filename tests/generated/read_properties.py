@@ -12,7 +12,7 @@ import tempfile
 SOURCES, LINES = 40, 60
 NAMES = {"LIVES": 768, "TWO": 2, "BELOW": -3, "AT": 5, "KEYS": 6, "BIG": 2147483647}
 HEAD = [f"{name} EQU {value}" if value >= 0 else f"{name} EQU -{-value}" for name, value in NAMES.items()]
-TOKEN = re.compile(r"(?P<word>[A-Z_][A-Z0-9_]*)|(?P<number>[0-9#@$][A-Z0-9_.]*)|(?P<text>'[^']*')|(?P<sign>[-,:=\[\]()+*/&|^~<>\\])|(?P<bad>.)")
+TOKEN = re.compile(r"(?P<word>[A-Z_][A-Z0-9_]*)|(?P<number>[0-9#@$][A-Z0-9_.]*)|(?P<text>'[^']*')|(?P<sign>!=|[-,:=\[\]()+*/&|^~<>\\])|(?P<bad>.)")
 RESERVED = {f"V{digit:X}" for digit in range(16)} | set(
     "CLS RET JP CALL SE SNE LD ADD OR AND XOR SUB SHR SUBN SHL RND DRW SKP SKNP SCD SCR SCL EXIT LOW HIGH SYS I DT ST K F HF B R EQU ORG"
     " ALIGN DB DW DA DS IFDEF IFUND ELSE ENDIF END OPTION USED XREF DEFINE INCLUDE UNDEF".split()
@@ -173,8 +173,10 @@ class Reading:
 
     def comparison(self):
         left = self.sum()
-        relation = self.need("=", "<", ">")
-        if relation == "<":
+        relation = self.need("=", "<", ">", "!=")
+        if relation == "!=":
+            relation = "<>"
+        elif relation == "<":
             relation += self.take(">", "=") or ""
         elif relation == ">":
             relation += self.take("=") or ""
@@ -230,7 +232,7 @@ def some_sum(choose, atoms):
 
 def some_line(choose):
     atoms = SAFE if choose.random() < 0.6 else ATOMS
-    relations = ["=", "<>", "<", "<=", ">", ">=", "< =", "< >"] + (["==", "!=", "=>", "=<", ""] if choose.random() < 0.1 else [])
+    relations = ["=", "<>", "!=", "<", "<=", ">", ">=", "< =", "< >"] + (["==", "! =", "!==", "=>", "=<", ""] if choose.random() < 0.1 else [])
     joint = choose.choice([" and ", " or ", " AND "])
     parts = [f"{some_sum(choose, atoms)} {choose.choice(relations)} {some_sum(choose, atoms)}" for _ in range(choose.choice([0, 1, 1, 1, 2, 3]))]
     text = joint.join(parts)

@@ -17,7 +17,7 @@ use Rattle.chip_symbols.specs.Names.{Name, lookup_name, values_of}
 use Rattle.chip_asm.specs.Program.{symbols_of}
 use Rattle.chip_symbols.specs.declared.table.Symbol.{Symbol}
 use Rattle.chip_cover.specs.Marks.{marked_listing}
-use Rattle.chip_lang.specs.Line.{lexemes_of, upper}
+use Rattle.chip_lang.specs.Line.{upper}
 use Rattle.chip_machine.specs.Limits.{MEMORY_BYTES}
 use Rattle.chip_machine.specs.Numbers.{stop_number}
 use Rattle.chip_machine.specs.declared.stop.Stop.{Stop}
@@ -30,6 +30,7 @@ use Rattle.chip_explore.specs.declared.target.Met.TheVariants.{Cause, Address, P
 use Rattle.chip_explore.specs.declared.property.Property.{Property as Wanted}
 use Rattle.chip_properties.specs.Language.{IsProperty}
 use Rattle.chip_properties.specs.SeenProperty.{seen_property}
+use Rattle.chip_properties.specs.Tokens.{property_tokens}
 use Rattle.chip_properties.specs.declared.stated.Kind.{Kind}
 use Rattle.chip_properties.specs.declared.stated.Kind.TheVariants as kind
 use Rattle.chip_session.specs.Commands.{number_spelled}
@@ -124,7 +125,7 @@ AsksKeys arguments keys =
 abbrev pub StatesOne : Kind → (text : List ℕ) → (lines : List (List ℕ)) → List Wanted → Type 0
 StatesOne kind text lines properties =
     (property : Wanted) × (properties ≡ property ∷ [])
-    × IsProperty (values_of (symbols_of lines)) None kind (lexemes_of text) (seen_property property)
+    × IsProperty (values_of (symbols_of lines)) None kind (property_tokens text) (seen_property property)
 
 abbrev pub AsksOne : (never always : Option (List ℕ)) → (lines : List (List ℕ)) → List Wanted → Type 0
 AsksOne (Some text) always lines properties = StatesOne kind.Never text lines properties

@@ -261,7 +261,7 @@ static LINE_PAGES: [Page; 32] = [
     Page {
         code: "P2",
         title: "comparison expected",
-        meaning: "A property goes on in a way that it can't: a comparison, a value or a place is missing, a second relation follows a comparison, `and` stands beside `or`, or a token is bad. Equal is `=`, unequal `<>`.",
+        meaning: "A property goes on in a way that it can't: a comparison, a value or a place is missing, a second relation follows a comparison, `and` stands beside `or`, or a token is bad. Equal is `=`, unequal `<>` or `!=`.",
         example: Example::Source("STOP: JP STOP\n;! 0 < V0 < 5"),
         fix: "Write two comparisons, as in `;! 0 < V0 and V0 < 5`. A calculation with names and numbers stands in parentheses.",
     },

@@ -8,7 +8,6 @@ use Rattle.std.proofs.lemmas.Option.{none-some, same_Some, slice_get_within}
 use Rattle.std.proofs.lemmas.List.Folds.{list_any-append}
 use Rattle.std.proofs.lemmas.List.Elements.{All-nil, All-push}
 use Rattle.std.specs.declared.alloc.AllocError.{AllocError}
-use Rattle.chip_lang.specs.Line.{lexemes_of}
 use Rattle.chip_asm.specs.LineViews.{LineFacts, line_at, line_facts}
 use Rattle.chip_symbols.specs.Names.{values_of}
 use Rattle.chip_asm.specs.Program.{symbols_of}
@@ -20,6 +19,7 @@ use Rattle.chip_properties.specs.Language.{StateNothing}
 use Rattle.chip_properties.specs.Lines.{IsStatedOn, StandsAt, StandsOn, States, count_in, property_start}
 use Rattle.chip_properties.specs.Properties.{AreProperties, is_told}
 use Rattle.chip_properties.specs.SeenProperty.{seen_property}
+use Rattle.chip_properties.specs.Tokens.{property_tokens}
 use Rattle.chip_properties.specs.computed.Reading.{stated_in}
 use Rattle.chip_properties.specs.inner.Told.{IsAnswer, IsRead, nothing, a_property, a_fault}
 use Rattle.chip_properties.proofs.SoundProperties.{found, stated_sound}
@@ -35,12 +35,12 @@ Answer = Result (Result Stated PropertyFault) AllocError
 abbrev pub IsStatedBy : List (List ℕ) → (number start address : ℕ) → List ℕ → Stated → Type 0
 IsStatedBy lines number start address text s =
     (s.line ≡ number)
-    × (stated_in (values_of (symbols_of lines)) (Some address) None (lexemes_of (drop start text)) ≡ Some (found s.kind (seen_property s.property)))
+    × (stated_in (values_of (symbols_of lines)) (Some address) None (property_tokens (drop start text)) ≡ Some (found s.kind (seen_property s.property)))
 
 -- the tokens state nothing, or enough lines before them do
 abbrev pub IsUnread : List (List ℕ) → (number start address : ℕ) → List ℕ → Type 0
 IsUnread lines number start address text =
-    StateNothing (values_of (symbols_of lines)) (Some address) (lexemes_of (drop start text)) ⊎ (MOST_PROPERTIES ≤ count_in lines (number - 1))
+    StateNothing (values_of (symbols_of lines)) (Some address) (property_tokens (drop start text)) ⊎ (MOST_PROPERTIES ≤ count_in lines (number - 1))
 
 -- a fault at a line that is there
 faulty : (lines : List (List ℕ)) (number start : ℕ) (f : LineFacts) (fault : PropertyFault) → line_at lines number ≡ Some f → property_start f ≡ Some start
@@ -55,7 +55,7 @@ faulty lines number start f fault at begins k unread = record {
 
 abbrev pub FoundNothing : List (List ℕ) → (start address : ℕ) → List ℕ → Type 0
 FoundNothing lines start address text =
-    stated_in (values_of (symbols_of lines)) (Some address) None (lexemes_of (drop start text)) ≡ None
+    stated_in (values_of (symbols_of lines)) (Some address) None (property_tokens (drop start text)) ≡ None
 
 pub answered : (lines : List (List ℕ)) (number start : ℕ) (f : LineFacts) (r : Answer) → line_at lines number ≡ Some f → property_start f ≡ Some start
     → IfOk r (λ read. IfOk read (IsStatedBy lines number start f.address f.text)) → IfOk r (λ read. IfErr read (StandsAt number f.text))
@@ -66,11 +66,11 @@ answered lines number start f (Ok (Ok s)) at begins h k none = (
     start = start;
     facts = f;
     on = states_there lines number s.line start f at begins h.0;
-    states = stated_sound (values_of (symbols_of lines)) (Some f.address) (lexemes_of (drop start f.text)) s.kind (seen_property s.property) h.1;
+    states = stated_sound (values_of (symbols_of lines)) (Some f.address) (property_tokens (drop start f.text)) s.kind (seen_property s.property) h.1;
   },
 )
 answered lines number start f (Ok (Err fault)) at begins h k none =
-    let unread = nothing_stated (values_of (symbols_of lines)) (Some f.address) (lexemes_of (drop start f.text)) none in
+    let unread = nothing_stated (values_of (symbols_of lines)) (Some f.address) (property_tokens (drop start f.text)) none in
     (k.there, faulty lines number start f fault at begins k (inl unread))
 answered lines number start f (Err e) at begins h k none = tt
 

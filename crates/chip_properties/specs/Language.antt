@@ -11,6 +11,7 @@
 --                | PIXEL "(" expression "," expression ")"
 --     value      = number | name | "(" expression ")"
 --
+-- The tokens are those of Tokens, which reads `!=` as `<>`.
 -- A word of the language stands for itself, so a name that is spelled like one stands in parentheses.
 use Rattle.std.specs.Prelude.{◌≡◌, ◌≤◌, ◌<◌, ℕ, ◌+◌, ◌^◌, Bool, true, false, if◌then◌else◌, pos, List, [], ◌∷◌, ◌++◌, length, Option, Some, None, Ok, codes, fold}
 use Rattle.chip_lang.specs.declared.limits.TheConstants.{MEMORY_BYTES}

@@ -2,6 +2,7 @@
 -- Source: own.
 --     Words           the words of the language
 --     SeenProperty    properties without where their parts lie in memory
+--     Tokens          the tokens of a property
 --     Language        which tokens are a property, and what it states
 --     Nesting         parentheses and brackets in one another
 --     Lines           which lines state properties
@@ -16,6 +17,7 @@ pub mod Lines
 pub mod Nesting
 pub mod Properties
 pub mod SeenProperty
+pub mod Tokens
 pub mod Words
 pub mod computed
 pub mod inner

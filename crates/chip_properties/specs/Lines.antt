@@ -11,6 +11,7 @@ use Rattle.chip_properties.specs.declared.limits.TheConstants.{MOST_PROPERTIES}
 use Rattle.chip_properties.specs.declared.stated.Stated.{Stated}
 use Rattle.chip_properties.specs.Language.{IsStated, StateNothing}
 use Rattle.chip_properties.specs.SeenProperty.{seen_property}
+use Rattle.chip_properties.specs.Tokens.{property_tokens}
 use Rattle.chip_lang.specs.declared.lexeme.Lexeme.{Lexeme}
 use Rattle.chip_lang.specs.declared.lexeme.Lexeme.TheVariants.{Word}
 
@@ -64,7 +65,7 @@ pub record IsStatedOn (lines : List (List ℕ)) (s : Stated) : Type 0 where
   pub facts : LineFacts
   pub on : States lines s.line start facts
   pub states : IsStated (values_of (symbols_of lines)) (Some facts.address)
-      (lexemes_of (drop start facts.text)) s.kind (seen_property s.property)
+      (property_tokens (drop start facts.text)) s.kind (seen_property s.property)
 
 -- a fault stands at bytes of a line of a number
 pub record StandsAt (number : ℕ) (line : List ℕ) (fault : PropertyFault) : Type 0 where
@@ -84,4 +85,4 @@ pub record StandsOn (lines : List (List ℕ)) (fault : PropertyFault) : Type 0 w
   pub on : States lines fault.line start facts
   pub at : StandsAt fault.line facts.text fault
   pub unread : StateNothing (values_of (symbols_of lines)) (Some facts.address)
-      (lexemes_of (drop start facts.text)) ⊎ (MOST_PROPERTIES ≤ count_in lines (fault.line - 1))
+      (property_tokens (drop start facts.text)) ⊎ (MOST_PROPERTIES ≤ count_in lines (fault.line - 1))

@@ -6,12 +6,15 @@ ghost use Rattle.chip_properties.specs.Lines.{StandsAt};
 use crate::fault::{FaultCode, Found, PropertyFault};
 use crate::limits::{MOST_COMPARISONS, MOST_PROPERTIES, MOST_TERMS};
 use crate::near::{fewest_edits, most_edits};
+use crate::other_words::other_kind;
 use crate::reader::Reader;
-use crate::words::is_property_word;
+use crate::stated::Kind;
+use crate::tokens::respelled;
+use crate::words::{is_property_word, kind_of_word};
 use chip_asm::Source;
 use chip_lang::limits::OPEN_PARENTHESES;
 use chip_lang::{Fault, Lexeme, Span, Token, is_sign_of, is_the, lexemes, tokens};
-use std::alloc::AllocError;
+use std::alloc::{AllocError, Global};
 
 /// A fault that was found in the property of a line, which begins at a place of its text.
 pub(crate) fn fault_found(
@@ -25,12 +28,12 @@ pub(crate) fn fault_found(
     ensures { IfOk result (λ fault. StandsAt number line.now fault) }
 {
     let alloc = reader.alloc;
-    let text = &line[start..];
-    let parts = lexemes(alloc, text)?;
+    let text = respelled(alloc, &line[start..])?;
+    let parts = lexemes(alloc, &text)?;
     let found = narrowed(reader.source, &parts, found);
-    let span = span_of(&tokens(alloc, text)?, line, start, found);
+    let span = span_of(&tokens(alloc, &text)?, line, start, found);
     let help = if line[span.start..span.end].starts_with(b"!") {
-        Vec::from_slice(alloc, b"write <> for unequal")?
+        Vec::from_slice(alloc, b"write never for not, and <> or != for unequal")?
     } else {
         help_for(reader, &parts, found)?
     };
@@ -72,6 +75,7 @@ fn narrowed(source: &Source, tokens: &[Lexeme], found: Found) -> Found {
     match found.code {
         FaultCode::NoComparison => match first_bad(tokens) {
             Some(bad) => bad,
+            None if kind_meant(source, tokens).is_some() => Found::at(found.code, 0),
             None => misplaced(tokens, found),
         },
         FaultCode::UndefinedName => undefined(source, tokens, found),
@@ -92,6 +96,23 @@ fn first_bad(tokens: &[Lexeme]) -> Option<Found> {
         }
     }
     None
+}
+
+/// The first word of a property that no name of the source is, and the word for the kind that was
+/// meant by it.
+fn kind_meant<'a>(source: &Source, tokens: &'a [Lexeme]) -> Option<(&'a [u8], &'static str)> {
+    let (Lexeme::Word(word), rest) = tokens.split_first()? else {
+        return None;
+    };
+    let word = word.get();
+    let is_value = match rest.first() {
+        Some(Lexeme::Sign(sign)) => !matches!(sign, b'(' | b'[' | b':' | b','),
+        _ => false,
+    };
+    if is_value || is_property_word(word) || source.symbol(word).is_some() {
+        return None;
+    }
+    Some((word, other_kind(word)?))
 }
 
 /// A fault at the first of some tokens that can't be asked, or else at the one after a value, which
@@ -153,13 +174,15 @@ fn why_not(token: &Lexeme) -> &'static [u8] {
 /// What helps with a fault, or nothing.
 fn help_for(reader: &Reader<'_>, tokens: &[Lexeme], found: Found) -> Result<Vec<u8>, AllocError> {
     let alloc = reader.alloc;
-    let token = tokens.get(found.first);
-    let help: &[u8] = match (found.code, token) {
+    let (before, rest) = tokens.split_at(found.first.min(tokens.len()));
+    let help: &[u8] = match (found.code, rest.first()) {
         (FaultCode::NothingStated, _) =>
             b"write a condition, as V0 <= 8, or a place, as never at BUG",
-        (FaultCode::NoComparison, Some(token)) => {
-            help_at(token, &tokens[..found.first.min(tokens.len())])
+        (FaultCode::NoComparison, Some(_))
+            if before.is_empty() && let Some((word, kind)) = kind_meant(reader.source, tokens) => {
+            return kind_help(alloc, word, kind);
         }
+        (FaultCode::NoComparison, Some(token)) => help_at(token, before, rest),
         (FaultCode::UndefinedName, Some(Lexeme::Word(word))) => {
             return near_help(reader, word.get());
         }
@@ -179,11 +202,24 @@ fn help_for(reader: &Reader<'_>, tokens: &[Lexeme], found: Found) -> Result<Vec<
     Vec::from_slice(alloc, help)
 }
 
-/// What helps where a token can't stand after those before it, or nothing.
-fn help_at(token: &Lexeme, before: &[Lexeme]) -> &'static [u8] {
+/// How the word for a kind that was meant by another word is written.
+fn kind_help(alloc: Global, word: &[u8], kind: &str) -> Result<Vec<u8>, AllocError> {
+    let written = format!(in alloc; " is written {kind} here, as in ;! {kind} V0 < 3")?;
+    [word, written.as_bytes()].concat(alloc)
+}
+
+/// What helps where a token can't stand after those before it, or nothing: `rest` begins with it.
+fn help_at(token: &Lexeme, before: &[Lexeme], rest: &[Lexeme]) -> &'static [u8] {
     let last = before.last();
     let follows = |sign: u8| last.is_some_and(|last| is_sign_of(sign, last));
     match token {
+        Lexeme::Sign(b'&') if stands_between(b'&', before, rest) => {
+            b"write and between two comparisons"
+        }
+        Lexeme::Sign(b'|') if stands_between(b'|', before, rest) => {
+            b"write or between two comparisons"
+        }
+        Lexeme::Sign(b':') => b"write no colon, as in ;! always V0 < 3",
         Lexeme::Sign(b'=') if follows(b'=') => b"write = for equal",
         Lexeme::Sign(b'<') if follows(b'=') => b"write <=",
         Lexeme::Sign(b'>') if follows(b'=') => b"write >=",
@@ -202,6 +238,13 @@ fn help_at(token: &Lexeme, before: &[Lexeme]) -> &'static [u8] {
     }
 }
 
+/// Whether a sign, with which the rest begins, was meant to stand between two comparisons: it stands
+/// twice, or there is a relation on each side.
+fn stands_between(sign: u8, before: &[Lexeme], rest: &[Lexeme]) -> bool {
+    let is_double = rest.get(1).is_some_and(|next| is_sign_of(sign, next));
+    is_double || has_relation(before) && has_relation(rest)
+}
+
 /// Whether a relation is among tokens.
 fn has_relation(tokens: &[Lexeme]) -> bool {
     tokens
@@ -218,10 +261,32 @@ fn help_at_word(word: &[u8], before: &[Lexeme]) -> &'static [u8] {
         b"write here without at"
     } else if word == b"HERE".as_slice() || word == b"AT".as_slice() {
         b"write a comparison before the place, and an address after at"
+    } else if let Some(kind) = kind_of_word(word)
+        && !ends_with_sign(before)
+    {
+        help_at_kind(kind)
     } else if is_property_word(word) {
         b"put a name that is spelled so into parentheses"
     } else {
         b""
+    }
+}
+
+/// Whether some tokens end with a sign after which a value stands.
+fn ends_with_sign(tokens: &[Lexeme]) -> bool {
+    matches!(
+        tokens.last(),
+        Some(Lexeme::Sign(b'=' | b'<' | b'>' | b'+' | b'*' | b'(' | b'['))
+    )
+}
+
+/// What helps where the word for a kind stands after something else.
+fn help_at_kind(kind: Kind) -> &'static [u8] {
+    match kind {
+        Kind::Always => b"always stands first, as in ;! always V0 < 3",
+        Kind::Never => b"never stands first, as in ;! never V0 = 3",
+        Kind::Ever => b"ever stands first, as in ;! ever V0 = 3",
+        Kind::Can => b"can stands first, as in ;! can V0 = 3",
     }
 }
 

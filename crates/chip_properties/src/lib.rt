@@ -6,6 +6,7 @@ mod fault;
 pub mod limits;
 mod line;
 pub mod near;
+mod other_words;
 mod part;
 mod properties;
 mod reader;
@@ -13,6 +14,7 @@ mod relation;
 mod separator;
 mod stated;
 mod sums;
+mod tokens;
 mod words;
 
 pub use fault::{FaultCode, PropertyFault};

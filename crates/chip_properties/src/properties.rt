@@ -1,7 +1,6 @@
 //! The properties of a source.
 
 ghost use Rattle.std.specs.Prelude.{◌≡◌, ◌≤◌, ◌+◌, ◌-◌, IfErr, IfOk, IfSome, None, OnOk, Some, drop, false, length, nat_lt};
-ghost use Rattle.chip_lang.specs.Line.{lexemes_of};
 ghost use Rattle.chip_asm.specs.LineViews.{line_at};
 ghost use Rattle.chip_symbols.specs.Names.{values_of};
 ghost use Rattle.chip_asm.specs.Program.{symbols_of};
@@ -10,6 +9,7 @@ ghost use Rattle.chip_properties.specs.declared.limits.TheConstants.{MOST_PROPER
 ghost use Rattle.chip_properties.specs.Lines.{StandsAt, count_in, property_start};
 ghost use Rattle.chip_properties.specs.Properties.{AreProperties};
 ghost use Rattle.chip_properties.specs.SeenProperty.{SeenProperty, seen_property};
+ghost use Rattle.chip_properties.specs.Tokens.{property_tokens};
 ghost use Rattle.chip_properties.specs.computed.Reading.{stated_in};
 ghost use Rattle.chip_properties.specs.inner.Reads.{symbols_read};
 ghost use Rattle.chip_properties.specs.inner.Told.{IsAnswer, IsRead};
@@ -20,9 +20,9 @@ use crate::limits::MOST_PROPERTIES;
 use crate::line::mark_end;
 use crate::reader::Reader;
 use crate::stated::{Kind, Stated};
+use crate::tokens::property_tokens;
 use chip_asm::{LineView, Source};
 use chip_explore::Property;
-use chip_lang::lexemes;
 use std::alloc::{AllocError, Global};
 
 /// What a source states, and what of it can't be read, each in the order of the lines.
@@ -143,10 +143,10 @@ pub fn property_of_text(
     ensures line { IfOk result (λ read. IfOk read (λ s. s.line ≡ 0)) }
     ensures kind { IfOk result (λ read. IfOk read (λ s. s.kind ≡ kind)) }
     ensures stated { IfOk result (λ read. IfOk read (λ s.
-        IsProperty (values_of (symbols_of source.now.lines)) None kind (lexemes_of text.now)
+        IsProperty (values_of (symbols_of source.now.lines)) None kind (property_tokens text.now)
         (seen_property s.property))) }
     ensures refused { IfOk result (λ read. IfErr read (λ _. (p : SeenProperty)
-        → IsProperty (values_of (symbols_of source.now.lines)) None kind (lexemes_of text.now) p
+        → IsProperty (values_of (symbols_of source.now.lines)) None kind (property_tokens text.now) p
         → ⊥)) }
     ensures stands { IfOk result
         (λ read. IfErr read (λ fault. StandsAt 0 text.now fault)) }
@@ -172,14 +172,14 @@ impl<'a> Reader<'a> {
         requires { start ≤ length line.now }
         ensures stated { IfOk result (λ read. IfOk read (λ s. (s.line ≡ number)
             × (stated_in (symbols_read self.now) self.now.here kind
-            (lexemes_of (drop start line.now)) ≡ Some (s.kind, seen_property s.property)))) }
+            (property_tokens (drop start line.now)) ≡ Some (s.kind, seen_property s.property)))) }
         ensures refused { IfOk result (λ read. IfErr read (λ _.
             stated_in (symbols_read self.now) self.now.here kind
-            (lexemes_of (drop start line.now)) ≡ None)) }
+            (property_tokens (drop start line.now)) ≡ None)) }
         ensures stands { IfOk result
             (λ read. IfErr read (λ fault. StandsAt number line.now fault)) }
     {
-        let tokens = lexemes(self.alloc, &line[start..])?;
+        let tokens = property_tokens(self.alloc, &line[start..])?;
         match self.stated(kind, &tokens) {
             Ok((kind, property)) => Ok(Ok(Stated {
                 line: number,
