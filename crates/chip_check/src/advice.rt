@@ -1,12 +1,18 @@
 //! What may help with a fault.
 
-use crate::forms::{is_reserved, near_heading, push_forms, stands_alone};
+use crate::forms::{near_heading, push_forms, stands_alone};
 use crate::hint::{Hint, push_formatted, push_help, push_note, push_sentence};
 use crate::known::Known;
-use crate::operand_advice::{REGISTERS, is_like_register, out_of_range, wrong_operands};
+use crate::missing::missing_word;
+use crate::mistakes::push_mistake;
+use crate::operand_advice::{REGISTERS, out_of_range, wrong_operands};
 use crate::other_assemblers::{Radix, other_number, other_word};
 use crate::place::tokens_after;
-use crate::words::{Word, has_twice, is_one_of, is_register, is_special, words_of};
+use crate::reserved::push_meaning;
+use crate::spelling::wrong_byte;
+use crate::words::{
+    Word, has_twice, is_like_register, is_one_of, is_register, is_special, statement_of, words_of,
+};
 use chip_asm::{LineView, OpenError, Source};
 use chip_lang::limits::{IMAGE_BYTES, IMAGE_START, NAME_BYTES};
 use chip_lang::{Fault, Kind, Line, Token};
@@ -48,6 +54,9 @@ pub(crate) fn advice_on(
         rest,
     };
     let mut hints = Vec::new(alloc);
+    if let Some(note) = known.note_on(line.number()) {
+        push_note(alloc, &mut hints, &[note.as_bytes()])?;
+    }
     push_fault_advice(alloc, &mut hints, known, fault, faulty)?;
     Ok(hints)
 }
@@ -116,6 +125,9 @@ fn bad_character(
     if sentence.is_some() {
         return push_sentence(alloc, hints, sentence);
     }
+    if let Some(byte) = wrong_byte(faulty.line.text()) {
+        return push_wrong_byte(alloc, hints, byte);
+    }
     match other_number(faulty.rest) {
         Some((radix, digits)) => push_other_number(alloc, hints, radix, digits),
         None => push_sentence(
@@ -152,12 +164,25 @@ fn sentence_for_character(text: &[u8], rest: &[Word<'_>]) -> Option<&'static str
             Some("no full stop stands before a directive or a label")
         }
         ([b'.', ..], _) => Some("a number is whole"),
+        ([b'0'..=b'9', ..], _) => {
+            Some("a name begins with a letter or `_`, and a number has digits alone")
+        }
         ([b'{' | b'}', ..], _) => Some("there are no blocks in braces; a label and JP make a loop"),
         ([128..=255, ..], _) => {
             Some("outside texts and comments a source has ASCII characters alone")
         }
         _ => None,
     }
+}
+
+/// Help with a byte in the name that a line defines.
+fn push_wrong_byte(alloc: Global, hints: &mut Vec<Hint>, byte: u8) -> Result<(), AllocError> {
+    let parts: &[&[u8]] = &[
+        b"a name has letters, digits and `_`, and no `",
+        &[byte],
+        b"`",
+    ];
+    push_help(alloc, hints, parts)
 }
 
 /// Help with a number that another assembler would write with these digits.
@@ -181,6 +206,12 @@ fn unknown_word(
     let Some(Word { text: word, .. }) = faulty.rest.first() else {
         return Ok(());
     };
+    if let Some(byte) = wrong_byte(faulty.line.text()) {
+        return push_wrong_byte(alloc, hints, byte);
+    }
+    if push_mistake(alloc, hints, faulty.rest)? {
+        return Ok(());
+    }
     if is_register(word) || is_special(word) {
         return push_help(
             alloc,
@@ -190,15 +221,32 @@ fn unknown_word(
     }
     let (written, behind) = faulty.text.split_at(word.len().min(faulty.text.len()));
     let is_label = reads_as_label(alloc, faulty.words, written, behind)?;
-    push_meant(alloc, hints, word, is_label)?;
-    if is_label {
-        push_help(
+    let before = hints.len();
+    match missing_word(word) {
+        Some(_) if is_label && faulty.words.len() > 1 => {}
+        Some(sentence) => push_help(alloc, hints, &[sentence.as_bytes()])?,
+        None => push_meant(alloc, hints, word, is_label)?,
+    }
+    match faulty.rest {
+        _ if is_label => push_help(
             alloc,
             hints,
             &[b"a label ends with a colon: ", written, b":"],
-        )
-    } else {
-        Ok(())
+        ),
+        [first, second, colon, ..] if hints.len() == before && colon.text == b":".as_slice() => {
+            push_help(
+                alloc,
+                hints,
+                &[
+                    b"a name has no blank: ",
+                    first.text,
+                    b"_",
+                    second.text,
+                    b":",
+                ],
+            )
+        }
+        _ => Ok(()),
     }
 }
 
@@ -251,22 +299,23 @@ fn reads_as_label(
 
 /// Help with a word that can't be a name; `rest` are the words from it on.
 fn bad_name(alloc: Global, hints: &mut Vec<Hint>, rest: &[Word<'_>]) -> Result<(), AllocError> {
+    if push_mistake(alloc, hints, rest)? {
+        return Ok(());
+    }
     match rest {
-        [word, more @ ..] if is_register(word.text) && is_assignment(more) => push_help(
-            alloc,
-            hints,
-            &[
-                word.text,
-                b" is a register; LD gives it a value, as in LD ",
-                word.text,
-                b", 5",
-            ],
-        ),
-        [word, ..] if is_reserved(word.text) => push_help(
-            alloc,
-            hints,
-            &[word.text, b" has a meaning of its own; choose another name"],
-        ),
+        [word, more @ ..]
+            if (is_register(word.text) || word.text == b"I".as_slice()) && is_assignment(more) =>
+            push_help(
+                alloc,
+                hints,
+                &[
+                    word.text,
+                    b" is a register; LD gives it a value, as in LD ",
+                    word.text,
+                    b", 5",
+                ],
+            ),
+        [word, ..] if push_meaning(alloc, hints, word.text)? => Ok(()),
         _ => push_formatted(
             alloc,
             hints,
@@ -326,7 +375,7 @@ fn undefined_name(
             line,
             ", which has a fault of its own",
         ),
-        _ => unknown_name(alloc, hints, known, name, faulty.rest),
+        _ => unknown_name(alloc, hints, known, name, faulty.words, faulty.rest),
     }
 }
 
@@ -343,12 +392,14 @@ fn push_line_note(
     push_note(alloc, hints, &[name, line.as_bytes()])
 }
 
-/// Help with a name that stands on no other line; `rest` are the words from it on.
+/// Help with a name that stands on no other line: `words` are those of its line, `rest` those from it
+/// on.
 fn unknown_name(
     alloc: Global,
     hints: &mut Vec<Hint>,
     known: &Known,
     name: &[u8],
+    words: &[Word<'_>],
     rest: &[Word<'_>],
 ) -> Result<(), AllocError> {
     if let Some(near) = known.near_name(name) {
@@ -357,6 +408,8 @@ fn unknown_name(
         push_help(alloc, hints, &[REGISTERS])
     } else if let Some((radix, digits)) = other_number(rest) {
         push_other_number(alloc, hints, radix, digits)
+    } else if push_mistake(alloc, hints, statement_of(words))? {
+        Ok(())
     } else {
         push_help(
             alloc,

@@ -5,6 +5,7 @@ ghost use Rattle.chip_symbols.specs.Names.{lookup_name, values_of};
 ghost use Rattle.chip_asm.specs.Program.{symbols_of};
 ghost use Rattle.chip_check.specs.inner.Known.{Agree, listed};
 
+use crate::foreign::Tally;
 use crate::words::words_of;
 use chip_asm::{LineView, NameHasher, Source, Symbol};
 use chip_lang::{Bytes, Kind, Names};
@@ -29,6 +30,8 @@ pub(crate) struct Known {
     symbols: Symbols,
     /// Those that begin a line with a fault, in line order.
     lost: Vec<Lost>,
+    /// How many lines with a fault look as others write them.
+    tally: Tally,
 }
 
 /// The most pairs of a line with a fault and a name, above which no name is compared with others,
@@ -55,8 +58,13 @@ impl Known {
     {
         let listed = source.symbols(alloc)?;
         let symbols = by_name(alloc, &listed)?;
-        let lost = lost_names(alloc, source)?;
-        Ok(Known { symbols, lost })
+        let mut tally = Tally::new();
+        let lost = lost_names(alloc, source, &mut tally)?;
+        Ok(Known {
+            symbols,
+            lost,
+            tally,
+        })
     }
 
     /// The value of a name, given in upper case, and its line.
@@ -85,6 +93,11 @@ impl Known {
             }
         }
         None
+    }
+
+    /// What is said of the whole source below the fault of a line.
+    pub(crate) fn note_on(&self, number: usize) -> Option<&'static str> {
+        self.tally.note_on(number)
     }
 
     /// The name that a word comes nearest to, if one is near.
@@ -137,8 +150,8 @@ fn add_last(
     }
 }
 
-/// The names that begin the lines with a fault, in line order.
-fn lost_names(alloc: Global, source: &Source) -> Result<Vec<Lost>, AllocError> {
+/// The names that begin the lines with a fault, in line order. Each of these lines is counted.
+fn lost_names(alloc: Global, source: &Source, tally: &mut Tally) -> Result<Vec<Lost>, AllocError> {
     let mut lost = Vec::new(alloc);
     if source.image().is_some() {
         return Ok(lost);
@@ -147,20 +160,22 @@ fn lost_names(alloc: Global, source: &Source) -> Result<Vec<Lost>, AllocError> {
         if let Some(line) = source.line(place + 1)
             && line.fault().is_some()
         {
-            push_front_name(alloc, &mut lost, &line)?;
+            push_front_name(alloc, &mut lost, tally, &line)?;
         }
     }
     Ok(lost)
 }
 
-/// Adds the word that begins a line, or the one after DEFINE.
+/// Adds the word that begins a line, or the one after DEFINE, and counts the line.
 fn push_front_name(
     alloc: Global,
     lost: &mut Vec<Lost>,
+    tally: &mut Tally,
     line: &LineView<'_>,
 ) -> Result<(), AllocError> {
     let upper = line.text().to_ascii_uppercase(alloc)?;
     let words = words_of(alloc, &upper, &line.tokens(alloc)?)?;
+    tally.add(line.number(), &words);
     let name = match words.as_slice() {
         [first, name, ..] if first.text == b"DEFINE".as_slice() => name.text,
         [name, ..] if name.kind == Kind::Word => name.text,

@@ -1,10 +1,15 @@
 //! What may help with operands.
 
-use crate::forms::{is_reserved, push_forms};
+use crate::forms::{is_reserved, push_forms, stands_alone};
 use crate::hint::{Hint, push_formatted, push_help, push_sentence};
 use crate::known::Known;
+use crate::mistakes::push_mistake;
 use crate::place::out_operand;
-use crate::words::{Word, has_twice, is_comma, is_one_of, is_register, is_special, statement_of};
+use crate::reserved::push_meaning;
+use crate::words::{
+    Word, has_twice, is_atom, is_comma, is_like_register, is_one_of, is_register, is_special,
+    statement_of,
+};
 use chip_lang::{Body, Expr, Kind, Line, Operand, Pattern, eval};
 use std::alloc::{AllocError, Global};
 
@@ -17,10 +22,19 @@ pub(crate) fn wrong_operands(
     rest: &[Word<'_>],
 ) -> Result<(), AllocError> {
     let statement = statement_of(words);
+    if push_mistake(alloc, hints, words)? || push_mistake(alloc, hints, statement)? {
+        return Ok(());
+    }
     if rest.len() == statement.len() {
         return wrong_front(alloc, hints, rest);
     }
     let (heading, operands) = parts_of(statement);
+    if let [word] = rest
+        && takes_name(heading, word.text)
+        && push_meaning(alloc, hints, word.text)?
+    {
+        return Ok(());
+    }
     let sentence = sentence_for(heading, words, rest);
     push_sentence(alloc, hints, sentence)?;
     if operands.iter().any(|word| is_like_register(word.text)) {
@@ -30,6 +44,13 @@ pub(crate) fn wrong_operands(
     } else {
         forms_help(alloc, hints, heading, operands)
     }
+}
+
+/// Whether a word after an instruction or a directive was meant as a name, if it is a reserved one.
+fn takes_name(heading: &[u8], word: &[u8]) -> bool {
+    let is_part = is_register(word) || is_special(word);
+    is_one_of(heading, &["IFDEF", "IFUND"])
+        || !is_part && !stands_alone(heading) && !is_one_of(heading, &["ALIGN", "DA"])
 }
 
 /// The instruction or the directive of a statement, and the words after it.
@@ -191,21 +212,8 @@ fn sentence_for_parentheses(operand: &[Word<'_>]) -> Option<&'static str> {
     (open > 0).then_some("each `(` needs its `)`")
 }
 
-/// Whether a token is a word, a number or a text.
-fn is_atom(word: &Word<'_>) -> bool {
-    matches!(word.kind, Kind::Word | Kind::Number(_) | Kind::Text)
-}
-
 /// Help with a name that looks like a register.
 pub(crate) const REGISTERS: &[u8] = b"the registers are V0 to V9 and VA to VF";
-
-/// Whether a name looks like a register of another machine, or like one too many.
-pub(crate) fn is_like_register(name: &[u8]) -> bool {
-    matches!(
-        name,
-        [b'R', b'0'..=b'9'] | [b'R' | b'V', b'1', b'0'..=b'9'] | [b'V', b'G'..=b'Z']
-    )
-}
 
 /// The values that stand in an operand's place: from `low` to `high`.
 #[derive(Clone, Copy)]

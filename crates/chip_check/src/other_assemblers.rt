@@ -1,6 +1,7 @@
 //! What other assemblers write.
 
 use crate::words::{Word, is_one_of};
+use chip_lang::Kind;
 
 /// How a number is written.
 pub(crate) struct Radix {
@@ -65,6 +66,11 @@ pub(crate) fn other_number<'a>(words: &[Word<'a>]) -> Option<(&'static Radix, &'
     }
 }
 
+/// Whether a word is a number in one of the notations, and no token here.
+pub(crate) fn is_other_number(word: &Word<'_>) -> bool {
+    matches!(word.kind, Kind::Bad(_)) && other_digits(word.text).is_some()
+}
+
 /// The number of a word in one of the notations.
 fn other_digits(word: &[u8]) -> Option<(&'static Radix, &[u8])> {
     for (front, end, radix) in NOTATIONS {
@@ -100,6 +106,12 @@ const OTHER_WORDS: &[(&str, &[&str])] = &[
     ("DA", &["ASCII", "TEXT", "STRING", "DEFM"]),
     ("DS", &["RES", "RMB", "DEFS", "SPACE"]),
     ("SE, SNE or IFDEF", &["IF"]),
+    ("HIGH", &["HIRES"]),
+    ("LOW", &["LORES"]),
+    ("LD [I], Vx", &["SAVE"]),
+    ("LD R, Vx", &["SAVEFLAGS"]),
+    ("LD Vx, R", &["LOADFLAGS"]),
+    ("JP V0, addr", &["JUMP0"]),
     ("IFUND", &["IFNDEF"]),
     ("EXIT", &["HALT", "HLT", "STOP"]),
 ];

@@ -1,0 +1,277 @@
+//! What is written here in place of what other languages write on a whole line.
+
+use crate::forms::is_reserved;
+use crate::hint::{Hint, push_help};
+use crate::words::{Word, is_atom, is_like_register, is_register};
+use std::alloc::{AllocError, Global};
+
+/// Statements that have no meaning here, and what to write. In a statement `v` is a register, `n` a
+/// number or a name, `o` either of them, and a `*` at the end anything. In the help `{0}` is the first
+/// of these, `{1}` the second.
+const MISTAKES: &[(&str, &str)] = &[
+    // values that go through a register
+    ("LD v , KEY", "the key wait is written K: LD {0}, K"),
+    ("LD v , KEYS", "the key wait is written K: LD {0}, K"),
+    (
+        "LD DT , n",
+        "put the number into a register first: LD V0, {0}, then LD DT, V0",
+    ),
+    (
+        "LD ST , n",
+        "put the number into a register first: LD V0, {0}, then LD ST, V0",
+    ),
+    (
+        "LD F , n",
+        "put the number into a register first: LD V0, {0}, then LD F, V0",
+    ),
+    (
+        "LD HF , n",
+        "put the number into a register first: LD V0, {0}, then LD HF, V0",
+    ),
+    (
+        "LD B , n",
+        "put the number into a register first: LD V0, {0}, then LD B, V0",
+    ),
+    (
+        "SKP KEY",
+        "put the key's number into a register first: LD V0, 5, then SKP V0",
+    ),
+    (
+        "SKP n",
+        "put the key's number into a register first: LD V0, {0}, then SKP V0",
+    ),
+    (
+        "SKNP KEY",
+        "put the key's number into a register first: LD V0, 5, then SKNP V0",
+    ),
+    (
+        "SKNP n",
+        "put the key's number into a register first: LD V0, {0}, then SKNP V0",
+    ),
+    (
+        "AND v , n",
+        "put the number into a register first: LD VE, {1}, then AND {0}, VE",
+    ),
+    (
+        "OR v , n",
+        "put the number into a register first: LD VE, {1}, then OR {0}, VE",
+    ),
+    (
+        "XOR v , n",
+        "put the number into a register first: LD VE, {1}, then XOR {0}, VE",
+    ),
+    // several registers, and the sprites of digits
+    ("LD v - v , [ I ]", "LD {1}, [I] loads V0 to {1}"),
+    ("LD [ I ] , v - v", "LD [I], {1} stores V0 to {1}"),
+    (
+        "LD I , HEX v",
+        "LD F, {0} points I to the sprite of the digit in {0}",
+    ),
+    (
+        "LD I , BIGHEX v",
+        "LD HF, {0} points I to the large sprite of the digit in {0}",
+    ),
+    (
+        "LD I , FONT *",
+        "LD F, Vx points I to the sprite of the digit in Vx",
+    ),
+    ("SAVE v", "SAVE is written LD here: LD [I], {0}"),
+    ("LOAD v", "LOAD is written LD here: LD {0}, [I]"),
+    // assignments
+    (
+        "v : = KEY",
+        "{0} is a register; LD gives it a value, as in LD {0}, K",
+    ),
+    (
+        "v : = DELAY",
+        "{0} is a register; LD gives it a value, as in LD {0}, DT",
+    ),
+    (
+        "v : = RANDOM n",
+        "{0} is a register; RND gives it a random value, as in RND {0}, {1}",
+    ),
+    (
+        "v : = o",
+        "{0} is a register; LD gives it a value, as in LD {0}, {1}",
+    ),
+    (
+        "v = o",
+        "{0} is a register; LD gives it a value, as in LD {0}, {1}",
+    ),
+    (
+        "v EQU o",
+        "{0} is a register; LD gives it a value, as in LD {0}, {1}",
+    ),
+    (
+        "v = - v",
+        "SUBN subtracts the other way round, as in SUBN {0}, {1}",
+    ),
+    (
+        "I : = HEX v",
+        "LD F, {0} points I to the sprite of the digit in {0}",
+    ),
+    (
+        "I : = BIGHEX v",
+        "LD HF, {0} points I to the large sprite of the digit in {0}",
+    ),
+    (
+        "I : = n",
+        "I is a register; LD gives it a value, as in LD I, {0}",
+    ),
+    (
+        "I = n",
+        "I is a register; LD gives it a value, as in LD I, {0}",
+    ),
+    (
+        "DT : = v",
+        "DT is a register; LD gives it a value, as in LD DT, {0}",
+    ),
+    (
+        "DT = v",
+        "DT is a register; LD gives it a value, as in LD DT, {0}",
+    ),
+    (
+        "ST : = v",
+        "ST is a register; LD gives it a value, as in LD ST, {0}",
+    ),
+    (
+        "ST = v",
+        "ST is a register; LD gives it a value, as in LD ST, {0}",
+    ),
+    ("DELAY : = v", "the delay timer is DT: LD DT, {0}"),
+    ("BUZZER : = v", "the sound timer is ST: LD ST, {0}"),
+    (
+        "n : = v",
+        "a name has no register as its value; write {1} itself",
+    ),
+    (
+        "n = v",
+        "a name has no register as its value; write {1} itself",
+    ),
+    (
+        "n EQU v",
+        "a name has no register as its value; write {1} itself",
+    ),
+    ("v + = o", "an instruction stands first, as in ADD {0}, {1}"),
+    ("v + +", "an instruction stands first, as in ADD {0}, 1"),
+    ("v - = v", "an instruction stands first, as in SUB {0}, {1}"),
+    (
+        "v - = n",
+        "an instruction stands first, as in ADD {0}, -{1}",
+    ),
+    ("v - -", "an instruction stands first, as in ADD {0}, -1"),
+    ("v | = v", "an instruction stands first, as in OR {0}, {1}"),
+    ("v & = v", "an instruction stands first, as in AND {0}, {1}"),
+    ("v ^ = v", "an instruction stands first, as in XOR {0}, {1}"),
+    (
+        "v > > = v",
+        "an instruction stands first, as in SHR {0}, {1}",
+    ),
+    (
+        "v < < = v",
+        "an instruction stands first, as in SHL {0}, {1}",
+    ),
+    ("I + = v", "an instruction stands first, as in ADD I, {0}"),
+    // colons
+    (
+        ": ALIAS *",
+        "a register has no other name; write the register itself",
+    ),
+    (": CONST n n", "EQU gives a name a value, as in {0} EQU {1}"),
+    (": CALC n *", "EQU gives a name a value, as in {0} EQU 5"),
+    (": BYTE *", "BYTE is written DB here"),
+    (
+        ": MACRO *",
+        "there are no macros; CALL runs a subroutine, which ends with RET",
+    ),
+    (": ORG *", "no colon stands before ORG"),
+    (
+        ": n *",
+        "a colon stands after a label and not before it: {0}:",
+    ),
+];
+
+/// Adds what to write in place of a line of these words, if it is a mistake that is known, and says
+/// whether it is one.
+pub(crate) fn push_mistake(
+    alloc: Global,
+    hints: &mut Vec<Hint>,
+    words: &[Word<'_>],
+) -> Result<bool, AllocError> {
+    for (statement, help) in MISTAKES {
+        if is_written(*statement, words) {
+            let sentence = filled(alloc, *help, *statement, words)?;
+            push_help(alloc, hints, &[sentence.as_slice()])?;
+            return Ok(true);
+        }
+    }
+    Ok(false)
+}
+
+/// Whether some words are a statement.
+fn is_written(statement: &str, words: &[Word<'_>]) -> bool {
+    let mut place = 0usize;
+    for wanted in statement.split(' ') {
+        if wanted == "*" {
+            return true;
+        }
+        match words.get(place) {
+            Some(word) if is_wanted(wanted.as_bytes(), word) => place = place.saturating_add(1),
+            _ => return false,
+        }
+    }
+    place == words.len()
+}
+
+/// Whether a word is what a statement has in its place.
+fn is_wanted(wanted: &[u8], word: &Word<'_>) -> bool {
+    match wanted {
+        b"v" => is_register(word.text),
+        b"n" => is_value(word),
+        b"o" => is_register(word.text) || is_value(word),
+        _ => wanted == word.text,
+    }
+}
+
+/// Whether a word is a number, a text or what may be a name.
+fn is_value(word: &Word<'_>) -> bool {
+    is_atom(word) && !is_reserved(word.text) && !is_like_register(word.text)
+}
+
+/// A help with the words of a statement in the places of `{0}` and `{1}`.
+fn filled(
+    alloc: Global,
+    help: &str,
+    statement: &str,
+    words: &[Word<'_>],
+) -> Result<Vec<u8>, AllocError> {
+    let mut sentence = Vec::new(alloc);
+    for part in help.split('{') {
+        match part.as_bytes() {
+            [b'0', b'}', rest @ ..] => {
+                sentence.extend_from_slice(written_at(0, statement, words))?;
+                sentence.extend_from_slice(rest)?;
+            }
+            [b'1', b'}', rest @ ..] => {
+                sentence.extend_from_slice(written_at(1, statement, words))?;
+                sentence.extend_from_slice(rest)?;
+            }
+            whole => sentence.extend_from_slice(whole)?,
+        }
+    }
+    Ok(sentence)
+}
+
+/// The word in the place of a statement's `v`, `n` or `o`, of which so many stand before it.
+fn written_at<'a>(before: usize, statement: &str, words: &[Word<'a>]) -> &'a [u8] {
+    let mut left = before;
+    for (wanted, word) in statement.split(' ').zip(words) {
+        if matches!(wanted, "v" | "n" | "o") {
+            if left == 0 {
+                return word.text;
+            }
+            left -= 1;
+        }
+    }
+    b""
+}
