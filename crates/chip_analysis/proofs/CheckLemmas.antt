@@ -41,46 +41,46 @@ one_after_another Faulty second (Err why) = refl
 one_after_another Short second (Ok later) = refl
 one_after_another Short second (Err why) = refl
 
-module _ (is_json is_painted is_alone : Bool) (name bytes : List ℕ) where
+module _ (is_json is_painted : Bool) (name bytes : List ℕ) where
   -- what is found in a source that opens
   pub found_opened : (lines : List (List ℕ)) (wanted : Printed) → open_fault bytes ≡ None → lines ≡ lines_of bytes →
-      IsCheckText is_json is_painted name lines wanted.text × (wanted.ending ≡ ending_with (image_of lines)) → IsPrintedCheckOf is_json is_painted is_alone name (open_fault bytes) (lines_of bytes) wanted
+      IsCheckText is_json is_painted name lines wanted.text × (wanted.ending ≡ ending_with (image_of lines)) → IsPrintedCheckOf is_json is_painted name (open_fault bytes) (lines_of bytes) wanted
   found_opened lines wanted opens are is = rw (opens, sym are) is
 
   -- or why it doesn't
   pub found_unopened : {E : Type 0} (error : OpenError) (answer : Result Answer E) → (error ≡ unopened.OutOfMemory) ⊎ (open_fault bytes ≡ Some error) →
-      IfOk answer (λ given. printed_by given ≡ printed (unopened_check is_json is_alone name error) Faulty) → (error ≡ unopened.OutOfMemory → IsErr answer) →
-      IfOk answer (λ given. IsPrintedCheckOf is_json is_painted is_alone name (open_fault bytes) (lines_of bytes) (printed_by given))
+      IfOk answer (λ given. printed_by given ≡ printed (unopened_check is_json is_painted name error) Faulty) → (error ≡ unopened.OutOfMemory → IsErr answer) →
+      IfOk answer (λ given. IsPrintedCheckOf is_json is_painted name (open_fault bytes) (lines_of bytes) (printed_by given))
   found_unopened error (Ok given) (inl memory) told short = absurd (false_is_true (short memory))
   found_unopened error (Ok given) (inr fault) told short = rw fault told
   found_unopened error (Err e) why told short = tt
 
-module _ {R W : Type 0} (remaining : R → Option (List ℕ)) (contents : W → Option (List ℕ)) (is_json is_painted is_alone : Bool) where
+module _ {R W : Type 0} (remaining : R → Option (List ℕ)) (contents : W → Option (List ℕ)) (is_json is_painted : Bool) where
   abbrev Each : List (Bor (List ℕ)) → Tally R → Tally R → Tally W → Tally W → Outcome → Type 0
-  Each = ChecksEach remaining contents is_json is_painted is_alone
+  Each = ChecksEach remaining contents is_json is_painted
 
   abbrev One : Bor (List ℕ) → Tally R → Tally R → Tally W → Tally W → Outcome → Type 0
-  One = ChecksOne remaining contents is_json is_painted is_alone
+  One = ChecksOne remaining contents is_json is_painted
 
   module _ (in_old in_new : Tally R) (out_old out_new : Tally W) (name : Bor (List ℕ)) (bytes text : List ℕ) (ended : Outcome) (same : text ≡ bytes)
       (gives : GivesSource remaining in_old in_new name.now bytes) where
-    of_text : PrintsSuch contents out_old out_new (IsPrintedCheckOf is_json is_painted is_alone name.now (open_fault text) (lines_of text)) ended →
+    of_text : PrintsSuch contents out_old out_new (IsPrintedCheckOf is_json is_painted name.now (open_fault text) (lines_of text)) ended →
         One name in_old in_new out_old out_new ended
     of_text such = inl (
       bytes,
       gives,
-      subst (λ (t : List ℕ). PrintsSuch contents out_old out_new (IsPrintedCheckOf is_json is_painted is_alone name.now (open_fault t) (lines_of t)) ended) same such,
+      subst (λ (t : List ℕ). PrintsSuch contents out_old out_new (IsPrintedCheckOf is_json is_painted name.now (open_fault t) (lines_of t)) ended) same such,
     )
 
     -- what is found in it is printed; what reading it came to gives its name
     pub one_found : {T E : Type 0} (read : Result T Failure) (shown : List ℕ) (answer : Result Answer E) → IfErr read (IsSourceUnread in_old in_new name) → shown ≡ name.now →
-        IfOk answer (λ given. IsPrintedCheckOf is_json is_painted is_alone shown (open_fault text) (lines_of text) (printed_by given)) →
+        IfOk answer (λ given. IsPrintedCheckOf is_json is_painted shown (open_fault text) (lines_of text) (printed_by given)) →
         ((wanted : Printed) → IfOk answer (λ given. printed_by given ≡ wanted) → Prints contents out_old out_new wanted ended) →
         IfErr answer (λ e. (ended ≡ Err failure.OutOfMemory) × (out_new ≡ out_old)) → One name in_old in_new out_old out_new ended
     one_found {T} {E} read shown answer unread called found prints short =
         of_text
-        (delivers_such contents out_old out_new answer (IsPrintedCheckOf is_json is_painted is_alone name.now (open_fault text) (lines_of text)) ended
-        (subst (λ (n : List ℕ). IfOk answer (λ given. IsPrintedCheckOf is_json is_painted is_alone n (open_fault text) (lines_of text) (printed_by given))) called found)
+        (delivers_such contents out_old out_new answer (IsPrintedCheckOf is_json is_painted name.now (open_fault text) (lines_of text)) ended
+        (subst (λ (n : List ℕ). IfOk answer (λ given. IsPrintedCheckOf is_json is_painted n (open_fault text) (lines_of text) (printed_by given))) called found)
         prints short)
 
   -- a source that can't be read
@@ -88,7 +88,7 @@ module _ {R W : Type 0} (remaining : R → Option (List ℕ)) (contents : W → 
       IsSourceUnread in_old in_new name why → One name in_old in_new output output ended
   one_unread in_old in_new output name ended why e w =
       source_unread remaining in_old in_new (output ≡ output) refl name
-      (λ bytes. PrintsSuch contents output output (IsPrintedCheckOf is_json is_painted is_alone name.now (open_fault bytes) (lines_of bytes))) ended why e w
+      (λ bytes. PrintsSuch contents output output (IsPrintedCheckOf is_json is_painted name.now (open_fault bytes) (lines_of bytes))) ended why e w
 
   module _ (names : List (Bor (List ℕ))) (in_old : Tally R) (out_old : Tally W) where
     -- what was done with all of them, by what is done with those that are left
@@ -134,7 +134,7 @@ module _ {R W : Type 0} (remaining : R → Option (List ℕ)) (contents : W → 
       (allowed : Option ℕ) × AsksSet warning_named 0 (option_copied arguments.allowed) allowed
       × IfSet remaining in_old in_new (out_new ≡ out_old) allowed (λ set.
       ChecksEach remaining contents arguments.is_json (paints arguments.color takes_color)
-      (length arguments.sources.items == 1) arguments.sources.items in_old in_new out_old out_new) ended
+      arguments.sources.items in_old in_new out_old out_new) ended
 
   -- there are no settings
   pub checks_unsettled : (why : Failure) → ended ≡ Err why → in_new ≡ in_old → out_new ≡ out_old → Unsettles (settings_asked arguments.settings) why →
@@ -153,8 +153,8 @@ module _ {R W : Type 0} (remaining : R → Option (List ℕ)) (contents : W → 
     checks_bad why e same quiet bad asks = with_allowed (None, asks, declines remaining in_old in_new (out_new ≡ out_old) quiet IsBadSet ended why e bad same)
 
     -- each source was checked
-    pub checks : (set : ℕ) (painted alone : Bool) (names : List (Bor (List ℕ))) → AsksSet warning_named 0 (option_copied arguments.allowed) (Some set) →
-        painted ≡ paints arguments.color takes_color → alone ≡ (length arguments.sources.items == 1) → names ≡ arguments.sources.items →
-        ChecksEach remaining contents arguments.is_json painted alone names in_old in_new out_old out_new ended →
+    pub checks : (set : ℕ) (painted : Bool) (names : List (Bor (List ℕ))) → AsksSet warning_named 0 (option_copied arguments.allowed) (Some set) →
+        painted ≡ paints arguments.color takes_color → names ≡ arguments.sources.items →
+        ChecksEach remaining contents arguments.is_json painted names in_old in_new out_old out_new ended →
         Checks remaining contents in_old in_new out_old out_new takes_color arguments ended
-    checks set painted alone names asks p a n did = with_allowed (Some set, asks, rw (sym p, sym a, sym n) did)
+    checks set painted names asks p n did = with_allowed (Some set, asks, rw (sym p, sym n) did)

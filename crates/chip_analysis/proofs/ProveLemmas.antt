@@ -35,14 +35,14 @@ module _ {W : Type 0} (contents : W → Option (List ℕ)) (out_old out_new : Ta
 
   -- the source doesn't open
   pub by_unopened : (error : OpenError) → (error ≡ unopened.OutOfMemory) ⊎ (open_fault bytes ≡ Some error) →
-      Prints contents out_old out_new (printed (unopened_check arguments.is_json true arguments.search.source.now error) Faulty) ended →
+      Prints contents out_old out_new (printed (unopened_check arguments.is_json false arguments.search.source.now error) Faulty) ended →
       (error ≡ unopened.OutOfMemory → (ended ≡ Err failure.OutOfMemory) × (out_new ≡ out_old)) → By (image_in bytes)
   by_unopened error (inl memory) prints short = let s = short memory in by_short (image_in bytes) s.0 s.1
   by_unopened error (inr fault) prints short =
       let none : image_in bytes ≡ None = ap (λ (o : Option OpenError). if is_none o then image_of (lines_of bytes) else None) fault in
-      let is = subst (λ (o : Option OpenError). IsPrintedCheckOf arguments.is_json false true arguments.search.source.now o (lines_of bytes)
-      (printed (unopened_check arguments.is_json true arguments.search.source.now error) Faulty)) (sym fault) refl in
-      subst (λ (image : Option (List ℕ)). By image) (sym none) (inl (printed (unopened_check arguments.is_json true arguments.search.source.now error) Faulty, is, prints))
+      let is = subst (λ (o : Option OpenError). IsPrintedCheckOf arguments.is_json false arguments.search.source.now o (lines_of bytes)
+      (printed (unopened_check arguments.is_json false arguments.search.source.now error) Faulty)) (sym fault) refl in
+      subst (λ (image : Option (List ℕ)). By image) (sym none) (inl (printed (unopened_check arguments.is_json false arguments.search.source.now error) Faulty, is, prints))
 
   -- it opens, and has no image
   pub by_faults : (lines : List (List ℕ)) (text : List ℕ) → open_fault bytes ≡ None → lines ≡ lines_of bytes → None ≡ image_of lines →
@@ -52,7 +52,7 @@ module _ {W : Type 0} (contents : W → Option (List ℕ)) (out_old out_new : Ta
       let none_there : image_of (lines_of bytes) ≡ None = sym (subst (λ (l : List (List ℕ)). None ≡ image_of l) same none) in
       let is_there = subst (λ (l : List (List ℕ)). IsCheckText arguments.is_json false arguments.search.source.now l text) same is in
       let none : image_in bytes ≡ None = ap (λ (o : Option OpenError). if is_none o then image_of (lines_of bytes) else None) opens ∙ none_there in
-      let shown = subst (λ (o : Option OpenError). IsPrintedCheckOf arguments.is_json false true arguments.search.source.now o (lines_of bytes) (printed text Faulty))
+      let shown = subst (λ (o : Option OpenError). IsPrintedCheckOf arguments.is_json false arguments.search.source.now o (lines_of bytes) (printed text Faulty))
       (sym opens) (is_there, sym (ap ending_with none_there)) in
       subst (λ (image : Option (List ℕ)). By image) (sym none) (inl (printed text Faulty, shown, prints))
 

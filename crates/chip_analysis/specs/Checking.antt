@@ -7,10 +7,11 @@ use Rattle.std.specs.Prelude.{◌≡◌, ℕ, Bool, true, false, List, ◌++◌,
 use Rattle.chip_asm.specs.Program.{image_of}
 use Rattle.chip_asm.specs.declared.refusal.OpenError.{OpenError}
 use Rattle.chip_check.specs.Check.{IsChecked}
-use Rattle.chip_check.specs.Json.{IsCheckJson, unopened_object}
+use Rattle.chip_check.specs.Json.{IsCheckJson}
+use Rattle.chip_check.specs.Unopened.{unopened_object, unopened_report}
 use Rattle.chip_host.specs.declared.ending.Ending.{Ending}
 use Rattle.chip_host.specs.declared.ending.Ending.TheVariants.{Done, Faulty}
-use Rattle.chip_host.specs.Printing.{Printed, printed, unopened_text, ending_with}
+use Rattle.chip_host.specs.Printing.{Printed, printed, ending_with}
 use Rattle.std.specs.Str.Lines.{lines}
 use Rattle.chip_arguments.specs.declared.command_line.SettingArguments.{SettingArguments}
 use Rattle.chip_arguments.specs.declared.command_line.ColorChoice.{ColorChoice}
@@ -23,20 +24,18 @@ abbrev pub IsCheckText : (is_json is_painted : Bool) → (name : List ℕ) (line
 IsCheckText false is_painted name lines text = IsChecked is_painted name lines text
 IsCheckText true is_painted name lines text = IsCheckJson name lines text
 
--- why a source doesn't open, as `check` prints it: where it is one of several, after its name; as JSON
--- an object
-abbrev pub unopened_check : (is_json is_alone : Bool) → (name : List ℕ) → OpenError → List ℕ
-unopened_check false true name fault = unopened_text fault
-unopened_check false false name fault = name ++ codes ": " ++ unopened_text fault
-unopened_check true is_alone name fault = unopened_object name fault
+-- why a source doesn't open, as `check` prints it: text, in colours or without, or a JSON object
+abbrev pub unopened_check : (is_json is_painted : Bool) → (name : List ℕ) → OpenError → List ℕ
+unopened_check false is_painted name fault = unopened_report is_painted name fault
+unopened_check true is_painted name fault = unopened_object name fault
 
 -- what `check` prints of a source: why it doesn't open, where it doesn't; else the reports of the
 -- faults, with lines of help among them, and then warnings
-abbrev pub IsPrintedCheckOf : (is_json is_painted is_alone : Bool) → (name : List ℕ)
+abbrev pub IsPrintedCheckOf : (is_json is_painted : Bool) → (name : List ℕ)
     → Option OpenError → (lines : List (List ℕ)) → Printed → Type 0
-IsPrintedCheckOf is_json is_painted is_alone name (Some fault) lines wanted =
-    wanted ≡ printed (unopened_check is_json is_alone name fault) Faulty
-IsPrintedCheckOf is_json is_painted is_alone name None lines wanted =
+IsPrintedCheckOf is_json is_painted name (Some fault) lines wanted =
+    wanted ≡ printed (unopened_check is_json is_painted name fault) Faulty
+IsPrintedCheckOf is_json is_painted name None lines wanted =
     IsCheckText is_json is_painted name lines wanted.text
     × (wanted.ending ≡ ending_with (image_of lines))
 

@@ -122,18 +122,18 @@ module _ {W : Type 0} (contents : W → Option (List ℕ)) (out_old out_new : Ta
       (start_of image settings.tape settings.quirks) properties ended)
       ⊎ Fails contents out_old out_new IsShort ended
   ProvesBy arguments settings keys None source ended =
-      PrintsSuch contents out_old out_new (IsPrintedCheckOf arguments.is_json false true
+      PrintsSuch contents out_old out_new (IsPrintedCheckOf arguments.is_json false
       arguments.search.source.now (open_fault source) (lines_of source)) ended
 
 -- `check`, source by source. No contract speaks of the warnings.
 module _ {R W : Type 0} (remaining : R → Option (List ℕ)) (contents : W → Option (List ℕ))
-    (is_json is_painted is_alone : Bool) where
+    (is_json is_painted : Bool) where
   -- what it did with one source
   abbrev pub ChecksOne : Bor (List ℕ) → (in_old in_new : Tally R) → (out_old out_new : Tally W)
       → Outcome → Type 0
   ChecksOne name in_old in_new out_old out_new ended =
       FromSource remaining in_old in_new (out_new ≡ out_old) name (λ bytes.
-      PrintsSuch contents out_old out_new (IsPrintedCheckOf is_json is_painted is_alone name.now
+      PrintsSuch contents out_old out_new (IsPrintedCheckOf is_json is_painted name.now
       (open_fault bytes) (lines_of bytes))) ended
 
   -- with each of these, one after another: what hinders one ends the check
@@ -160,7 +160,7 @@ module _ {R W : Type 0} (remaining : R → Option (List ℕ)) (contents : W → 
       × AsksSet warning_named 0 (option_copied arguments.allowed) allowed
       × IfSet remaining in_old in_new (out_new ≡ out_old) allowed (λ set.
       ChecksEach remaining contents arguments.is_json (paints arguments.color takes_color)
-      (length arguments.sources.items == 1) arguments.sources.items in_old in_new out_old out_new) ended) ended
+      arguments.sources.items in_old in_new out_old out_new) ended) ended
 
   -- `explore`
   abbrev pub Explores : ExploreArguments → Outcome → Type 0

@@ -12,10 +12,10 @@ use crate::progress::Progress;
 use crate::sets::warnings_of;
 use chip_arguments::{CheckArguments, ColorChoice, SettingArguments};
 use chip_asm::{OpenError, Source};
-use chip_check::{check_json, check_text, unopened_json};
+use chip_check::{check_json, check_text, unopened_json, unopened_report};
 use chip_explore::Watcher;
 use chip_host::{
-    Answer, Ending, Failure, FileAccess, System, deliver, read_source, settings_of, unopened_text,
+    Answer, Ending, Failure, FileAccess, System, deliver, read_source, settings_of,
 };
 use chip_session::{Counted, Settings};
 use chip_warnings::{Asked, Warning, warnings};
@@ -35,8 +35,6 @@ pub(crate) struct Checker<'p> {
     is_json: bool,
     /// Whether the text has colours.
     is_painted: bool,
-    /// Whether there is no other source.
-    is_alone: bool,
     /// Whether each source is searched for instructions that no key script executes.
     is_covering: bool,
 }
@@ -63,7 +61,6 @@ pub fn check<'a, F: FileAccess + Clock, I: Read, O: Write, E: Write>(
         has_tape: gives_tape(&arguments.settings),
         is_json: arguments.is_json,
         is_painted: paints(arguments.color, system.host.takes_color),
-        is_alone: names.len() == 1,
         is_covering: arguments.is_covering,
     };
     let mut progress = Progress::new(errors, system.host.has_reader, system.files, None);
@@ -103,7 +100,6 @@ impl<'p> Checker<'p> {
     pub(crate) fn for_faults(settings: &'p Settings, is_json: bool) -> Checker<'p>
         ensures json { result.is_json ≡ is_json }
         ensures painted { result.is_painted ≡ false }
-        ensures alone { result.is_alone ≡ true }
     {
         Checker {
             allowed: 0,
@@ -111,7 +107,6 @@ impl<'p> Checker<'p> {
             has_tape: false,
             is_json,
             is_painted: false,
-            is_alone: true,
             is_covering: false,
         }
     }
@@ -125,7 +120,7 @@ impl<'p> Checker<'p> {
         watcher: &mut W,
     ) -> Result<Ending, Failure<'a>>
         ensures { ChecksEach I.remaining O.contents self.now.is_json self.now.is_painted
-            self.now.is_alone names.now input.old input.new output.old output.new result }
+            names.now input.old input.new output.old output.new result }
     {
         let mut ending = Ending::Done;
         for name in names {
@@ -146,7 +141,7 @@ impl<'p> Checker<'p> {
         watcher: &mut W,
     ) -> Result<Answer, AllocError>
         ensures { IfOk result (λ answer. IsPrintedCheckOf self.now.is_json self.now.is_painted
-            self.now.is_alone name.now (open_fault bytes.now) (lines_of bytes.now) (printed_by answer)) }
+            name.now (open_fault bytes.now) (lines_of bytes.now) (printed_by answer)) }
     {
         let source = match Source::open(alloc, bytes) {
             Ok(source) => source,
@@ -202,7 +197,7 @@ impl<'p> Checker<'p> {
         }
     }
 
-    // Why a source doesn't open: an object, or its code, after its name where there are others.
+    // Why a source doesn't open.
     pub(crate) fn unopened(
         &self,
         alloc: Global,
@@ -210,23 +205,33 @@ impl<'p> Checker<'p> {
         error: OpenError,
     ) -> Result<Answer, AllocError>
         ensures answer { IfOk result (λ answer. printed_by answer ≡ printed
-            (unopened_check self.now.is_json self.now.is_alone name.now error) Ending.Faulty) }
+            (unopened_check self.now.is_json self.now.is_painted name.now error) Ending.Faulty) }
         ensures memory { error ≡ OpenError.OutOfMemory → IsErr result }
     {
         if error == OpenError::OutOfMemory {
             return Err(AllocError);
         }
-        let ending = Ending::Faulty;
+        let text = self.unopened_text(alloc, name, error)?;
+        Ok(Answer {
+            text,
+            ending: Ending::Faulty,
+        })
+    }
+
+    // What is printed of a source that doesn't open.
+    fn unopened_text(
+        self,
+        alloc: Global,
+        name: &[u8],
+        error: OpenError,
+    ) -> Result<Vec<u8>, AllocError>
+        ensures { IfOk result (λ text. text.items
+            ≡ unopened_check self.is_json self.is_painted name.now error) }
+    {
         if self.is_json {
-            let text = unopened_json(alloc, name, error)?;
-            return Ok(Answer { text, ending });
+            unopened_json(alloc, name, error)
+        } else {
+            unopened_report(alloc, self.is_painted, name, error)
         }
-        let mut text = Vec::new(alloc);
-        if !self.is_alone {
-            text.extend_from_slice(name)?;
-            text.extend_from_slice(b": ")?;
-        }
-        text.extend_from_slice(unopened_text(error))?;
-        Ok(Answer { text, ending })
     }
 }

@@ -4,3 +4,4 @@ pub mod KnownNames
 pub mod OperandSpans
 pub mod Pieces
 pub mod TokenPlaces
+pub mod UnopenedHelp

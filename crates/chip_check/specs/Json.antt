@@ -5,8 +5,6 @@ use Rattle.std.specs.List.{flat_map}
 use Rattle.std.specs.Str.Lossy.{utf8_lossy}
 use Rattle.chip_lang.specs.declared.fault_place.Span.{Span}
 use Rattle.chip_lang.specs.Show.{two_hex_digits}
-use Rattle.chip_asm.specs.declared.refusal.OpenError.{OpenError}
-use Rattle.chip_asm.specs.declared.refusal.OpenError.TheVariants as unopened
 use Rattle.chip_check.specs.declared.hint.Hint.{Hint}
 use Rattle.chip_check.specs.declared.hint.HintKind.{HintKind}
 use Rattle.chip_check.specs.declared.hint.HintKind.TheVariants.{Help, Note}
@@ -41,32 +39,20 @@ hint_strings [] = []
 hint_strings (hint ∷ hints) = hint_string hint ++ flat_map further_hint hints
 
 -- The object of a place, and a newline. The column and the end count from 1, in bytes, and the end
--- is one past the last byte; a code has no byte that is written otherwise in a string.
-unfoldable pub object : (name : List ℕ) (number : ℕ) → Span → (code sentence : List ℕ) → List Hint
+-- is one past the last byte; a code has no byte that is written otherwise in a string. The lines of
+-- help are strings with a comma between each two.
+unfoldable pub object_with : (name : List ℕ) (number : ℕ) → Span → (code sentence help : List ℕ)
     → List ℕ
-object name number span code sentence hints =
+object_with name number span code sentence help =
     codes "{\"line\":" ++ decimal number ++ codes ",\"column\":" ++ decimal (span.start + 1)
     ++ codes ",\"end\":" ++ decimal (span.end + 1) ++ codes ",\"code\":\"" ++ code
-    ++ codes "\",\"message\":" ++ quoted sentence ++ codes ",\"help\":[" ++ hint_strings hints
+    ++ codes "\",\"message\":" ++ quoted sentence ++ codes ",\"help\":[" ++ help
     ++ codes "],\"file\":" ++ quoted name ++ codes "}\n"
 
--- the code of why a source doesn't open, and a sentence; none where memory ran out
-abbrev pub unopened_code : OpenError → List ℕ
-unopened_code (unopened.LineTooLong number) = codes "O1"
-unopened_code unopened.TooManyLines = codes "O2"
-unopened_code unopened.OutOfMemory = []
-
-abbrev pub unopened_sentence : OpenError → List ℕ
-unopened_sentence (unopened.LineTooLong number) =
-    codes "line " ++ decimal number ++ codes " is too long"
-unopened_sentence unopened.TooManyLines = codes "too many lines"
-unopened_sentence unopened.OutOfMemory = []
-
--- The object of a source that doesn't open. What is said is said of the whole source, so the place is
--- its beginning.
-abbrev pub unopened_object : (name : List ℕ) → OpenError → List ℕ
-unopened_object name fault =
-    object name 1 (record { start = 0; end = 0 }) (unopened_code fault) (unopened_sentence fault) []
+abbrev pub object : (name : List ℕ) (number : ℕ) → Span → (code sentence : List ℕ) → List Hint
+    → List ℕ
+object name number span code sentence hints =
+    object_with name number span code sentence (hint_strings hints)
 
 -- how a place is printed as JSON: the text of the line is left out
 abbrev pub as_object : (name : List ℕ) → Print

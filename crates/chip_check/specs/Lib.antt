@@ -4,10 +4,12 @@
 --     Json      the same as JSON
 --     Place     the place of a fault in a source
 --     Quoted    the line of a finding, as it is quoted
+--     Unopened  why a source doesn't open, in both ways
 --     inner     which of the two is printed; no public clause cites it, and a reader may skip it
 pub mod Answer
 pub mod Check
 pub mod Json
 pub mod Place
 pub mod Quoted
+pub mod Unopened
 pub mod inner

@@ -3,15 +3,17 @@
 ghost use Rattle.std.specs.Prelude.{◌≡◌, ◌++◌, ℕ, List, [], IfOk, OnOk};
 ghost use Rattle.chip_asm.specs.Program.{fault_at, symbols_of};
 ghost use Rattle.chip_check.specs.Check.{AreReports, IsCheck, IsChecked, IsCheckedIn, report_of};
-ghost use Rattle.chip_check.specs.Json.{AreObjects, IsCheckJson, unopened_object};
+ghost use Rattle.chip_check.specs.Json.{AreObjects, IsCheckJson};
+ghost use Rattle.chip_check.specs.Unopened.{unopened_object, unopened_report};
 ghost use Rattle.chip_check.specs.inner.Known.{Agree, listed};
 ghost use Rattle.chip_check.specs.inner.Printing.{print_in};
 ghost use Rattle.chip_check.specs.declared.hint.Hint.{Hint};
 
-use crate::finding::Finding;
+use crate::finding::{Finding, unopened_line};
 use crate::json::push_object;
 use crate::known::Known;
 use crate::printing::{Form, Style, push_finding};
+use crate::report::push_unquoted;
 use chip_asm::{LineView, OpenError, Source};
 use chip_warnings::Warning;
 use std::alloc::{AllocError, Global};
@@ -66,8 +68,28 @@ pub fn check_json(
     check_in(alloc, Style { form, name }, source, warnings)
 }
 
-/// What `check --json` prints of a source of this name that doesn't open: an object at its beginning,
-/// with the code O1 or O2.
+/// What `check` prints of a source of this name that doesn't open: the place in the line that is too
+/// long or one too many, the code O1 or O2, a sentence, and a line of help. The line isn't quoted.
+///
+/// # Errors
+///
+/// Out of memory, also where the source didn't open for that.
+pub fn unopened_report(
+    alloc: Global,
+    is_painted: bool,
+    name: &[u8],
+    error: OpenError,
+) -> Result<Vec<u8>, AllocError>
+    ensures { IfOk result (λ text. text.items ≡ unopened_report is_painted name.now error) }
+{
+    let finding = Finding::of_unopened(alloc, error)?;
+    let mut text = Vec::new(alloc);
+    let number = unopened_line(error);
+    push_unquoted(alloc, &mut text, is_painted, name, number, &finding)?;
+    Ok(text)
+}
+
+/// What `check --json` prints of a source of this name that doesn't open: the object of that place.
 ///
 /// # Errors
 ///
@@ -77,7 +99,35 @@ pub fn unopened_json(alloc: Global, name: &[u8], error: OpenError) -> Result<Vec
 {
     let finding = Finding::of_unopened(alloc, error)?;
     let mut text = Vec::new(alloc);
-    push_object(alloc, &mut text, name, 1, &finding)?;
+    push_object(alloc, &mut text, name, unopened_line(error), &finding)?;
+    Ok(text)
+}
+
+/// What `check` prints, as text without colours, of the fault of the line of a number; nothing where
+/// it has none.
+///
+/// # Errors
+///
+/// Out of memory.
+pub fn fault_text(
+    alloc: Global,
+    name: &[u8],
+    source: &Source,
+    number: usize,
+) -> Result<Vec<u8>, AllocError> {
+    let form = Form::Text { is_painted: false };
+    let known = Known::of(alloc, source)?;
+    let mut text = Vec::new(alloc);
+    if let Some(line) = source.line(number) {
+        push_fault(
+            alloc,
+            &mut text,
+            Style { form, name },
+            source,
+            &known,
+            &line,
+        )?;
+    }
     Ok(text)
 }
 

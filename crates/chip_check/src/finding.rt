@@ -1,17 +1,19 @@
 //! What is found in a line: a fault or a warning.
 
-ghost use Rattle.std.specs.Prelude.{◌≡◌, ◌≤◌, [], IfOk, length};
+ghost use Rattle.std.specs.Prelude.{◌≡◌, ◌≤◌, ◌+◌, IfOk, length};
 ghost use Rattle.chip_lang.specs.FaultPlace.{mnemonic_of};
 ghost use Rattle.chip_asm.specs.Program.{symbols_of};
 ghost use Rattle.chip_check.specs.Check.{code_of, sentence_of, sentence_with};
-ghost use Rattle.chip_check.specs.Json.{unopened_code, unopened_sentence};
 ghost use Rattle.chip_check.specs.Place.{place_in};
+ghost use Rattle.chip_check.specs.Unopened.{unopened_code, unopened_help, unopened_line, unopened_place, unopened_sentence};
 ghost use Rattle.chip_check.specs.inner.Known.{Agree, listed};
+ghost use Rattle.chip_check.specs.inner.Printing.{IsHelp};
 
 use crate::advice::advice_on;
-use crate::hint::{Hint, push_help};
+use crate::hint::{Hint, HintKind, push_help};
 use crate::known::Known;
 use crate::place::place_in;
+use chip_asm::limits::{LINE_BYTES, MOST_LINES};
 use chip_asm::{LineView, OpenError, Source};
 use chip_lang::{Fault, Span};
 use chip_warnings::Warning;
@@ -61,27 +63,44 @@ impl Finding {
         })
     }
 
-    /// Why a source doesn't open, at its beginning. Out of memory where it didn't for that.
+    /// Why a source doesn't open, in the line that is too long or one too many. Out of memory where it
+    /// didn't for that.
     pub(crate) fn of_unopened(alloc: Global, error: OpenError) -> Result<Finding, AllocError>
-        ensures span { IfOk result (λ finding. (finding.span.start ≡ 0) × (finding.span.end ≡ 0)) }
+        ensures span { IfOk result (λ finding. finding.span ≡ unopened_place error) }
+        ensures small { IfOk result (λ finding. (finding.span.start ≤ LINE_BYTES)
+            × (finding.span.end ≤ LINE_BYTES + 1)) }
         ensures code { IfOk result (λ finding. finding.code.items ≡ unopened_code error) }
         ensures sentence { IfOk result (λ finding.
             finding.sentence.items ≡ unopened_sentence error) }
-        ensures hints { IfOk result (λ finding. finding.hints.items ≡ []) }
+        ensures help { IfOk result (λ finding.
+            IsHelp (unopened_help error) finding.hints.items) }
     {
-        let (code, sentence) = match error {
-            OpenError::LineTooLong(number) => {
-                (b"O1", format!(in alloc; "line {number} is too long")?)
-            }
-            OpenError::TooManyLines => (b"O2", String::from_str(alloc, "too many lines")?),
-            OpenError::OutOfMemory => return Err(AllocError),
-        };
-        Ok(Finding {
-            span: Span { start: 0, end: 0 },
-            code: Vec::from_slice(alloc, code)?,
-            sentence: sentence.into_bytes(),
-            hints: Vec::new(alloc),
-        })
+        match error {
+            OpenError::LineTooLong(_) => Ok(Finding {
+                span: Span {
+                    start: LINE_BYTES,
+                    end: LINE_BYTES + 1,
+                },
+                code: Vec::from_slice(alloc, b"O1")?,
+                sentence: format!(in alloc;
+                    "line too long (at most {LINE_BYTES} bytes)"
+                )?.into_bytes(),
+                hints: one_help(
+                    alloc,
+                    b"split the data over two lines, with ALIGN OFF above them where it must stay together, or shorten the comment",
+                )?,
+            }),
+            OpenError::TooManyLines => Ok(Finding {
+                span: Span { start: 0, end: 0 },
+                code: Vec::from_slice(alloc, b"O2")?,
+                sentence: format!(in alloc; "too many lines (at most {MOST_LINES})")?.into_bytes(),
+                hints: one_help(
+                    alloc,
+                    b"put more values on each line of data, or remove empty lines and comments",
+                )?,
+            }),
+            OpenError::OutOfMemory => Err(AllocError),
+        }
     }
 
     /// What a warning says.
@@ -102,6 +121,29 @@ impl Finding {
             sentence,
             hints,
         })
+    }
+}
+
+/// One line of help, which says what to write.
+fn one_help(alloc: Global, sentence: &[u8]) -> Result<Vec<Hint>, AllocError>
+    ensures { IfOk result (λ hints. IsHelp sentence.now hints.items) }
+{
+    let mut hints = Vec::new(alloc);
+    hints.push(Hint {
+        kind: HintKind::Help,
+        sentence: Vec::from_slice(alloc, sentence)?,
+    })?;
+    Ok(hints)
+}
+
+/// The line in which a source that doesn't open is too long, counted from 1.
+pub(crate) fn unopened_line(error: OpenError) -> usize
+    ensures { result ≡ unopened_line error }
+{
+    match error {
+        OpenError::LineTooLong(number) => number,
+        OpenError::TooManyLines => MOST_LINES + 1,
+        OpenError::OutOfMemory => 1,
     }
 }
 

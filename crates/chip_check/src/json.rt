@@ -12,7 +12,7 @@ use crate::parts::push_all;
 use std::alloc::{AllocError, Global};
 
 /// Adds the object of a finding in the line of a number.
-#[tactic(auto, unfolding(crate::specs::Json::object))]
+#[tactic(auto, unfolding(crate::specs::Json::object_with))]
 pub(crate) fn push_object(
     alloc: Global,
     text: &mut Vec<u8>,

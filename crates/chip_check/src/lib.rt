@@ -26,7 +26,7 @@ mod spelling;
 mod words;
 
 pub use answer::{PropertyAnswer, PropertyPlace, is_bad};
-pub use check::{check_json, check_text, unopened_json};
+pub use check::{check_json, check_text, fault_text, unopened_json, unopened_report};
 pub use json::push_quoted;
 pub use property::push_property_fault;
 pub use quoted::push_as_shown;

@@ -43,6 +43,24 @@ pub(crate) fn push_report(
     push_hints(text, is_painted, &finding.hints)
 }
 
+/// Adds the report of a finding in the line of a number, without the line and the marks below it.
+pub(crate) fn push_unquoted(
+    alloc: Global,
+    text: &mut Vec<u8>,
+    is_painted: bool,
+    name: &[u8],
+    number: usize,
+    finding: &Finding,
+) -> Result<(), AllocError>
+    requires { finding.now.span.start + 1 ≤ usize.MAX }
+    ensures { OnOk result (text.new.items ≡ text.old.items
+        ++ (head is_painted name.now number finding.now.span finding.now.code.items
+        finding.now.sentence.items ++ flat_map (hint_line is_painted) finding.now.hints.items)) }
+{
+    push_head(alloc, text, is_painted, name, number, finding)?;
+    push_hints(text, is_painted, &finding.hints)
+}
+
 /// Adds the file, the place, the code and the sentence of a finding.
 #[tactic(auto, unfolding(crate::specs::Check::head))]
 fn push_head(

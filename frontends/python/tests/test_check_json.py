@@ -16,7 +16,7 @@ sys.path.insert(0, str(Path(__file__).resolve().parent))
 
 from programs import EXAMPLES, TOP, NeedsWords  # noqa: E402
 
-HEAD = re.compile(rb"(.*):([0-9]+):([0-9]+): ([FWP][0-9]+): (.*)", re.DOTALL)
+HEAD = re.compile(rb"(.*):([0-9]+):([0-9]+): ([FWPO][0-9]+): (.*)", re.DOTALL)
 MEMBERS = ["line", "column", "end", "code", "message", "help", "file"]
 
 
@@ -45,14 +45,17 @@ def sources() -> list[bytes]:
 
 
 def read_text(printed: bytes, name: bytes) -> list[dict[str, Any]]:
-    """What the text says: a head, the line, the marks, and lines of help."""
+    """What the text says: a head, the line, the marks, and lines of help. Of a source that doesn't open no line is quoted."""
     found: list[dict[str, Any]] = []
     rows = printed.split(b"\n")
     assert rows.pop() == b""
     while rows:
         head = HEAD.fullmatch(rows.pop(0))
         assert head is not None and head[1] == name, printed
-        _, marks = rows.pop(0), rows.pop(0).lstrip()
+        if head[4] in (b"O1", b"O2"):
+            marks = b"^"
+        else:
+            _, marks = rows.pop(0), rows.pop(0).lstrip()
         help_lines = []
         while rows and rows[0].startswith((b"help: ", b"note: ")):
             help_lines.append(rows.pop(0).removeprefix(b"help: "))
@@ -91,10 +94,6 @@ class CheckAsJson(NeedsWords):
         status, printed = self.printed("--json", *words, source=source, folder=folder)
         self.assertEqual(status, text_status)
         found = self.objects(printed)
-        if text.startswith(b"no O"):
-            places = [(one["line"], one["column"], one["end"], one["code"], one["help"], one["file"]) for one in found]
-            self.assertEqual(places, [(1, 1, 1, text[3:].strip().decode(), [], name.decode(errors="replace"))])
-            return 0
         said = read_text(text, name)
         self.assertEqual(len(found), len(said), source)
         for one, other in zip(found, said):
@@ -116,8 +115,10 @@ class CheckAsJson(NeedsWords):
         self.assertEqual(marked, [("F9", b"none"), ("F4", '"éé", 1'.encode()), ("F4", b"")])
 
     def test_a_source_that_does_not_open(self) -> None:
-        for source in (b"CLS\n;" + b"x" * 200, b"\n" * 4001):
-            self.assertEqual(self.compare(source, "-"), 0)
+        for source, place in ((b"CLS\n;" + b"x" * 200, (2, 201, 202, "O1")), (b"\n" * 4001, (4001, 1, 1, "O2"))):
+            self.assertEqual(self.compare(source, "-"), 1)
+            one = self.objects(self.printed("--json", "-", source=source)[1])[0]
+            self.assertEqual((one["line"], one["column"], one["end"], one["code"]), place)
 
     def test_each_object_names_its_file(self) -> None:
         with tempfile.TemporaryDirectory() as folder:

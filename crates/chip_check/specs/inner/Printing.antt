@@ -1,7 +1,9 @@
 -- The two ways to print what is found in a source (own).
-use Rattle.std.specs.Prelude.{ℕ, ◌+◌, List, ◌++◌, codes}
+use Rattle.std.specs.Prelude.{◌≡◌, ℕ, ◌+◌, List, [], ◌∷◌, ◌++◌, codes}
 use Rattle.std.specs.Fmt.{decimal}
 use Rattle.chip_lang.specs.declared.fault_place.Span.{Span}
+use Rattle.chip_check.specs.declared.hint.Hint.{Hint}
+use Rattle.chip_check.specs.declared.hint.HintKind.TheVariants.{Help}
 use Rattle.chip_check.specs.declared.printing.Form.{Form}
 use Rattle.chip_check.specs.declared.printing.Form.TheVariants.{Text, Json}
 use Rattle.chip_check.specs.Check.{Print, report}
@@ -18,3 +20,10 @@ object_start number span code =
     codes "{\"line\":" ++ decimal number ++ codes ",\"column\":" ++ decimal (span.start + 1)
     ++ codes ",\"end\":" ++ decimal (span.end + 1) ++ codes ",\"code\":\"" ++ code
     ++ codes "\",\"message\":"
+
+-- lines of help are one, which says this
+pub record IsHelp (sentence : List ℕ) (hints : List Hint) : Type 0 where
+  pub hint : Hint
+  pub alone : hints ≡ hint ∷ []
+  pub kind : hint.kind ≡ Help
+  pub says : hint.sentence.items ≡ sentence

@@ -1,5 +1,5 @@
 use Rattle.std.proofs.lemmas.Result.{err_from_is_err_and}
-use Rattle.std.proofs.Common.{◌==◌, ◌∙◌, ap, length, refl, Err}
+use Rattle.std.proofs.Common.{◌∙◌, ap, refl, Err}
 use Rattle.chip_analysis.proofs.CheckLemmas.{checks, checks_bad, checks_unsettled}
 use Rattle.chip_analysis.proofs.checking.check.Goals as goal
 
@@ -19,6 +19,6 @@ returns-in_err-allowed g c =
 pub returns : goal.returns
 returns g c =
     checks g.I.Read.remaining g.O.Write.contents c.args.input.now c.check_each.new.input c.args.output.now c.check_each.new.output c.args.system.now.host.takes_color
-    c.args.arguments.now c.check_each.result c.in_ok-settings.settings c.in_ok-settings.ensures.ok c.in_ok-allowed.allowed c.paints.result _ c.deref-names.result.now
+    c.args.arguments.now c.check_each.result c.in_ok-settings.settings c.in_ok-settings.ensures.ok c.in_ok-allowed.allowed c.paints.result c.deref-names.result.now
     c.in_ok-allowed.ensures.ok c.paints.ensures
-    (ap (λ n. n == 1) (ap length c.deref-names.ensures.value)) c.deref-names.ensures.value c.check_each.ensures
+    c.deref-names.ensures.value c.check_each.ensures

@@ -31,6 +31,6 @@ pub returns-in-Err : goal.returns-in-Err
 returns-in-Err g c =
     let asked = c.args.asked.now in
     let checker = c.for_faults-checker.ensures in
-    let told = rw (checker.json, checker.alone, c.as_bytes-name.ensures.value) at c.unopened.ensures.answer in
+    let told = rw (checker.json, checker.painted, c.as_bytes-name.ensures.value) at c.unopened.ensures.answer in
     by_unopened g.O.Write.contents c.args.output.now c.deliver.new.output asked.arguments.now asked.settings.now asked.keys c.args.bytes.now c.deliver.result
     c.in-Err.error c.in-Err.ensures.err (c.deliver.ensures.wanted _ told) (λ memory. short_of c.unopened.result (c.unopened.ensures.memory memory) c.deliver.ensures.short)

@@ -1,10 +1,10 @@
 use Rattle.std.proofs.Common.{append_assoc}
 use Rattle.chip_check.specs.inner.Printing.{object_start}
-use Rattle.chip_check.specs.Json.{object}
+use Rattle.chip_check.specs.Json.{object_with}
 use Rattle.chip_check.proofs.json.push_object.Goals as goal
 
 pub returns : goal.returns
-unfolding object object_start
+unfolding object_with object_start
 returns c =
     rw (
       c.in_ok-extend_from_slice-3.ensures.items,
