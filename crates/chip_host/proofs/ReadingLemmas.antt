@@ -4,7 +4,7 @@ use Rattle.std.specs.Prelude.{IsErrAnd}
 use Rattle.std.specs.Borrow.{Bor}
 use Rattle.chip_views.specs.Dis.{source_of_image}
 use Rattle.chip_host.specs.Reading.{AsSource, Declined, FromGiven, FromKeys, FromSource, IfSettled, IsImageRefused, IsSourceUnread, WithAsked, IsAsked, IsGiven, IsNotGiven, IsUnasked}
-use Rattle.chip_host.specs.Endings.{IsShort, IsUnsettled, Outcome, IsUnreadWithin}
+use Rattle.chip_host.specs.Endings.{IsShort, IsUnsettled, Outcome, IsUnreadWithin, is_bad_tape}
 use Rattle.chip_host.specs.declared.limits.TheConstants.{KEY_FILE_BYTES}
 use Rattle.chip_session.specs.Settings.{SessionSettings}
 use Rattle.chip_host.specs.SettingArguments.{settings_asked}
@@ -17,7 +17,7 @@ use Rattle.chip_host.specs.declared.reading.AskedRun.{AskedRun}
 
 -- settings that there are not, or no memory for them
 abbrev pub Unsettles : Option SessionSettings → Failure → Type 0
-Unsettles asked why = (why ≡ failure.OutOfMemory) ⊎ ((why ≡ failure.BadTape) × (asked ≡ None))
+Unsettles asked why = (why ≡ failure.OutOfMemory) ⊎ ((is_bad_tape why ≡ true) × (asked ≡ None))
 
 pub fails : (Why : Failure → Type 0) (ended : Outcome) (why : Failure) → ended ≡ Err why → Why why → IsErrAnd ended Why
 fails Why ended why e w = subst (λ (r : Outcome). IsErrAnd r Why) (sym e) w

@@ -2,16 +2,17 @@
 --     Outcome                        a way to end, or what hindered it
 --     ending_status, failure_status  the program's status after it
 --     settings_failure, arguments_failure     what an error of settings or of arguments is
---     IsShort, IsUnsettled, IsUnread, IsUnreadWithin, IsUnwritten    memory ran out; there are no such
---                                    settings; a file can't be read, or written
+--     IsShort, is_bad_tape, IsUnsettled, IsUnread, IsUnreadWithin, IsUnwritten    memory ran out; a tape is
+--                                    bad; there are no such settings; a file can't be read, or written
 --     IsFileWritten, IsSomeWritten   a file was written, or couldn't be; some bytes were
-use Rattle.std.specs.Prelude.{◌≡◌, ◌⊎◌, ℕ, List, Result, Ok, IsErrAnd}
+use Rattle.std.specs.Prelude.{◌≡◌, ◌⊎◌, ℕ, Bool, true, false, List, Result, Ok, IsErrAnd}
 use Rattle.std.specs.Borrow.{Bor}
 use Rattle.std.specs.declared.io.Error.{Error as IoError}
 use Rattle.chip_host.specs.declared.ending.Ending.{Ending}
 use Rattle.chip_host.specs.declared.ending.Ending.TheVariants.{Done, Faulty, Short}
 use Rattle.chip_host.specs.declared.ending.Failure.{Failure}
 use Rattle.chip_host.specs.declared.ending.Failure.TheVariants as failure
+use Rattle.chip_host.specs.declared.ending.TapeFault.TheVariants as tape
 use Rattle.clap.specs.declared.error.Error.{Error}
 use Rattle.clap.specs.declared.error.kind.ErrorKind.{ErrorKind}
 use Rattle.clap.specs.declared.error.kind.ErrorKind.TheVariants as kind
@@ -43,7 +44,7 @@ failure_status _ = 2
 
 abbrev pub settings_failure : SetError → Failure
 settings_failure set.OutOfMemory = failure.OutOfMemory
-settings_failure _ = failure.BadTape
+settings_failure _ = failure.BadTape tape.Length
 
 -- what hinders the program where `clap` answers an error of that kind
 abbrev pub arguments_failure : ErrorKind → Error → Failure
@@ -54,9 +55,14 @@ arguments_failure _ error = failure.Usage error
 abbrev pub IsShort : Failure → Type 0
 IsShort why = why ≡ failure.OutOfMemory
 
+-- the tape is bad; no contract says which of its faults is told
+abbrev pub is_bad_tape : Failure → Bool
+is_bad_tape (failure.BadTape fault) = true
+is_bad_tape _ = false
+
 -- settings that there are not, or that memory ran out
 abbrev pub IsUnsettled : Failure → Type 0
-IsUnsettled why = (why ≡ failure.BadTape) ⊎ (why ≡ failure.OutOfMemory)
+IsUnsettled why = (is_bad_tape why ≡ true) ⊎ (why ≡ failure.OutOfMemory)
 
 -- what hinders reading a file of that name
 abbrev pub IsUnread : Bor (List ℕ) → Failure → Type 0

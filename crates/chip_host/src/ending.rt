@@ -5,6 +5,7 @@ ghost use Rattle.chip_host.specs.Endings.{ending_status, failure_status, setting
 
 use crate::limits::EVENT_BYTES;
 use chip_cases::CaseFault;
+use chip_machine::limits::TAPE_BYTES;
 use chip_replay::{KEYS, LAST_STEP, MOST_EVENTS};
 use chip_session::SetError;
 use chip_trace::HeaderError;
@@ -81,13 +82,26 @@ pub enum TestFault {
     Tape,
 }
 
+/// Why a tape is bad.
+#[derive(Clone, Copy, Debug, Error)]
+pub enum TapeFault {
+    #[error("expected hexadecimal digits without 0x or #, as in --tape 2a07")]
+    NotHexadecimal,
+    #[error("expected two hexadecimal digits for each byte, without 0x or #, as in --tape 2a07")]
+    OddDigits,
+    #[error("expected 1 to {most} bytes, as in --tape 2a07", most = TAPE_BYTES)]
+    Length,
+    #[error("--tape and --seed exclude each other: give one of them")]
+    WithSeed,
+}
+
 /// What hinders the program. The text is for the standard error.
 #[derive(Debug, Drop, Error)]
 pub enum Failure<'a> {
     #[error("{0}")]
     Usage(clap::Error),
-    #[error("chipbench: bad tape\n")]
-    BadTape,
+    #[error("chipbench: bad tape: {0}\n")]
+    BadTape(TapeFault),
     /// These are no stop causes.
     #[error("chipbench: --want takes S1 to S7 with commas between them, not {0}\n")]
     BadCauses(&'a str),
@@ -155,7 +169,7 @@ impl<'a> Failure<'a> {
     {
         match self {
             Failure::Usage(_)
-            | Failure::BadTape
+            | Failure::BadTape(_)
             | Failure::BadCauses(_)
             | Failure::BadPlayerKeys(_)
             | Failure::BadWarnings(_)
@@ -197,7 +211,7 @@ impl<'a> From<SetError> for Failure<'a> {
         match error {
             SetError::OutOfMemory => Failure::OutOfMemory,
             SetError::RateOutOfRange | SetError::TapeLength | SetError::SpacingOutOfRange => {
-                Failure::BadTape
+                Failure::BadTape(TapeFault::Length)
             }
         }
     }

@@ -1,11 +1,12 @@
 //! What the commands read: settings, sources, images and files of key events.
-ghost use Rattle.std.specs.Prelude.{◌≡◌, ◌<◌, ◌≤◌, ◌⊎◌, [], Ok, None, Some, length, IfOk, IfErr};
+ghost use Rattle.std.specs.Prelude.{◌≡◌, ◌<◌, ◌≤◌, ◌⊎◌, [], true, Ok, None, Some, length, IfOk, IfErr};
+ghost use Rattle.chip_host.specs.Endings.{is_bad_tape};
 ghost use Rattle.chip_lang.specs.declared.limits.TheConstants.{IMAGE_BYTES};
 ghost use Rattle.chip_views.specs.Dis.{source_of_image};
 ghost use Rattle.chip_host.specs.SettingArguments.{settings_asked, tape_asked};
 ghost use Rattle.chip_host.specs.Reading.{IsAsked, IsGiven, IsKeysUnread, IsNotGiven, IsNotTaken, IsTaken, IsUnasked, GivesSource, IsSourceUnread};
 
-use crate::ending::Failure;
+use crate::ending::{Failure, TapeFault};
 use crate::file_access::FileAccess;
 use crate::limits::KEY_FILE_BYTES;
 use crate::system::System;
@@ -40,7 +41,7 @@ pub fn settings_of<'a>(
 ) -> Result<Settings, Failure<'a>>
     ensures ok { IfOk result (λ settings. settings_asked arguments.now ≡ Some settings) }
     ensures err { IfErr result (λ failure. (failure ≡ Failure.OutOfMemory)
-        ⊎ ((failure ≡ Failure.BadTape) × (settings_asked arguments.now ≡ None))) }
+        ⊎ ((is_bad_tape failure ≡ true) × (settings_asked arguments.now ≡ None))) }
 {
     let tape = tape_bytes(alloc, arguments)?;
     let settings = Settings::new(alloc, arguments.rate, &tape)?.with_quirks(arguments.quirks);
@@ -51,14 +52,15 @@ pub fn settings_of<'a>(
 fn tape_bytes<'a>(alloc: Global, arguments: &SettingArguments<'_>) -> Result<Vec<u8>, Failure<'a>>
     ensures ok { IfOk result (λ tape. tape_asked arguments.now ≡ Some tape.items) }
     ensures err { IfErr result (λ failure. (failure ≡ Failure.OutOfMemory)
-        ⊎ ((failure ≡ Failure.BadTape) × (tape_asked arguments.now ≡ None))) }
+        ⊎ ((is_bad_tape failure ≡ true) × (tape_asked arguments.now ≡ None))) }
 {
     match (arguments.tape, arguments.seed) {
-        (Some(_), Some(_)) => Err(Failure::BadTape),
+        (Some(_), Some(_)) => Err(Failure::BadTape(TapeFault::WithSeed)),
         (Some(digits), None) => match hex::decode(alloc, digits) {
             Ok(tape) => Ok(tape),
             Err(FromHexError::OutOfMemory) => Err(Failure::OutOfMemory),
-            Err(_) => Err(Failure::BadTape),
+            Err(FromHexError::OddLength) => Err(Failure::BadTape(TapeFault::OddDigits)),
+            Err(_) => Err(Failure::BadTape(TapeFault::NotHexadecimal)),
         },
         (None, Some(seed)) => Ok(tape_of(alloc, seed)?),
         (None, None) => Ok(Vec::from_slice(alloc, &[0])?),
@@ -78,6 +80,8 @@ pub struct AskedRun<'a> {
     pub source: Vec<u8>,
     pub keys: KeyFile<'a>,
     pub settings: Settings,
+    /// The name of the source.
+    pub name: &'a str,
 }
 
 /// The settings are judged before a file is read, and the key events are read before the source.
@@ -99,6 +103,7 @@ pub fn read_asked<'a, F: FileAccess, I: Read, E: Write>(
         source,
         keys,
         settings,
+        name: arguments.source,
     })
 }
 

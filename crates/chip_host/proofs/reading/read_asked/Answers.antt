@@ -13,5 +13,5 @@ returns-in_err-source-clause-err g c =
 pub returns-clause-ok : goal.returns-clause-ok
 returns-clause-ok g c =
     asked_is g.I.Read.remaining c.args.input.now c.read_given.new.input c.args.arguments.now
-    (record { source = c.in_ok-source.source; keys = c.in_ok-keys.keys; settings = c.in_ok-settings.settings })
+    (record { source = c.in_ok-source.source; keys = c.in_ok-keys.keys; settings = c.in_ok-settings.settings; name = c.args.arguments.now.source })
     c.in_ok-settings.ensures.ok c.in_ok-keys.ensures.ok c.in_ok-keys.ensures.bound c.in_ok-source.ensures.ok
