@@ -14,6 +14,10 @@ import termios
 from runner.programs import HANG_SECONDS
 
 WORDS = "ins, rep, del, kins, krep, kdel, image, syms, list, faults, regs, mem, screen, dis"
+ABOUT = (
+    "chipbench, a workbench for CHIP-8 games: `chipbench --help` lists its commands, "
+    "`chipbench-shell` is the shell for people, `chipbench-page` opens the page\n"
+)
 SOURCE = b"SPEED EQU 5\nSTART: LD V0, SPEED\nJP START\n"
 FAULTY = b"START: LD V0, 5\nJP STRAT\n"
 # What is typed, and what is said of it.
@@ -22,6 +26,9 @@ SAID = {
     "": "",
     "   ": "",
     "rep 1 SPEED EQU 6": "",
+    "help": "C1: no such command: `chipbench debug --help` lists the commands; Ctrl+D ends\n",
+    "quit": "C1: no such command: `chipbench debug --help` lists the commands; Ctrl+D ends\n",
+    "exit": "C1: no such command: `chipbench debug --help` lists the commands; Ctrl+D ends\n",
     "hlep": f"C1: no such command: the commands are {WORDS}\n",
     "Regs 1": f"C1: no such command: the commands are {WORDS}\n",
     "registers": f"C1: no such command: the commands are {WORDS}\n",
@@ -115,7 +122,7 @@ def wrong_empty(program):
     """What is wrong with a session on the empty source."""
     answers, said = typed(program, [program.file], ["ins 1 JP NOWHERE", "image"])
     wanted = [
-        greeting("an empty source: 0 lines, no faults") + "> ",
+        ABOUT + greeting("an empty source: 0 lines, no faults") + "> ",
         "> ",
         "Q1: no image: line 1 has a fault, F9: undefined name\n> ",
         "\n",

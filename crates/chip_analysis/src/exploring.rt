@@ -9,6 +9,7 @@ ghost use Rattle.chip_analysis.specs.Exploring.{AsksProperty, StatesOne, address
 use crate::progress::{News, Progress, Teller};
 use crate::sets::{Sets, sets_of};
 use crate::stop_place::place_text;
+use crate::telling::{tell_faults, tell_unopened};
 use chip_arguments::{ExploreArguments, SearchArguments};
 use chip_asm::Source;
 use chip_check::push_property_fault;
@@ -56,11 +57,16 @@ pub fn explore<'a, F: FileAccess + Clock, I: Read, O: Write, E: Write>(
     match Source::open_bytes(system.alloc, source) {
         Ok(opened) => {
             let ended = search_opened(system, &wanted, &opened, output, &mut progress);
+            tell_faults(system, name, &opened, errors);
             // The program ends here, and its memory goes back at once.
             mem::forget(opened);
             ended
         }
-        Err(error) => refuse_source(error, output),
+        Err(error) => {
+            let ended = refuse_source(error, output);
+            tell_unopened(system, name, error, errors);
+            ended
+        }
     }
 }
 

@@ -8,7 +8,9 @@ mod progress;
 mod proving;
 mod sets;
 mod stop_place;
+mod telling;
 
 pub use checking::check;
 pub use exploring::explore;
 pub use proving::prove;
+pub use telling::{tell_faults, tell_unopened};

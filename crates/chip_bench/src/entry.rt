@@ -19,7 +19,7 @@ use crate::picturing::picture;
 use crate::terminal::{Begun, answer_begun};
 use crate::testing::test_files;
 use crate::tracing::trace;
-use chip_analysis::{check, explore, prove};
+use chip_analysis::{check, explore, prove, tell_faults, tell_unopened};
 use chip_arguments::{CommandLine, RunArguments, SettingArguments, not_text, parse_arguments};
 use chip_asm::Source;
 use chip_host::{
@@ -74,7 +74,10 @@ pub fn program<F: Files + Clock, S: AsStr, I: Read, O: Write, E: Write>(
 {
     let ended = carry_out(system, arguments, input, output, errors);
     let flushed = output.flush();
-    finish(ended, flushed.is_ok(), errors)
+    let is_unknown = is_unknown_command(&ended);
+    let status = finish(ended, flushed.is_ok(), errors);
+    advise(is_unknown, arguments, errors);
+    status
 }
 
 /// The program's answer where the system can't give its arguments as text.
@@ -100,6 +103,50 @@ fn finish<E: Write>(ended: Result<Ending, Failure<'_>>, is_flushed: bool, errors
         Ok(_) => report(Failure::Output, errors),
         Err(failure) => report(failure, errors),
     }
+}
+
+// Whether the first word is no command.
+fn is_unknown_command(ended: &Result<Ending, Failure<'_>>) -> bool {
+    match ended {
+        Err(Failure::Usage(error)) => error.kind() == ErrorKind::InvalidSubcommand,
+        _ => false,
+    }
+}
+
+// Says, where the first word is no command, what to type for a game: for the file of that word, if it
+// looks like the name of one.
+fn advise<S: AsStr, E: Write>(is_unknown: bool, arguments: &[S], errors: &mut E) {
+    let Some(first) = arguments.first() else {
+        return;
+    };
+    if !is_unknown {
+        return;
+    }
+    let word = first.as_str();
+    let name = if is_file_name(word) { word } else { "game.asm" };
+    let option = if name.ends_with(".ch8") {
+        "--image "
+    } else {
+        ""
+    };
+    let _ = write!(
+        errors,
+        "\nTo work on a game:\n  \
+         `chipbench debug {option}{name}` answers commands\n  \
+         `chipbench run {option}{name} --steps 1000` runs it\n  \
+         `chipbench-shell {option}{name}` is the shell for people\n  \
+         `chipbench-page {option}{name}` opens the page\n"
+    );
+}
+
+// Whether a word has a dot, and no character that a shell or a terminal takes for something else.
+fn is_file_name(word: &str) -> bool {
+    word.contains('.')
+        && word.chars().all(|character| {
+            character.is_ascii_alphanumeric()
+                || "._-/+@,".contains(character)
+                || character > '\u{a0}'
+        })
 }
 
 // Says what hindered the program. Where the standard error fails there is nobody to tell.
@@ -174,12 +221,22 @@ fn perform<'a, F: FileAccess + Clock, I: Read, O: Write, E: Write>(
             };
             debug(system, given, settings, input, output, errors)
         }
-        CommandLine::Asm { source, image } => asm(system, *source, *image, input, output),
+        CommandLine::Asm { source, image } => asm(system, *source, *image, input, output, errors),
         CommandLine::List { source, is_hex } => {
-            tell(system, Table::Listing, *source, *is_hex, input, output)
+            let given = TableArguments {
+                table: Table::Listing,
+                source: *source,
+                is_hex: *is_hex,
+            };
+            tell(system, given, input, output, errors)
         }
         CommandLine::Syms { source, is_hex } => {
-            tell(system, Table::Symbols, *source, *is_hex, input, output)
+            let given = TableArguments {
+                table: Table::Symbols,
+                source: *source,
+                is_hex: *is_hex,
+            };
+            tell(system, given, input, output, errors)
         }
         CommandLine::Check(arguments) => check(system, arguments, input, output, errors),
         CommandLine::Dis { image } => {
@@ -243,12 +300,13 @@ fn debug<'a, F: FileAccess, I: Read, O: Write, E: Write>(
     }
 }
 
-fn asm<'a, F: FileAccess, I: Read, O: Write>(
+fn asm<'a, F: FileAccess, I: Read, O: Write, E: Write>(
     system: &System<'_, F>,
     source: &'a str,
     image: &'a str,
     input: &mut Counted<I>,
     output: &mut Counted<O>,
+    errors: &mut E,
 ) -> Result<Ending, Failure<'a>>
     ensures did { Assembles I.remaining O.contents input.old input.new output.old output.new
         source.entry image.entry result }
@@ -259,11 +317,16 @@ fn asm<'a, F: FileAccess, I: Read, O: Write>(
     match Source::open_bytes(system.alloc, bytes) {
         Ok(opened) => {
             let ended = assemble(system, &opened, &[file_name(source)], image, output);
+            tell_faults(system, source, &opened, errors);
             // The program ends here, and its memory goes back at once.
             mem::forget(opened);
             ended
         }
-        Err(error) => refuse_source(error, output),
+        Err(error) => {
+            let ended = refuse_source(error, output);
+            tell_unopened(system, source, error, errors);
+            ended
+        }
     }
 }
 
@@ -286,27 +349,40 @@ fn assemble<'a, F: FileAccess, O: Write>(
     }
 }
 
-// `list` and `syms`.
-fn tell<'a, F: FileAccess, I: Read, O: Write>(
-    system: &System<'_, F>,
+// A table that is asked for, of the source of a name.
+#[derive(Clone, Copy)]
+struct TableArguments<'a> {
     table: Table,
     source: &'a str,
     is_hex: bool,
+}
+
+// `list` and `syms`.
+fn tell<'a, F: FileAccess, I: Read, O: Write, E: Write>(
+    system: &System<'_, F>,
+    given: TableArguments<'a>,
     input: &mut Counted<I>,
     output: &mut Counted<O>,
+    errors: &mut E,
 ) -> Result<Ending, Failure<'a>>
     ensures { Tells I.remaining O.contents input.old input.new output.old output.new
-        (printed_table table is_hex) source.entry result }
+        (printed_table given.entry.table given.entry.is_hex) given.entry.source result }
 {
-    let bytes = read_source(system, source, input)?;
+    let bytes = read_source(system, given.source, input)?;
     match Source::open_bytes(system.alloc, bytes) {
         Ok(opened) => {
-            let answer = tabulate(system.alloc, table, &opened, is_hex);
+            let answer = tabulate(system.alloc, given.table, &opened, given.is_hex);
+            let ended = deliver(answer, output);
+            tell_faults(system, given.source, &opened, errors);
             // The program ends here, and its memory goes back at once.
             mem::forget(opened);
-            deliver(answer, output)
+            ended
         }
-        Err(error) => refuse_source(error, output),
+        Err(error) => {
+            let ended = refuse_source(error, output);
+            tell_unopened(system, given.source, error, errors);
+            ended
+        }
     }
 }
 
@@ -324,15 +400,22 @@ fn run<'a, F: FileAccess, I: Read, O: Write, E: Write>(
         source,
         keys,
         settings,
+        ..
     } = read_asked(system, arguments, input, errors)?;
     let opened = open_under(system.alloc, &source, &keys, settings)?;
     match opened {
         Ok(mut bench) => {
             let answer = run_at(system.alloc, &mut bench, arguments.steps);
+            let ended = deliver(answer, output);
+            tell_faults(system, arguments.source, bench.source(), errors);
             // The program ends here, and its memory goes back at once.
             mem::forget(bench);
-            deliver(answer, output)
+            ended
         }
-        Err(error) => refuse_source(error, output),
+        Err(error) => {
+            let ended = refuse_source(error, output);
+            tell_unopened(system, arguments.source, error, errors);
+            ended
+        }
     }
 }

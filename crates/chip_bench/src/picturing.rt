@@ -7,6 +7,7 @@ ghost use Rattle.chip_host.specs.Endings.{IsSomeWritten};
 
 use crate::opening::open_under;
 use crate::output::picture_at;
+use chip_analysis::{tell_faults, tell_unopened};
 use chip_arguments::PictureArguments;
 use chip_host::{
     AskedRun, Ending, Failure, FileAccess, System, deliver, file_name, read_asked, refuse_source,
@@ -31,16 +32,22 @@ pub(crate) fn picture<'a, F: FileAccess, I: Read, O: Write, E: Write>(
         source,
         keys,
         settings,
+        ..
     } = read_asked(system, &arguments.run, input, errors)?;
     let opened = open_under(system.alloc, &source, &keys, settings)?;
     match opened {
         Ok(mut bench) => {
             let ended = show(system, arguments, &mut bench, output);
+            tell_faults(system, arguments.run.source, bench.source(), errors);
             // The program ends here, and its memory goes back at once.
             mem::forget(bench);
             ended
         }
-        Err(error) => refuse_source(error, output),
+        Err(error) => {
+            let ended = refuse_source(error, output);
+            tell_unopened(system, arguments.run.source, error, errors);
+            ended
+        }
     }
 }
 

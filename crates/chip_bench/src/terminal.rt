@@ -4,6 +4,7 @@ ghost use Rattle.chip_bench.specs.Running.{AnswersScript};
 
 use crate::output::answer_script;
 use chip_asm::Source;
+use chip_check::unopened_report;
 use chip_host::{Ending, Failure};
 use chip_pages::{page_on, word_pages};
 use chip_session::{Bench, CommandFault, Counted, Nobody, Observer, Refusal, Refused, Settings};
@@ -41,7 +42,9 @@ pub(crate) fn answer_begun<'a, I: Read, O: Write, E: Write>(
             errors,
             name: begun.name,
         };
-        answer_script(alloc, begun.source, settings, input, output, &mut terminal)
+        let ended = answer_script(alloc, begun.source, settings, input, output, &mut terminal);
+        terminal.say_unopened(alloc, begun.source, &ended);
+        ended
     } else {
         answer_script(alloc, begun.source, settings, input, output, &mut Nobody)
     }
@@ -56,6 +59,12 @@ struct Terminal<'e, E> {
 
 impl<'e, E: Write> Observer for Terminal<'e, E> {
     fn opened(&mut self, bench: &Bench) {
+        if self.name.is_none() {
+            self.say(
+                "chipbench, a workbench for CHIP-8 games: `chipbench --help` lists its commands, \
+                 `chipbench-shell` is the shell for people, `chipbench-page` opens the page\n",
+            );
+        }
         self.say(self.name.unwrap_or("an empty source"));
         self.say(": ");
         self.say_lines(bench.source());
@@ -80,6 +89,9 @@ impl<'e, E: Write> Observer for Terminal<'e, E> {
         };
         let _ = write!(self.errors, "{code}: {}: ", page.title);
         match why {
+            Refused::Line(CommandFault::Unknown) if matches!(line, b"help" | b"quit" | b"exit") => {
+                self.say("`chipbench debug --help` lists the commands; Ctrl+D ends");
+            }
             // What would be right: the form of the command that the first word names, or else the words
             // that name one.
             Refused::Line(CommandFault::Unknown) => {
@@ -115,6 +127,19 @@ impl<'e, E: Write> Observer for Terminal<'e, E> {
 impl<'e, E: Write> Terminal<'e, E> {
     fn say(&mut self, text: &str) {
         let _ = self.errors.write_all(text.as_bytes());
+    }
+
+    // Why the source doesn't open, as `check` prints it: a session is faulty where it doesn't.
+    fn say_unopened(&mut self, alloc: Global, source: &[u8], ended: &Result<Ending, Failure<'_>>) {
+        if !matches!(ended, Ok(Ending::Faulty)) {
+            return;
+        }
+        let name = self.name.unwrap_or("");
+        if let Err(error) = Source::open(alloc, source)
+            && let Ok(report) = unopened_report(alloc, false, name.as_bytes(), error)
+        {
+            let _ = self.errors.write_all(&report);
+        }
     }
 
     // How many lines a source has.

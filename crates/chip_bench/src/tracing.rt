@@ -9,6 +9,7 @@ ghost use Rattle.chip_host.specs.declared.ending.Ending.TheVariants.{Done};
 
 use crate::opening::open_under;
 use crate::output::unanswered;
+use chip_analysis::{tell_faults, tell_unopened};
 use chip_arguments::TraceArguments;
 use chip_files::first_line;
 use chip_host::limits::TRACE_FILE_BYTES;
@@ -42,7 +43,7 @@ pub(crate) fn trace<'a, F: FileAccess, I: Read, O: Write, E: Write>(
     let Some(name) = arguments.against else {
         let columns = Columns::usual(system.alloc, arguments.sums)?;
         let shown = shown_by(arguments, columns);
-        return trace_source(system.alloc, asked, &shown, None, output);
+        return trace_source(system, asked, &shown, None, output, errors);
     };
     let trace = system.read_within(name, TRACE_FILE_BYTES)?;
     let (header, theirs) = split_header(&trace);
@@ -52,7 +53,7 @@ pub(crate) fn trace<'a, F: FileAccess, I: Read, O: Write, E: Write>(
                 form: Form::Fields,
                 ..shown_by(arguments, columns)
             };
-            trace_source(system.alloc, asked, &shown, Some(theirs), output)
+            trace_source(system, asked, &shown, Some(theirs), output, errors)
         }
         Err(HeaderError::OutOfMemory) => Err(Failure::OutOfMemory),
         Err(fault) => Err(Failure::BadTrace(name, fault)),
@@ -112,12 +113,13 @@ fn split_line(text: &[u8]) -> (&[u8], &[u8])
 }
 
 // Opens the session of a source, and shows the trace of its run.
-fn trace_source<'a, O: Write>(
-    alloc: Global,
+fn trace_source<'a, F: FileAccess, O: Write, E: Write>(
+    system: &System<'_, F>,
     asked: AskedRun<'a>,
     shown: &Shown,
     theirs: Option<&[u8]>,
     output: &mut Counted<O>,
+    errors: &mut E,
 ) -> Result<Ending, Failure<'a>>
     ensures { WithSession O.contents output.old output.new asked.entry.settings
         asked.entry.source.items asked.entry.keys.bytes.items
@@ -128,16 +130,22 @@ fn trace_source<'a, O: Write>(
         source,
         keys,
         settings,
+        name,
     } = asked;
-    let opened = open_under(alloc, &source, &keys, settings)?;
+    let opened = open_under(system.alloc, &source, &keys, settings)?;
     match opened {
         Ok(mut bench) => {
-            let ended = show(alloc, &mut bench, shown, theirs, output);
+            let ended = show(system.alloc, &mut bench, shown, theirs, output);
+            tell_faults(system, name, bench.source(), errors);
             // The program ends here, and its memory goes back at once.
             mem::forget(bench);
             ended
         }
-        Err(error) => refuse_source(error, output),
+        Err(error) => {
+            let ended = refuse_source(error, output);
+            tell_unopened(system, name, error, errors);
+            ended
+        }
     }
 }
 

@@ -35,13 +35,13 @@ returns-in-Ok g c =
 pub returns : goal.returns
 returns g c =
     let sets = c.in_ok-sets.sets in
-    let new = c.refuse_source.new.output in
+    let new = c.refuse_source-ended.new.output in
     let bytes = c.in_ok-source.source.items in
     explores_done g.I.Read.remaining g.O.Write.contents c.args.input.now c.read_given.new.input c.args.output.now new c.args.arguments.now
-    c.refuse_source.result c.in_ok-settings.settings sets.causes sets.keys c.in_ok-settings.ensures.ok c.in_ok-sets.ensures.ok.0 c.in_ok-sets.ensures.ok.1
+    c.refuse_source-ended.result c.in_ok-settings.settings sets.causes sets.keys c.in_ok-settings.ensures.ok c.in_ok-sets.ensures.ok.0 c.in_ok-sets.ensures.ok.1
     bytes c.in_ok-source.ensures.ok
-    (unopened_lines g.O.Write.contents c.args.output.now new bytes c.refuse_source.result
+    (unopened_lines g.O.Write.contents c.args.output.now new bytes c.refuse_source-ended.result
     (Searches g.O.Write.contents c.args.output.now new c.args.arguments.now c.in_ok-settings.settings sets.causes sets.keys)
-    c.in-Err.error c.in-Err.ensures.err c.refuse_source.ensures
+    c.in-Err.error c.in-Err.ensures.err c.refuse_source-ended.ensures
     (searches_short g.O.Write.contents c.args.output.now new c.args.arguments.now c.in_ok-settings.settings sets.causes sets.keys
-    (lines_of bytes) c.refuse_source.result))
+    (lines_of bytes) c.refuse_source-ended.result))

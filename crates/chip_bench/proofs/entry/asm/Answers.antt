@@ -28,12 +28,12 @@ returns-in-Ok-clause-written g c = λ done.
 
 pub returns-in-Err-clause-did : goal.returns-in-Err-clause-did
 returns-in-Err-clause-did g c =
-    of_unopened g.I.Read.remaining g.O.Write.contents c.args.input.now c.read_source.new.input c.args.output.now c.refuse_source.new.output c.args.source
-    c.in_ok-bytes.bytes.items c.refuse_source.result (λ lines. WritesBy g.O.Write.contents c.args.output.now c.refuse_source.new.output (ending_with (image_of lines)) (printed_faults lines) c.args.image)
-    c.in-Err.error c.in_ok-bytes.ensures.ok c.in-Err.ensures.err c.refuse_source.ensures
-    (writes_short g.O.Write.contents c.args.output.now c.refuse_source.new.output (ending_with (image_of (lines_of c.in_ok-bytes.bytes.items)))
-    (printed_faults (lines_of c.in_ok-bytes.bytes.items)) c.args.image c.refuse_source.result)
+    of_unopened g.I.Read.remaining g.O.Write.contents c.args.input.now c.read_source.new.input c.args.output.now c.refuse_source-ended.new.output c.args.source
+    c.in_ok-bytes.bytes.items c.refuse_source-ended.result (λ lines. WritesBy g.O.Write.contents c.args.output.now c.refuse_source-ended.new.output (ending_with (image_of lines)) (printed_faults lines) c.args.image)
+    c.in-Err.error c.in_ok-bytes.ensures.ok c.in-Err.ensures.err c.refuse_source-ended.ensures
+    (writes_short g.O.Write.contents c.args.output.now c.refuse_source-ended.new.output (ending_with (image_of (lines_of c.in_ok-bytes.bytes.items)))
+    (printed_faults (lines_of c.in_ok-bytes.bytes.items)) c.args.image c.refuse_source-ended.result)
 
 pub returns-in-Err-clause-written : goal.returns-in-Err-clause-written
 returns-in-Err-clause-written g c = λ done.
-    absurd (not_done g.O.Write.contents c.args.output.now c.refuse_source.new.output c.in-Err.error c.refuse_source.result c.refuse_source.ensures done)
+    absurd (not_done g.O.Write.contents c.args.output.now c.refuse_source-ended.new.output c.in-Err.error c.refuse_source-ended.result c.refuse_source-ended.ensures done)

@@ -8,7 +8,7 @@ returns-clause-session g c = λ none. record {
   did = c.carry_out-ended.ensures.session none;
   kept = c.flush-flushed.ensures.bytes;
   failures = rw c.is_ok.ensures.value c.flush-flushed.ensures.failures;
-  status_is = c.finish.ensures;
+  status_is = c.finish-status.ensures;
 }
 
 pub returns-clause-good : goal.returns-clause-good
@@ -19,7 +19,7 @@ returns-clause-good g c = λ none. record {
   did = c.carry_out-ended.ensures.good none;
   kept = c.flush-flushed.ensures.bytes;
   failures = rw c.is_ok.ensures.value c.flush-flushed.ensures.failures;
-  status_is = c.finish.ensures;
+  status_is = c.finish-status.ensures;
 }
 
 pub returns-clause-version : goal.returns-clause-version
@@ -30,7 +30,7 @@ returns-clause-version g c = λ asked. record {
   did = c.carry_out-ended.ensures.version asked;
   kept = c.flush-flushed.ensures.bytes;
   failures = rw c.is_ok.ensures.value c.flush-flushed.ensures.failures;
-  status_is = c.finish.ensures;
+  status_is = c.finish-status.ensures;
 }
 
 pub returns-clause-help : goal.returns-clause-help
@@ -41,5 +41,5 @@ returns-clause-help g c = λ asked. record {
   did = c.carry_out-ended.ensures.help asked;
   kept = c.flush-flushed.ensures.bytes;
   failures = rw c.is_ok.ensures.value c.flush-flushed.ensures.failures;
-  status_is = c.finish.ensures;
+  status_is = c.finish-status.ensures;
 }

@@ -26,16 +26,16 @@ pub returns-in-Ok : goal.returns-in-Ok
 returns-in-Ok g c =
     let asked = c.in_ok-source.field-0 in
     let is = rw (c.in-Ok.is, c.deref.ensures.value) at c.in_ok-opened.ensures.opened in
-    runs g.I.Read.remaining g.O.Write.contents c.args.input.now c.read_asked.new.input c.args.output.now c.deliver.new.output
-    c.args.arguments.now asked c.deliver.result c.in_ok-source.ensures.ok
-    (with_session g.O.Write.contents c.args.output.now c.deliver.new.output asked.settings asked.source.items asked.keys.bytes.items
-    (λ session. Prints g.O.Write.contents c.args.output.now c.deliver.new.output (printed_run session c.args.arguments.now.steps)) c.deliver.result c.in-Ok.bench.session is (c.deliver.ensures.wanted (printed_run c.in-Ok.bench.session c.args.arguments.now.steps) c.run_at-answer.ensures))
+    runs g.I.Read.remaining g.O.Write.contents c.args.input.now c.read_asked.new.input c.args.output.now c.deliver-ended.new.output
+    c.args.arguments.now asked c.deliver-ended.result c.in_ok-source.ensures.ok
+    (with_session g.O.Write.contents c.args.output.now c.deliver-ended.new.output asked.settings asked.source.items asked.keys.bytes.items
+    (λ session. Prints g.O.Write.contents c.args.output.now c.deliver-ended.new.output (printed_run session c.args.arguments.now.steps)) c.deliver-ended.result c.in-Ok.bench.session is (c.deliver-ended.ensures.wanted (printed_run c.in-Ok.bench.session c.args.arguments.now.steps) c.run_at-answer.ensures))
 
 pub returns : goal.returns
 returns g c =
     let asked = c.in_ok-source.field-0 in
     let is = rw (c.in-Err.is, c.deref.ensures.value) at c.in_ok-opened.ensures.unopened in
-    runs g.I.Read.remaining g.O.Write.contents c.args.input.now c.read_asked.new.input c.args.output.now c.refuse_source.new.output
-    c.args.arguments.now asked c.refuse_source.result c.in_ok-source.ensures.ok
-    (without_session g.O.Write.contents c.args.output.now c.refuse_source.new.output asked.settings asked.source.items asked.keys.bytes.items
-    (λ session. Prints g.O.Write.contents c.args.output.now c.refuse_source.new.output (printed_run session c.args.arguments.now.steps)) c.refuse_source.result c.in-Err.error is c.refuse_source.ensures)
+    runs g.I.Read.remaining g.O.Write.contents c.args.input.now c.read_asked.new.input c.args.output.now c.refuse_source-ended.new.output
+    c.args.arguments.now asked c.refuse_source-ended.result c.in_ok-source.ensures.ok
+    (without_session g.O.Write.contents c.args.output.now c.refuse_source-ended.new.output asked.settings asked.source.items asked.keys.bytes.items
+    (λ session. Prints g.O.Write.contents c.args.output.now c.refuse_source-ended.new.output (printed_run session c.args.arguments.now.steps)) c.refuse_source-ended.result c.in-Err.error is c.refuse_source-ended.ensures)

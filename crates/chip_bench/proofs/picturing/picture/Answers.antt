@@ -33,7 +33,7 @@ pub returns : goal.returns
 returns g c =
     let asked = c.in_ok-source.field-0 in
     let is = rw (c.in-Err.is, c.deref.ensures.value) at c.in_ok-opened.ensures.unopened in
-    pictures g.I.Read.remaining g.O.Write.contents c.args.input.now c.read_asked.new.input c.args.output.now c.refuse_source.new.output
-    c.args.arguments.now c.refuse_source.result asked c.in_ok-source.ensures.ok
-    (without_session g.O.Write.contents c.args.output.now c.refuse_source.new.output asked.settings asked.source.items asked.keys.bytes.items
-    (Pictured g.O.Write.contents c.args.output.now c.refuse_source.new.output c.args.arguments.now) c.refuse_source.result c.in-Err.error is c.refuse_source.ensures)
+    pictures g.I.Read.remaining g.O.Write.contents c.args.input.now c.read_asked.new.input c.args.output.now c.refuse_source-ended.new.output
+    c.args.arguments.now c.refuse_source-ended.result asked c.in_ok-source.ensures.ok
+    (without_session g.O.Write.contents c.args.output.now c.refuse_source-ended.new.output asked.settings asked.source.items asked.keys.bytes.items
+    (Pictured g.O.Write.contents c.args.output.now c.refuse_source-ended.new.output c.args.arguments.now) c.refuse_source-ended.result c.in-Err.error is c.refuse_source-ended.ensures)

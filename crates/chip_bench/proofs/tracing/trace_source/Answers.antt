@@ -25,5 +25,5 @@ pub returns : goal.returns
 returns g c =
     let asked = c.args.asked in
     let is = rw (c.in-Err.is, c.deref.ensures.value) at c.in_ok-opened.ensures.unopened in
-    without_session g.O.Write.contents c.args.output.now c.refuse_source.new.output asked.settings asked.source.items asked.keys.bytes.items
-    (ShowsTrace g.O.Write.contents c.args.output.now c.refuse_source.new.output c.args.shown.now (option_map lines (option_copied c.args.theirs))) c.refuse_source.result c.in-Err.error is c.refuse_source.ensures
+    without_session g.O.Write.contents c.args.output.now c.refuse_source-ended.new.output asked.settings asked.source.items asked.keys.bytes.items
+    (ShowsTrace g.O.Write.contents c.args.output.now c.refuse_source-ended.new.output c.args.shown.now (option_map lines (option_copied c.args.theirs))) c.refuse_source-ended.result c.in-Err.error is c.refuse_source-ended.ensures

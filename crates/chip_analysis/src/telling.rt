@@ -1,0 +1,66 @@
+//! What is said on standard error, where somebody reads it, of a source that has no image.
+
+use chip_asm::{OpenError, Source};
+use chip_check::{fault_text, unopened_report};
+use chip_host::System;
+use std::io::Write;
+
+/// Tells the first fault of a source, as `check` prints it, and how many faults there are; nothing of a
+/// source without faults. Where standard error fails, or memory runs out, it is left out.
+pub fn tell_faults<F, E: Write>(
+    system: &System<'_, F>,
+    name: &str,
+    source: &Source,
+    errors: &mut E,
+) {
+    if !system.host.has_reader {
+        return;
+    }
+    let (first, count) = faulty_lines(source);
+    let Some(number) = first else {
+        return;
+    };
+    let Ok(report) = fault_text(system.alloc, name.as_bytes(), source, number) else {
+        return;
+    };
+    let _ = errors.write_all(&report);
+    let _ = match count {
+        1 => writeln!(
+            errors,
+            "the only fault; `chipbench check {name}` shows faults and warnings"
+        ),
+        _ => writeln!(
+            errors,
+            "the first of {count} faults; `chipbench check {name}` shows all faults"
+        ),
+    };
+}
+
+// The first line with a fault, and how many have one.
+fn faulty_lines(source: &Source) -> (Option<usize>, usize) {
+    let mut first = None;
+    let mut count = 0_usize;
+    for number in 1..=source.lines() {
+        if source.fault(number).is_some() {
+            first = first.or(Some(number));
+            count = count.saturating_add(1);
+        }
+    }
+    (first, count)
+}
+
+/// Tells why a source doesn't open, as `check` prints it. Where standard error fails, or memory runs
+/// out, it is left out.
+pub fn tell_unopened<F, E: Write>(
+    system: &System<'_, F>,
+    name: &str,
+    error: OpenError,
+    errors: &mut E,
+) {
+    if !system.host.has_reader {
+        return;
+    }
+    if let Ok(report) = unopened_report(system.alloc, false, name.as_bytes(), error) {
+        let _ = errors.write_all(&report);
+    }
+}

@@ -1,0 +1,112 @@
+"""Commands on a source that has faults, or doesn't open, tell them on standard error where that is a terminal.
+
+Standard output has the same bytes as over a pipe, where nothing is told. The sentences are written by hand.
+"""
+import os
+import pathlib
+import pty
+import subprocess
+import tempfile
+
+FILES = {
+    "one.asm": b"LD V0, 5\nJP STRAT\n",
+    "more.asm": b"CLS\nLD V0, 5, 6\nJP STRAT\nFOO\n",
+    "good.asm": b"LOOP: JP LOOP\n",
+    "long.asm": b"CLS\n" + b";" * 201 + b"\n",
+    "many.asm": b"\n" * 4001,
+    "game.ch8": b"\x12\x00",
+}
+ONE = (
+    "one.asm:2:4: F9: undefined name\nJP STRAT\n   ^~~~~\n"
+    "help: no line gives STRAT a value, as STRAT: or STRAT EQU 5 would\n"
+    "the only fault; `chipbench check one.asm` shows faults and warnings\n"
+)
+MORE = ("more.asm:2:4: F4: the operands fit no form of LD\nLD V0, 5, 6\n   ^~~~~~~~\n", "the first of 3 faults; `chipbench check more.asm` shows all faults\n")
+LONG = (
+    "long.asm:2:201: O1: line too long (at most 200 bytes)\n"
+    "help: split the data over two lines, with ALIGN OFF above them where it must stay together, or shorten the comment\n"
+)
+MANY = (
+    "many.asm:4001:1: O2: too many lines (at most 4000)\n"
+    "help: put more values on each line of data, or remove empty lines and comments\n"
+)
+# The words of each command after the name of the source.
+COMMANDS = {
+    "asm": ["out.ch8"],
+    "list": [],
+    "list --hex": [],
+    "syms": [],
+    "run": ["--steps", "1"],
+    "picture": ["--steps", "1"],
+    "trace": ["--steps", "1"],
+    "explore": ["--steps", "1"],
+}
+
+
+def ran(program, words, folder, is_terminal, is_typed=False):
+    """The status, standard output, and what standard error has, which is a terminal or a pipe. The input may be the terminal too."""
+    if not is_terminal:
+        done = subprocess.run([program.file, *words], cwd=folder, stdin=subprocess.DEVNULL, capture_output=True, check=False)
+        return done.returncode, done.stdout, done.stderr.decode()
+    ours, its = pty.openpty()
+    try:
+        typed = its if is_typed else subprocess.DEVNULL
+        done = subprocess.run([program.file, *words], cwd=folder, stdin=typed, stdout=subprocess.PIPE, stderr=its, check=False)
+        # a mark at the end, since a read of nothing would wait
+        os.write(its, b"\x00")
+        found = b""
+        while not found.endswith(b"\x00"):
+            found += os.read(ours, 4096)
+    finally:
+        os.close(its)
+        os.close(ours)
+    return done.returncode, done.stdout, found.removesuffix(b"\x00").replace(b"\r\n", b"\n").decode()
+
+
+def wrong_telling(program, command, name, is_right):
+    """What is wrong with what a command tells of a source."""
+    first, *options = command.split()
+    words = [first, name, *options, *COMMANDS[command]]
+    with tempfile.TemporaryDirectory() as folder:
+        for each, content in FILES.items():
+            pathlib.Path(folder, each).write_bytes(content)
+        status, output, told = ran(program, words, folder, True)
+        status_over_pipe, output_over_pipe, told_over_pipe = ran(program, words, folder, False)
+    if (status, output, told_over_pipe) != (status_over_pipe, output_over_pipe, ""):
+        return f"{words}: {status} {output!r} at a terminal, {status_over_pipe} {output_over_pipe!r} {told_over_pipe!r} over a pipe"
+    return "" if is_right(told) else f"{words}: standard error has {told!r}"
+
+
+def wrong_image(program):
+    """An image has no faults."""
+    with tempfile.TemporaryDirectory() as folder:
+        pathlib.Path(folder, "game.ch8").write_bytes(FILES["game.ch8"])
+        told = ran(program, ["run", "--image", "game.ch8", "--steps", "1"], folder, True)[2]
+    return "" if told == "" else f"standard error has {told!r}"
+
+
+def wrong_debug(program, options, is_typed, wanted):
+    """`debug` tells the one who types."""
+    with tempfile.TemporaryDirectory() as folder:
+        pathlib.Path(folder, "long.asm").write_bytes(FILES["long.asm"])
+        found = ran(program, ["debug", *options, "long.asm"], folder, True, is_typed)
+    return "" if found == (1, b"no O1\n", wanted) else f"{found!r}"
+
+
+def is_of_more(told):
+    """The first fault alone is reported."""
+    first, last = MORE
+    return told.startswith(first) and told.endswith(last) and told.count("more.asm:") == 1 and "\x1b" not in told
+
+
+def checks(program):
+    for command in COMMANDS:
+        yield f"{command}, one fault", lambda command=command: wrong_telling(program, command, "one.asm", lambda told: told == ONE)
+        yield f"{command}, some faults", lambda command=command: wrong_telling(program, command, "more.asm", is_of_more)
+        yield f"{command}, no fault", lambda command=command: wrong_telling(program, command, "good.asm", lambda told: told == "")
+        yield f"{command}, a long line", lambda command=command: wrong_telling(program, command, "long.asm", lambda told: told == LONG)
+        yield f"{command}, many lines", lambda command=command: wrong_telling(program, command, "many.asm", lambda told: told == MANY)
+    yield "an image", lambda: wrong_image(program)
+    yield "debug, typed", lambda: wrong_debug(program, [], True, LONG)
+    yield "debug, not typed", lambda: wrong_debug(program, [], False, "")
+    yield "debug, typed, --quiet", lambda: wrong_debug(program, ["--quiet"], True, "")
