@@ -2,7 +2,8 @@
 
 The programs store into their own code, call, skip and stop. The answers are computed with the machine of
 tests/trace/emulator.py: a state for each way that the keys can go, and equal states at the same step taken as one. Each
-script that is found is replayed by it. What `--cover` marks is compared with the addresses at which those states make steps.
+script that is found is replayed by it, and leads to the address that the answer names. What `--cover` marks is compared with the
+addresses at which those states make steps.
 
 In the first 150 the lines to which `check --cover` gives W8 are the instructions that `explore --cover` doesn't mark where it looks
 for nothing that is met, but for those that have W3.
@@ -33,6 +34,8 @@ FEW_STATES = 10
 # how many programs are checked for warnings, and an address at which none makes a step
 WARNED_PROGRAMS = 150
 NOWHERE = "#FFF"
+# what an answer says, its step, where the program is then, and the text of the word there
+PLACED = re.compile(r"((?:S\d|broken) (\d+)), ([0-9a-f]{4})(: \S.*)?")
 # a program with more states at one step is left out
 MOST_STATES = 300
 
@@ -135,15 +138,34 @@ def searched(code):
     return first, made
 
 
+def events_of(lines):
+    """The key events of the lines of a file."""
+    return sorted((int(line.split()[0]), int(line.split()[1]), line.split()[2] == "down") for line in lines)
+
+
 def replayed(code, lines, step):
     """The number of the cause for which the program has stopped at a step, with the keys of a file, and at no earlier one."""
-    events = sorted((int(line.split()[0]), int(line.split()[1]), line.split()[2] == "down") for line in lines)
+    events = events_of(lines)
     machine = EMULATED.Machine(code, QUIRKS, bytes.fromhex(TAPE), None)
     for number in range(step):
         if machine.stopped:
             return None
         machine.step(EMULATED.held(events, number), (number + 1) % RATE == 0)
     return cause(machine) if machine.stopped else None
+
+
+def without_place(line, code, lines):
+    """An answer before its comma, if the address behind that is where the program is then, with the keys of a file."""
+    told = PLACED.fullmatch(line)
+    if told is None:
+        return line
+    events = events_of(lines)
+    machine = EMULATED.Machine(code, QUIRKS, bytes.fromhex(TAPE), None)
+    for number in range(int(told[2])):
+        machine.step(EMULATED.held(events, number), (number + 1) % RATE == 0)
+    # The word at the last address isn't whole.
+    is_right = int(told[3], 16) == machine.pc and (told[4] is not None) == (machine.pc < 0xFFF)
+    return told[1] if is_right else f"{line}, and it is at {machine.pc:04x}"
 
 
 def asked(program, code, folder, *options):
@@ -155,6 +177,7 @@ def asked(program, code, folder, *options):
     ran = program.run(["explore", "--image", "image", "--steps", str(STEPS), *settings, "--keys-to", "keys", *options], b"", folder)
     lines = [line for line in keys.read_text(encoding="utf-8").splitlines() if line[:1].isdigit()] if keys.exists() else []
     answer = ran.stdout.decode().splitlines()
+    answer[:1] = [without_place(line, code, lines) for line in answer[:1]]
     below = next((place + 1 for place, line in enumerate(answer) if line.startswith("states ")), len(answer))
     return answer[:below], answer[below:], lines
 

@@ -214,7 +214,7 @@ covering_text is_covering executed lines =
 
 -- What is printed of what a search found: those lines, others of which no contract speaks (the
 -- other causes that it met, and how many states it kept), and the listing. No contract says which
--- place of the source stands behind the step.
+-- place of the source or of the image stands behind the step.
 pub record IsSearchPrinted (arguments : ExploreArguments) (lines : List (List ℕ))
     (explored : Explored) (wanted : Printed) : Type 0 where
   pub place : List ℕ

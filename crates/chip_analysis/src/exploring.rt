@@ -8,7 +8,7 @@ ghost use Rattle.chip_analysis.specs.Exploring.{AsksProperty, StatesOne, address
 
 use crate::progress::{News, Progress, Teller};
 use crate::sets::{Sets, sets_of};
-use crate::stop_place::place_text;
+use crate::stop_place::{place_text, word_text};
 use crate::telling::{tell_faults, tell_unopened};
 use chip_arguments::{ExploreArguments, SearchArguments};
 use chip_asm::Source;
@@ -263,7 +263,7 @@ impl<'p, 'a> Search<'p, 'a> {
         let bounds = bounds_of(&arguments.search, ticks);
         let explored = chip_explore::explore(system.alloc, start, question, &bounds, teller);
         let place = if arguments.is_image {
-            Vec::new(system.alloc)
+            word_text(system.alloc, start, question.rate, &explored.outcome)?
         } else {
             place_text(
                 system.alloc,

@@ -1,12 +1,12 @@
-//! Where in a source a search found what it looked for.
+//! Where in a source or in an image a search found what it looked for.
 ghost use Rattle.std.specs.Prelude.{◌<◌};
 
 use chip_asm::{LineView, Source};
 use chip_explore::{KeyEvent, Met, Outcome};
-use chip_lang::Kind;
+use chip_lang::{Kind, push_shown};
 use chip_machine::Machine;
 use chip_replay::{AtError, KeyFault, LEAST_SPACING, Replay};
-use chip_trace::push_decimal;
+use chip_trace::{push_decimal, word_digits};
 use std::alloc::{AllocError, Global};
 
 /// What is printed after the step at which a machine stopped or broke a property: a comma, and the
@@ -21,27 +21,14 @@ pub(crate) fn place_text(
     requires rate { 0 < rate }
 {
     let mut text = Vec::new(alloc);
-    let (Outcome::Found { events, step, met }
-    | Outcome::Later {
-        events,
-        step,
-        met,
-        ..
-    }) = outcome
-    else {
-        return Ok(text);
-    };
-    if let Met::Address = met {
-        return Ok(text);
-    }
-    let Some(address) = address_at(alloc, start, rate, events, *step)? else {
+    let Some(met) = place_met(alloc, start, rate, outcome)? else {
         return Ok(text);
     };
     for number in 1..=source.lines() {
         if let Some(line) = source.line(number)
             && line.is_active()
             && line.size() > 0
-            && line.address() == address as usize
+            && line.address() == met.address as usize
         {
             text.extend_from_slice(b", line ")?;
             push_decimal(&mut text, number as u64)?;
@@ -53,14 +40,71 @@ pub(crate) fn place_text(
     Ok(text)
 }
 
-// The value of pc at a step under some events, if there is such a step.
-fn address_at(
+/// What is printed after that step where an image was searched: a comma, the value of pc, and the
+/// source text of the word there, if a whole one is.
+pub(crate) fn word_text(
+    alloc: Global,
+    start: &Machine,
+    rate: u32,
+    outcome: &Outcome,
+) -> Result<Vec<u8>, AllocError>
+    requires rate { 0 < rate }
+{
+    let mut text = Vec::new(alloc);
+    let Some(met) = place_met(alloc, start, rate, outcome)? else {
+        return Ok(text);
+    };
+    text.extend_from_slice(b", ")?;
+    text.extend_from_slice(&word_digits(met.address))?;
+    if let Some(word) = met.word {
+        text.extend_from_slice(b": ")?;
+        push_shown(&mut text, word)?;
+    }
+    Ok(text)
+}
+
+// Where a machine is.
+#[derive(Clone, Copy)]
+struct Place {
+    // The value of pc.
+    address: u16,
+    // The word there, which the end of the memory may cut off.
+    word: Option<u16>,
+}
+
+// Where a machine stopped or broke a property. An address that was looked for is no news.
+fn place_met(
+    alloc: Global,
+    start: &Machine,
+    rate: u32,
+    outcome: &Outcome,
+) -> Result<Option<Place>, AllocError>
+    requires rate { 0 < rate }
+{
+    match outcome {
+        Outcome::Found {
+            met: Met::Address,
+            ..
+        }
+        | Outcome::Later {
+            met: Met::Address,
+            ..
+        } => Ok(None),
+        Outcome::Found { events, step, .. } | Outcome::Later { events, step, .. } => {
+            place_at(alloc, start, rate, events, *step)
+        }
+        Outcome::Within(_) | Outcome::Never => Ok(None),
+    }
+}
+
+// Where a machine is at a step under some events, if there is such a step.
+fn place_at(
     alloc: Global,
     start: &Machine,
     rate: u32,
     events: &[KeyEvent],
     step: u32,
-) -> Result<Option<u16>, AllocError>
+) -> Result<Option<Place>, AllocError>
     requires rate { 0 < rate }
 {
     let mut replay = Replay::new(alloc, start.copy_of()?, rate, LEAST_SPACING)?;
@@ -72,9 +116,22 @@ fn address_at(
         }
     }
     match replay.at(step) {
-        Ok(machine) => Ok(Some(machine.pc())),
+        Ok(machine) => Ok(Some(Place {
+            address: machine.pc(),
+            word: word_at(machine.memory(), machine.pc()),
+        })),
         Err(AtError::OutOfMemory) => Err(AllocError),
         Err(AtError::StepTooLarge) => Ok(None),
+    }
+}
+
+// The word at an address, if both its bytes are in the memory.
+fn word_at(memory: &[u8], address: u16) -> Option<u16> {
+    let at = usize::from(address);
+    if at + 1 < memory.len() {
+        Some(u16::from(memory[at]) * 256 + u16::from(memory[at + 1]))
+    } else {
+        None
     }
 }
 
