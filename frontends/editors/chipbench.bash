@@ -2,7 +2,7 @@
 _chipbench() {
     local word=${COMP_WORDS[COMP_CWORD]} before=${COMP_WORDS[COMP_CWORD-1]} options=
     if [ "$COMP_CWORD" -eq 1 ]; then
-        COMPREPLY=($(compgen -W "debug asm list syms dis run trace picture check test explore prove explain help --help --version" -- "$word"))
+        COMPREPLY=($(compgen -W "debug asm list syms dis run trace picture check test explore prove explain licences help --help --version" -- "$word"))
         return
     fi
     case $before in
@@ -14,7 +14,7 @@ _chipbench() {
     case ${COMP_WORDS[1]} in
         debug) options="--rate --tape --seed --profile --quirks --every --image --quiet --help" ;;
         asm) options=" --help" ;;
-        list) options="--hex --help" ;;
+        list) options="--hex --image --help" ;;
         syms) options="--hex --help" ;;
         dis) options=" --help" ;;
         run) options="--steps --rate --tape --seed --profile --quirks --keys --image --help" ;;
@@ -25,6 +25,7 @@ _chipbench() {
         explore) options="--steps --states --deep --any-speed --keys-allowed --keys-to --progress --rate --tape --seed --profile --quirks --image --want --reach --never --always --cover --help" ;;
         prove) options="--steps --states --deep --any-speed --keys-allowed --keys-to --progress --rate --tape --seed --profile --quirks --only --seconds --json --help" ;;
         explain) options=" --help" ;;
+        licences) options=" --help" ;;
     esac
     case $word in
         -*) COMPREPLY=($(compgen -W "$options" -- "$word")) ;;

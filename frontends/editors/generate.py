@@ -206,7 +206,7 @@ def zsh(words):
             continue
         rest = ["'*:file:_files'"] if command.places else []
         rest += zsh_options(command.options)
-        lines.append("            _arguments " + " \\\n                ".join(rest) + " ;;")
+        lines.append("            " + ("_arguments " + " \\\n                ".join(rest) if rest else "_message 'no arguments'") + " ;;")
     lines += ["    esac", "}", "", '_chipbench "$@"', ""]
     return "\n".join(lines)
 

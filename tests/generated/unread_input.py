@@ -9,6 +9,7 @@ INPUT = b"LD V1, 7\nimage\n" * 400
 COMMANDS = {
     "asm": ["asm", "a.asm", "image"],
     "list": ["list", "a.asm"],
+    "list --image": ["list", "--image", "a.ch8"],
     "syms": ["syms", "a.asm"],
     "check": ["check", "a.asm"],
     "run": ["run", "a.asm", "--steps", "3"],
@@ -17,6 +18,7 @@ COMMANDS = {
     "explore": ["explore", "a.asm", "--want", "S1"],
     "explain": ["explain"],
     "explain S3": ["explain", "S3"],
+    "licences": ["licences"],
     "--help": ["--help"],
     "help run": ["help", "run"],
     "debug --help": ["debug", "--help"],

@@ -7,12 +7,12 @@ use Rattle.chip_arguments.specs.inner.Built.{command_names}
 use Rattle.clap.specs.declared.error.kind.ErrorKind.TheVariants as kind
 use Rattle.clap.proofs.OnLiterals.{clap_on_literals}
 use Rattle.std.specs.Prelude.{⊤}
-use Rattle.chip_arguments.specs.CommandLine.{asm, check, chipbench, debug, dis, explain, explore, list, picture, prove, run, syms, test, trace, with_search, with_settings, with_steps}
+use Rattle.chip_arguments.specs.CommandLine.{asm, check, chipbench, debug, dis, explain, explore, licences, list, picture, prove, run, syms, test, trace, with_search, with_settings, with_steps}
 use Rattle.chip_arguments.proofs.ArgumentRules.{argument_rules}
 
 -- what is unfolded to judge arguments that are written out
 unfoldable pub chipbench_on_literals : ⊤
-unfolding clap_on_literals argument_rules asm check chipbench debug dis explain explore list picture prove run syms test trace with_search with_settings with_steps
+unfolding clap_on_literals argument_rules asm check chipbench debug dis explain explore licences list picture prove run syms test trace with_search with_settings with_steps
 chipbench_on_literals = tt
 
 pub is_exact : is_simple_and_free chipbench ≡ true

@@ -225,9 +225,9 @@ abbrev pub Asks : List ℕ → List Row → CommandLine → Type 0
 Asks name rows (line.Asm source image) =
     (name ≡ codes "asm") × (source.now ≡ needed (codes "source") rows)
     × (image.now ≡ needed (codes "output") rows)
-Asks name rows (line.List source is_hex) =
+Asks name rows (line.List source is_image is_hex) =
     (name ≡ codes "list") × (source.now ≡ needed (codes "source") rows)
-    × AsksFlag (one_of (codes "hex") rows) is_hex
+    × AsksFlag (one_of (codes "image") rows) is_image × AsksFlag (one_of (codes "hex") rows) is_hex
 Asks name rows (line.Syms source is_hex) =
     (name ≡ codes "syms") × (source.now ≡ needed (codes "source") rows)
     × AsksFlag (one_of (codes "hex") rows) is_hex
@@ -241,6 +241,7 @@ Asks name rows (line.Explore arguments) = (name ≡ codes "explore") × AsksExpl
 Asks name rows (line.Prove arguments) = (name ≡ codes "prove") × AsksProve rows arguments
 Asks name rows (line.Explain code) =
     (name ≡ codes "explain") × (option_copied code ≡ first_of (codes "code") rows)
+Asks name rows line.Licences = name ≡ codes "licences"
 Asks name rows (line.Debug source is_image is_quiet settings) =
     (name ≡ codes "debug")
     × (option_copied source ≡ first_of (codes "source") rows)

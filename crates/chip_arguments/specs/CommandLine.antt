@@ -85,7 +85,7 @@ unfoldable pub hex : Rule
 hex = flag (codes "hex")
 
 unfoldable pub list : App
-list = with_rule (with_rule (new_app (codes "list")) needed_source) hex
+list = with_rule (with_rule (with_rule (new_app (codes "list")) needed_source) hex) as_image
 
 unfoldable pub syms : App
 syms = with_rule (with_rule (new_app (codes "syms")) needed_source) hex
@@ -237,6 +237,9 @@ prove =
 unfoldable pub explain : App
 explain = with_rule (new_app (codes "explain")) code
 
+unfoldable pub licences : App
+licences = new_app (codes "licences")
+
 abbrev pub without_name : App → App
 without_name app = record app { top = record app.top { no_binary_name = true } }
 
@@ -253,4 +256,4 @@ unfoldable pub chipbench : App
 chipbench =
     with_commands (without_name (with_version (new_app (codes "chipbench"))))
     (debug ∷ asm ∷ list ∷ syms ∷ dis ∷ run ∷ trace ∷ picture ∷ check ∷ test ∷ explore
-    ∷ prove ∷ explain ∷ [])
+    ∷ prove ∷ explain ∷ licences ∷ [])

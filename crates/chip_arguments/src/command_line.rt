@@ -60,6 +60,8 @@ pub enum CommandLine<'a> {
     /// To print the listing of a source.
     List {
         source: &'a str,
+        /// Whether the source is given as an image.
+        is_image: bool,
         /// Whether values are hexadecimal.
         is_hex: bool,
     },
@@ -91,6 +93,8 @@ pub enum CommandLine<'a> {
     Explain {
         code: Option<&'a str>,
     },
+    /// To print the licences of the program and of what is linked into it.
+    Licences,
 }
 
 /// A check, as the arguments ask for it.
@@ -296,6 +300,7 @@ fn command_asked<'a>(
         }),
         "list" => Ok(CommandLine::List {
             source: required_text(found, "source"),
+            is_image: is_set(found, "image"),
             is_hex: is_set(found, "hex"),
         }),
         "syms" => Ok(CommandLine::Syms {
@@ -315,6 +320,7 @@ fn command_asked<'a>(
         "explain" => Ok(CommandLine::Explain {
             code: value(found, "code"),
         }),
+        "licences" => Ok(CommandLine::Licences),
         _ => Ok(CommandLine::Debug {
             source: value(found, "source"),
             is_image: is_set(found, "image"),

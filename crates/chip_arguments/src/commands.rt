@@ -115,7 +115,7 @@ pub(crate) struct CommandRow {
 }
 
 // The commands, in the order of the help.
-const COMMANDS: [CommandRow; 13] = [
+const COMMANDS: [CommandRow; 14] = [
     CommandRow {
         name: "debug",
         about: "Answers the edits and questions on standard input, one a line",
@@ -142,7 +142,7 @@ const COMMANDS: [CommandRow; 13] = [
         name: "list",
         about: "Prints the listing of a source",
         notes: "Example: chipbench list game.asm",
-        arguments: &[Argument::NeededSource, Argument::Hex],
+        arguments: &[Argument::NeededSource, Argument::Hex, Argument::AsImage],
     },
     CommandRow {
         name: "syms",
@@ -287,6 +287,12 @@ const COMMANDS: [CommandRow; 13] = [
         about: "Prints what a code or a command of `debug` means, with an example",
         notes: "Example: chipbench explain F9",
         arguments: &[Argument::Code],
+    },
+    CommandRow {
+        name: "licences",
+        about: "Prints the licences of the program and of what is linked into it",
+        notes: "Example: chipbench licences",
+        arguments: &[],
     },
 ];
 

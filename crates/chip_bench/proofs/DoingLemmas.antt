@@ -4,8 +4,8 @@ use Rattle.std.specs.Prelude.{MatchOption}
 use Rattle.std.specs.Borrow.{Bor}
 use Rattle.chip_asm.specs.Lines.{lines_of, open_fault}
 use Rattle.chip_asm.specs.Program.{image_of}
-use Rattle.chip_host.specs.Reading.{AsSource, Declined, IsImageRefused, IsSourceUnread, IsAsked, IsNotTaken, IsTaken, IsUnasked}
-use Rattle.chip_bench.specs.Doing.{Assembles, Debugs, Does, IsExplanation, IsUnexplained, Pictures, PicturesBy, Runs, Tells, Traces, TracesBy, WritesBy}
+use Rattle.chip_host.specs.Reading.{AsSource, Declined, IsImageRefused, IsSourceUnread, IsAsked, IsGiven, IsNotGiven, IsNotTaken, IsTaken, IsUnasked}
+use Rattle.chip_bench.specs.Doing.{Assembles, Debugs, Does, IsExplanation, IsUnexplained, Pictures, PicturesBy, PrintsTable, Runs, Tells, Traces, TracesBy, WritesBy}
 use Rattle.chip_host.specs.Endings.{IsUnsettled, Outcome}
 use Rattle.chip_pages.specs.Pages.{IsExplained}
 use Rattle.chip_host.specs.Printing.{IfOpens, Printed, Prints, ending_with, printed, printed_faults}
@@ -26,7 +26,7 @@ use Rattle.chip_host.specs.declared.ending.Failure.TheVariants as failure
 use Rattle.chip_host.specs.declared.reading.AskedRun.{AskedRun}
 use Rattle.chip_session.specs.declared.server.ServeError.TheVariants as fault
 use Rattle.chip_bench.proofs.RunningLemmas.{stays_put}
-use Rattle.chip_host.proofs.ReadingLemmas.{Unsettles, fails, unsettles, source_unread, asked_then, asked_not}
+use Rattle.chip_host.proofs.ReadingLemmas.{Unsettles, fails, given_else, given_then, unsettles, source_unread, asked_then, asked_not}
 use Rattle.chip_host.proofs.OpenedLemmas.{refused}
 
 module _ {R W : Type 0} (remaining : R → Option (List ℕ)) (contents : W → Option (List ℕ)) (in_old in_new : Tally R) (out_old out_new : Tally W) where
@@ -96,11 +96,10 @@ three_parts t₀ t₁ t₂ t₃ a b c d e₀ e₁ e₂ e e₃ =
 
 module _ {R W : Type 0} (remaining : R → Option (List ℕ)) (contents : W → Option (List ℕ)) (in_old in_new : Tally R) (output : Tally W) where
   -- the source can't be read
-  pub tells_not : (printed_by : List (List ℕ) → Printed) (source : Bor (List ℕ)) (ended : Outcome) (why : Failure) → ended ≡ Err why →
-      IsSourceUnread in_old in_new source why → Tells remaining contents in_old in_new output output printed_by source ended
-  tells_not printed_by source ended why e w =
-      source_unread remaining in_old in_new (output ≡ output) refl source
-      (λ bytes. IfOpens contents output output (open_fault bytes) (Prints contents output output (printed_by (lines_of bytes)))) ended why e w
+  pub tells_not : (printed_by : List (List ℕ) → Printed) (is_image : Bool) (source : Bor (List ℕ)) (ended : Outcome) (why : Failure) → ended ≡ Err why →
+      IsNotGiven remaining in_old in_new is_image source why → Tells remaining contents in_old in_new output output printed_by is_image source ended
+  tells_not printed_by is_image source ended why e w =
+      given_else remaining in_old in_new (output ≡ output) is_image source (PrintsTable contents output output printed_by) ended refl why e w
 
   pub assembles_unread : (source name : Bor (List ℕ)) (ended : Outcome) (why : Failure) → ended ≡ Err why → IsSourceUnread in_old in_new source why →
       Assembles remaining contents in_old in_new output output source name ended
@@ -116,6 +115,12 @@ module _ {R W : Type 0} (remaining : R → Option (List ℕ)) (contents : W → 
       (λ settings keys source. WithSession contents output output settings source keys (λ session. Prints contents output output (printed_run session arguments.steps))) ended refl why e is
 
 module _ {R W : Type 0} (remaining : R → Option (List ℕ)) (contents : W → Option (List ℕ)) (in_old in_new : Tally R) (old new : Tally W) where
+  pub tells : (printed_by : List (List ℕ) → Printed) (is_image : Bool) (source : Bor (List ℕ)) (bytes : List ℕ) (ended : Outcome) →
+      IsGiven remaining in_old in_new is_image source bytes → PrintsTable contents old new printed_by bytes ended →
+      Tells remaining contents in_old in_new old new printed_by is_image source ended
+  tells printed_by is_image source bytes ended given did =
+      given_then remaining in_old in_new (new ≡ old) is_image source (PrintsTable contents old new printed_by) ended bytes given did
+
   pub runs : (arguments : RunArguments) (asked : AskedRun) (ended : Outcome) → IsAsked remaining in_old in_new arguments asked →
       WithSession contents old new asked.settings asked.source.items asked.keys.bytes.items (λ session. Prints contents old new (printed_run session arguments.steps)) ended →
       Runs remaining contents in_old in_new old new arguments ended

@@ -1,9 +1,10 @@
 -- What the program does for each thing that its arguments can ask for (own).
 --     WritesBy                       what was written to a file
+--     PrintsTable                    what is printed of a source's lines
 --     Debugs, Assembles, Tells, Runs, Traces, Pictures    what each command did
 --     Does                           the same, by what was asked
 --     Performs, ShowsHelp, ShowsVersion   the same, for the arguments
-use Rattle.std.specs.Prelude.{◌≡◌, ◌≢◌, ◌⊎◌, ℕ, ◌≤◌, min, Bool, true, List, [], length, Option, Some, None, MatchOption, Ok, if◌then◌else◌}
+use Rattle.std.specs.Prelude.{◌≡◌, ◌≢◌, ◌⊎◌, ℕ, ◌≤◌, min, Bool, true, false, List, [], length, Option, Some, None, MatchOption, Ok, if◌then◌else◌}
 use Rattle.std.specs.Borrow.{Bor}
 use Rattle.chip_asm.specs.Lines.{lines_of, open_fault}
 use Rattle.chip_asm.specs.Program.{image_of}
@@ -20,6 +21,7 @@ use Rattle.chip_trace.specs.declared.header.HeaderError.{HeaderError}
 use Rattle.chip_bench.specs.Tracing.{IsCompared, below_machine, header_of, lines_after, printed_trace}
 use Rattle.chip_bench.specs.declared.tracing.Shown.{Shown}
 use Rattle.chip_pages.specs.Pages.{IsContents, IsExplained}
+use Rattle.chip_pages.specs.Licences.{licences_text}
 use Rattle.chip_arguments.specs.Version.{version_text}
 use Rattle.chip_host.specs.Printing.{Printed, IfOpens, Streams, PrintsSuch, Prints, ending_with, printed_faults, printed, Fails}
 use Rattle.chip_bench.specs.Printing.{WithSession, printed_picture, printed_run, printed_table}
@@ -76,6 +78,12 @@ module _ {W : Type 0} (contents : W → Option (List ℕ)) (out_old out_new : Ta
 
   abbrev pub WritesPicture : Printed → Bor (List ℕ) → Outcome → Type 0
   WritesPicture wanted name ended = WritesBy wanted.ending wanted name ended ⊎ Fails contents out_old out_new IsShort ended
+
+  -- what is printed of the lines of a source, where it opens
+  abbrev pub PrintsTable : (printed_by : List (List ℕ) → Printed) → (source : List ℕ) → Outcome → Type 0
+  PrintsTable printed_by source ended =
+      IfOpens contents out_old out_new (open_fault source)
+      (Prints contents out_old out_new (printed_by (lines_of source))) ended
 
   -- `picture`: without a file it is printed; of two files the second is written where the first was
   abbrev pub PicturesBy : (pictured : PictureForm → Printed) → (is_ascii : Bool)
@@ -143,12 +151,13 @@ module _ {R W : Type 0} (remaining : R → Option (List ℕ)) (contents : W → 
       (WritesBy contents out_old out_new (ending_with (image_of (lines_of bytes)))
       (printed_faults (lines_of bytes)) name)) ended
 
-  -- `list` and `syms`: what is printed of the lines of the source
-  abbrev pub Tells : (printed_by : List (List ℕ) → Printed) → Bor (List ℕ) → Outcome → Type 0
-  Tells printed_by source ended =
-      FromSource remaining in_old in_new (out_new ≡ out_old) source (λ bytes.
-      IfOpens contents out_old out_new (open_fault bytes)
-      (Prints contents out_old out_new (printed_by (lines_of bytes)))) ended
+  -- `list` and `syms`: what is printed of the lines of the source, which is an image where the
+  -- arguments say so
+  abbrev pub Tells : (printed_by : List (List ℕ) → Printed) → (is_image : Bool) → Bor (List ℕ) → Outcome
+      → Type 0
+  Tells printed_by is_image source ended =
+      FromGiven remaining in_old in_new (out_new ≡ out_old) is_image source
+      (PrintsTable contents out_old out_new printed_by) ended
 
   -- `run`
   abbrev pub Runs : RunArguments → Outcome → Type 0
@@ -176,8 +185,9 @@ module _ {R W : Type 0} (remaining : R → Option (List ℕ)) (contents : W → 
   abbrev pub Does : (takes_color : Bool) → CommandLine → Outcome → Type 0
   Does takes_color (line.Debug source is_image is_quiet arguments) ended = Debugs source is_image arguments ended
   Does takes_color (line.Asm source image) ended = Assembles source image ended
-  Does takes_color (line.List source is_hex) ended = Tells (printed_table Listing is_hex) source ended
-  Does takes_color (line.Syms source is_hex) ended = Tells (printed_table Symbols is_hex) source ended
+  Does takes_color (line.List source is_image is_hex) ended =
+      Tells (printed_table Listing is_hex) is_image source ended
+  Does takes_color (line.Syms source is_hex) ended = Tells (printed_table Symbols is_hex) false source ended
   Does takes_color (line.Check arguments) ended =
       Checks remaining contents in_old in_new out_old out_new takes_color arguments ended
   Does takes_color (line.Dis image) ended =
@@ -194,6 +204,8 @@ module _ {R W : Type 0} (remaining : R → Option (List ℕ)) (contents : W → 
   Does takes_color (line.Explain code) ended =
       (PrintsSuch contents out_old out_new (IsExplanation code) ended
       ⊎ Fails contents out_old out_new (IsUnexplained code) ended) × (in_new ≡ in_old)
+  Does takes_color line.Licences ended =
+      Prints contents out_old out_new (printed licences_text Done) ended × (in_new ≡ in_old)
 
   -- what it did for arguments without a fault: what they ask for, unless memory ran out to read
   -- them

@@ -8,7 +8,7 @@ ghost use Rattle.chip_bench.specs.Running.{AnswersScript, Ends, RunsSession, sta
 ghost use Rattle.chip_host.specs.Endings.{failure_status};
 ghost use Rattle.chip_bench.specs.inner.Reads.{IsUsage};
 ghost use Rattle.chip_bench.specs.inner.Written.{IsFoundWritten, IsImageWritten};
-ghost use Rattle.chip_bench.specs.Doing.{Assembles, Debugs, Does, Performs, Runs, ShowsHelp, ShowsVersion, Tells, WritesBy};
+ghost use Rattle.chip_bench.specs.Doing.{Assembles, Debugs, Does, Performs, PrintsTable, Runs, ShowsHelp, ShowsVersion, WritesBy};
 ghost use Rattle.chip_arguments.specs.CommandArguments.{argument_faults};
 ghost use Rattle.std.specs.Io.KnownBytes.{Keeps};
 ghost use Rattle.std.specs.IoError.{error_kind};
@@ -26,6 +26,7 @@ use chip_host::{
     AskedRun, Ending, Failure, FileAccess, MOST_SOURCE, System, as_source, deliver, faults,
     file_name, print, read_asked, read_given, read_source, refuse_source, settings_of,
 };
+use chip_pages::licence_text;
 use chip_session::Counted;
 use clap::error::ErrorKind;
 use std::alloc::Global;
@@ -222,13 +223,18 @@ fn perform<'a, F: FileAccess + Clock, I: Read, O: Write, E: Write>(
             debug(system, given, settings, input, output, errors)
         }
         CommandLine::Asm { source, image } => asm(system, *source, *image, input, output, errors),
-        CommandLine::List { source, is_hex } => {
+        CommandLine::List {
+            source,
+            is_image,
+            is_hex,
+        } => {
             let given = TableArguments {
                 table: Table::Listing,
                 source: *source,
                 is_hex: *is_hex,
             };
-            tell(system, given, input, output, errors)
+            let bytes = read_given(system, *source, *is_image, input, errors)?;
+            tell(system, given, bytes, output, errors)
         }
         CommandLine::Syms { source, is_hex } => {
             let given = TableArguments {
@@ -236,7 +242,8 @@ fn perform<'a, F: FileAccess + Clock, I: Read, O: Write, E: Write>(
                 source: *source,
                 is_hex: *is_hex,
             };
-            tell(system, given, input, output, errors)
+            let bytes = read_source(system, *source, input)?;
+            tell(system, given, bytes, output, errors)
         }
         CommandLine::Check(arguments) => check(system, arguments, input, output, errors),
         CommandLine::Dis { image } => {
@@ -254,6 +261,7 @@ fn perform<'a, F: FileAccess + Clock, I: Read, O: Write, E: Write>(
             let answer = explain(system.alloc, *code)?;
             deliver(Ok(answer), output)
         }
+        CommandLine::Licences => print(licence_text().as_bytes(), Ending::Done, output),
     }
 }
 
@@ -357,18 +365,17 @@ struct TableArguments<'a> {
     is_hex: bool,
 }
 
-// `list` and `syms`.
-fn tell<'a, F: FileAccess, I: Read, O: Write, E: Write>(
+// `list` and `syms`: a table of the source that some bytes are.
+fn tell<'a, F: FileAccess, O: Write, E: Write>(
     system: &System<'_, F>,
-    given: TableArguments<'a>,
-    input: &mut Counted<I>,
+    given: TableArguments<'_>,
+    bytes: Vec<u8>,
     output: &mut Counted<O>,
     errors: &mut E,
 ) -> Result<Ending, Failure<'a>>
-    ensures { Tells I.remaining O.contents input.old input.new output.old output.new
-        (printed_table given.entry.table given.entry.is_hex) given.entry.source result }
+    ensures { PrintsTable O.contents output.old output.new
+        (printed_table given.entry.table given.entry.is_hex) bytes.entry.items result }
 {
-    let bytes = read_source(system, given.source, input)?;
     match Source::open_bytes(system.alloc, bytes) {
         Ok(opened) => {
             let answer = tabulate(system.alloc, given.table, &opened, given.is_hex);

@@ -1,9 +1,11 @@
 //! A page on each code that the workbench prints and on each word of a script, and how `explain`
-//! prints it.
+//! prints it; and the licences.
 #![tactic(auto)]
 
 mod explain;
+mod licences;
 mod pages;
 
 pub use explain::{contents, page_on, page_text};
+pub use licences::licence_text;
 pub use pages::{Example, Page, word_pages};

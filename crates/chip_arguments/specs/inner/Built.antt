@@ -15,7 +15,7 @@ abbrev pub command_names : List (List ℕ)
 command_names =
     codes "debug" ∷ codes "asm" ∷ codes "list" ∷ codes "syms" ∷ codes "dis" ∷ codes "run"
     ∷ codes "trace" ∷ codes "picture" ∷ codes "check" ∷ codes "test" ∷ codes "explore"
-    ∷ codes "prove" ∷ codes "explain" ∷ []
+    ∷ codes "prove" ∷ codes "explain" ∷ codes "licences" ∷ []
 
 -- what `clap` found of the arguments of a command
 abbrev pub rows_in : ArgMatches → List Row

@@ -1,9 +1,11 @@
 use Rattle.std.proofs.lemmas.Result.{err_from_is_err_and}
-use Rattle.std.proofs.Common.{◌≡◌, ◌∙◌, ap, refl, inl, inr, true, Err}
+use Rattle.std.proofs.Common.{◌≡◌, ◌∙◌, ap, refl, inl, inr, true, false, Err}
 use Rattle.chip_bench.specs.Doing.{IsUnexplained}
 use Rattle.chip_host.specs.Printing.{Prints, printed, printed_by}
+use Rattle.chip_bench.specs.Printing.{printed_table}
+use Rattle.chip_bench.specs.declared.output.Table.TheVariants.{Listing, Symbols}
 use Rattle.chip_host.specs.declared.ending.Ending.TheVariants.{Done}
-use Rattle.chip_bench.proofs.DoingLemmas.{does_it}
+use Rattle.chip_bench.proofs.DoingLemmas.{does_it, tells, tells_not}
 use Rattle.chip_host.proofs.ReadingLemmas.{fails, given_else, given_then}
 use Rattle.chip_bench.proofs.entry.perform.Goals as goal
 
@@ -17,15 +19,42 @@ returns-in-Asm g c =
     does_it g.I.Read.remaining g.O.Write.contents c.args.input.now c.asm.new.input c.args.output.now c.asm.new.output c.args.system.now.host.takes_color c.args.line.now _ c.asm.result
     c.in-Asm.is c.asm.ensures.did
 
-pub returns-in-List : goal.returns-in-List
-returns-in-List g c =
-    does_it g.I.Read.remaining g.O.Write.contents c.args.input.now c.tell.new.input c.args.output.now c.tell.new.output c.args.system.now.host.takes_color c.args.line.now _ c.tell.result
-    c.in-List.is c.tell.ensures
+pub returns-in_err-bytes-in-List : goal.returns-in_err-bytes-in-List
+returns-in_err-bytes-in-List g c =
+    let output = c.args.output.now in
+    let p = err_from_is_err_and c.from_residual.result c.from_residual.ensures.1 in
+    does_it g.I.Read.remaining g.O.Write.contents c.args.input.now c.read_given.new.input output output c.args.system.now.host.takes_color c.args.line.now _ c.from_residual.result
+    c.in-List.is
+    (tells_not g.I.Read.remaining g.O.Write.contents c.args.input.now c.read_given.new.input output (printed_table Listing c.in-List.is_hex) c.in-List.is_image c.in-List.source
+    c.from_residual.result _ (p.1 ∙ ap (λ e. Err e) p.2) c.in_err-bytes-in-List.ensures.err)
 
-pub returns-in-Syms : goal.returns-in-Syms
-returns-in-Syms g c =
-    does_it g.I.Read.remaining g.O.Write.contents c.args.input.now c.tell-in-Syms.new.input c.args.output.now c.tell-in-Syms.new.output c.args.system.now.host.takes_color c.args.line.now _ c.tell-in-Syms.result
-    c.in-Syms.is c.tell-in-Syms.ensures
+pub returns-in_ok-bytes-in-List : goal.returns-in_ok-bytes-in-List
+returns-in_ok-bytes-in-List g c =
+    let output = c.args.output.now in
+    let new = c.tell.new.output in
+    does_it g.I.Read.remaining g.O.Write.contents c.args.input.now c.read_given.new.input output new c.args.system.now.host.takes_color c.args.line.now _ c.tell.result
+    c.in-List.is
+    (tells g.I.Read.remaining g.O.Write.contents c.args.input.now c.read_given.new.input output new (printed_table Listing c.in-List.is_hex) c.in-List.is_image c.in-List.source
+    c.in_ok-bytes-in-List.bytes.items c.tell.result c.in_ok-bytes-in-List.ensures.ok c.tell.ensures)
+
+pub returns-in_err-bytes-in-Syms : goal.returns-in_err-bytes-in-Syms
+returns-in_err-bytes-in-Syms g c =
+    let output = c.args.output.now in
+    let p = err_from_is_err_and c.from_residual-in_err-bytes-in-Syms.result c.from_residual-in_err-bytes-in-Syms.ensures.1 in
+    does_it g.I.Read.remaining g.O.Write.contents c.args.input.now c.read_source.new.input output output c.args.system.now.host.takes_color c.args.line.now _ c.from_residual-in_err-bytes-in-Syms.result
+    c.in-Syms.is
+    (tells_not g.I.Read.remaining g.O.Write.contents c.args.input.now c.read_source.new.input output (printed_table Symbols c.in-Syms.is_hex) false c.in-Syms.source
+    c.from_residual-in_err-bytes-in-Syms.result _ (p.1 ∙ ap (λ e. Err e) p.2) (inr (c.in_err-bytes-in-Syms.ensures.err, tt)))
+
+pub returns-in_ok-bytes-in-Syms : goal.returns-in_ok-bytes-in-Syms
+returns-in_ok-bytes-in-Syms g c =
+    let output = c.args.output.now in
+    let new = c.tell-in_ok-bytes-in-Syms.new.output in
+    let bytes = c.in_ok-bytes-in-Syms.bytes.items in
+    does_it g.I.Read.remaining g.O.Write.contents c.args.input.now c.read_source.new.input output new c.args.system.now.host.takes_color c.args.line.now _ c.tell-in_ok-bytes-in-Syms.result
+    c.in-Syms.is
+    (tells g.I.Read.remaining g.O.Write.contents c.args.input.now c.read_source.new.input output new (printed_table Symbols c.in-Syms.is_hex) false c.in-Syms.source
+    bytes c.tell-in_ok-bytes-in-Syms.result (inl (bytes, c.in_ok-bytes-in-Syms.ensures.ok, refl)) c.tell-in_ok-bytes-in-Syms.ensures)
 
 pub returns-in-Check : goal.returns-in-Check
 returns-in-Check g c =
@@ -35,20 +64,20 @@ returns-in-Check g c =
 pub returns-in_err-source-in-Dis : goal.returns-in_err-source-in-Dis
 returns-in_err-source-in-Dis g c =
     let output = c.args.output.now in
-    let p = err_from_is_err_and c.from_residual.result c.from_residual.ensures.1 in
-    does_it g.I.Read.remaining g.O.Write.contents c.args.input.now c.read_given.new.input output output c.args.system.now.host.takes_color c.args.line.now _ c.from_residual.result
+    let p = err_from_is_err_and c.from_residual-in_err-source-in-Dis.result c.from_residual-in_err-source-in-Dis.ensures.1 in
+    does_it g.I.Read.remaining g.O.Write.contents c.args.input.now c.read_given-in-Dis.new.input output output c.args.system.now.host.takes_color c.args.line.now _ c.from_residual-in_err-source-in-Dis.result
     c.in-Dis.is
-    (given_else g.I.Read.remaining c.args.input.now c.read_given.new.input (output ≡ output) true c.in-Dis.image
-    (λ source. Prints g.O.Write.contents output output (printed source Done)) c.from_residual.result refl _ (p.1 ∙ ap (λ e. Err e) p.2)
+    (given_else g.I.Read.remaining c.args.input.now c.read_given-in-Dis.new.input (output ≡ output) true c.in-Dis.image
+    (λ source. Prints g.O.Write.contents output output (printed source Done)) c.from_residual-in_err-source-in-Dis.result refl _ (p.1 ∙ ap (λ e. Err e) p.2)
     c.in_err-source-in-Dis.ensures.err)
 
 pub returns-in_ok-source-in-Dis : goal.returns-in_ok-source-in-Dis
 returns-in_ok-source-in-Dis g c =
     let output = c.args.output.now in
     let new = c.print.new.output in
-    does_it g.I.Read.remaining g.O.Write.contents c.args.input.now c.read_given.new.input output new c.args.system.now.host.takes_color c.args.line.now _ c.print.result
+    does_it g.I.Read.remaining g.O.Write.contents c.args.input.now c.read_given-in-Dis.new.input output new c.args.system.now.host.takes_color c.args.line.now _ c.print.result
     c.in-Dis.is
-    (given_then g.I.Read.remaining c.args.input.now c.read_given.new.input (new ≡ output) true c.in-Dis.image
+    (given_then g.I.Read.remaining c.args.input.now c.read_given-in-Dis.new.input (new ≡ output) true c.in-Dis.image
     (λ source. Prints g.O.Write.contents output new (printed source Done)) c.print.result c.in_ok-source-in-Dis.source.items c.in_ok-source-in-Dis.ensures.ok
     (rw c.deref.ensures.value at c.print.ensures))
 
@@ -94,3 +123,9 @@ pub returns-in-Prove : goal.returns-in-Prove
 returns-in-Prove g c =
     does_it g.I.Read.remaining g.O.Write.contents c.args.input.now c.prove.new.input c.args.output.now c.prove.new.output c.args.system.now.host.takes_color c.args.line.now _ c.prove.result
     c.in-Prove.is c.prove.ensures
+
+pub returns-in-Licences : goal.returns-in-Licences
+returns-in-Licences g c =
+    does_it g.I.Read.remaining g.O.Write.contents c.args.input.now c.args.input.now c.args.output.now c.print-in-Licences.new.output c.args.system.now.host.takes_color c.args.line.now _ c.print-in-Licences.result
+    c.in-Licences.is
+    (rw (c.as_bytes.ensures.value, c.licence_text.ensures) at c.print-in-Licences.ensures, refl)
