@@ -147,7 +147,9 @@ impl Argument {
             Argument::Update => "Also writes the answers that are given into the files, atomically",
             Argument::Tap =>
                 "Prints the outcome of each case in the form of the Test Anything Protocol",
-            Argument::Rate => "How many steps lie between two ticks of the timers, 1 to 1000",
+            Argument::Rate =>
+                "How many steps lie between two ticks of the timers, 1 to 1000: a tick is 1/60 of a \
+                 second, so 10 is 600 steps a second; the machine sounds while ST is above 0",
             Argument::Tape =>
                 "The random bytes, 1 to 4096 of them in hexadecimal, used over and over [default: 00]",
             Argument::Seed =>

@@ -106,7 +106,7 @@ fn finish<E: Write>(ended: Result<Ending, Failure<'_>>, is_flushed: bool, errors
     }
 }
 
-// Whether the first word is no command.
+// Whether the first word is not a command.
 fn is_unknown_command(ended: &Result<Ending, Failure<'_>>) -> bool {
     match ended {
         Err(Failure::Usage(error)) => error.kind() == ErrorKind::InvalidSubcommand,
@@ -114,7 +114,7 @@ fn is_unknown_command(ended: &Result<Ending, Failure<'_>>) -> bool {
     }
 }
 
-// Says, where the first word is no command, what to type for a game: for the file of that word, if it
+// Says, where the first word is not a command, what to type for a game: for the file of that word, if it
 // looks like the name of one.
 fn advise<S: AsStr, E: Write>(is_unknown: bool, arguments: &[S], errors: &mut E) {
     let Some(first) = arguments.first() else {
@@ -374,7 +374,7 @@ fn tell<'a, F: FileAccess, O: Write, E: Write>(
     errors: &mut E,
 ) -> Result<Ending, Failure<'a>>
     ensures { PrintsTable O.contents output.old output.new
-        (printed_table given.entry.table given.entry.is_hex) bytes.entry.items result }
+        (printed_table given.entry.table given.entry.is_hex) bytes.items result }
 {
     match Source::open_bytes(system.alloc, bytes) {
         Ok(opened) => {

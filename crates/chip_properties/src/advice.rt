@@ -175,13 +175,15 @@ fn why_not(token: &Lexeme) -> &'static [u8] {
 fn help_for(reader: &Reader<'_>, tokens: &[Lexeme], found: Found) -> Result<Vec<u8>, AllocError> {
     let alloc = reader.alloc;
     let (before, rest) = tokens.split_at(found.first.min(tokens.len()));
+    if found.code == FaultCode::NoComparison
+        && before.is_empty()
+        && let Some((word, kind)) = kind_meant(reader.source, tokens)
+    {
+        return kind_help(alloc, word, kind);
+    }
     let help: &[u8] = match (found.code, rest.first()) {
         (FaultCode::NothingStated, _) =>
             b"write a condition, as V0 <= 8, or a place, as never at BUG",
-        (FaultCode::NoComparison, Some(_))
-            if before.is_empty() && let Some((word, kind)) = kind_meant(reader.source, tokens) => {
-            return kind_help(alloc, word, kind);
-        }
         (FaultCode::NoComparison, Some(token)) => help_at(token, before, rest),
         (FaultCode::UndefinedName, Some(Lexeme::Word(word))) => {
             return near_help(reader, word.get());
