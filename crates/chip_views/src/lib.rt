@@ -10,8 +10,8 @@ pub mod laws;
 mod picture;
 mod png;
 
-pub use bitmap::screen_pbm;
+pub use bitmap::{screen_pbm, screen_pbm_scaled};
 pub use dis::source_of_image;
 pub use hexadecimal::{hex_listing, hex_symbols};
 pub use picture::{Letters, screen_text};
-pub use png::screen_png;
+pub use png::{screen_png, screen_png_scaled};
