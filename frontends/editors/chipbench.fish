@@ -31,6 +31,7 @@ complete -c chipbench -n '__fish_seen_subcommand_from trace' -l against -r -d 'C
 complete -c chipbench -n '__fish_seen_subcommand_from picture' -l ascii -d 'Prints ASCII instead of half blocks'
 complete -c chipbench -n '__fish_seen_subcommand_from picture' -l pbm -r -d 'Writes a portable bitmap to a file'
 complete -c chipbench -n '__fish_seen_subcommand_from picture' -l png -r -d 'Writes a PNG picture to a file'
+complete -c chipbench -n '__fish_seen_subcommand_from picture' -l scale -x -d 'Makes each pixel a square of K by K in the files of --pbm and --png'
 complete -c chipbench -n '__fish_seen_subcommand_from check' -l allow -x -d 'The warnings that are not printed'
 complete -c chipbench -n '__fish_seen_subcommand_from check' -l cover -d 'Also searches all key scripts'
 complete -c chipbench -n '__fish_seen_subcommand_from check' -l color -x -a 'auto always never' -d 'When the text has colours'

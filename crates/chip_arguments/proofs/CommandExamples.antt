@@ -67,6 +67,10 @@ first_step : option_map (λ p. first_of (codes "from") p.1) (subcommand_of chipb
 unfolding chipbench_on_literals
 first_step = refl
 
+scale_is_at_most_sixteen : fault_of chipbench (codes "picture" ∷ codes "a" ∷ codes "--steps" ∷ codes "1" ∷ codes "--png" ∷ codes "b" ∷ codes "--scale" ∷ codes "17" ∷ []) ≡ kind.ValueValidation ∷ []
+unfolding chipbench_on_literals
+scale_is_at_most_sixteen = refl
+
 test_takes_files : fault_of chipbench (codes "test" ∷ codes "a" ∷ codes "--tap" ∷ codes "b" ∷ codes "--update" ∷ []) ≡ []
 unfolding chipbench_on_literals
 test_takes_files = refl

@@ -31,7 +31,7 @@ use Rattle.chip_arguments.specs.declared.command_line.TraceArguments.{TraceArgum
 abbrev pub numbers : List (List ℕ)
 numbers =
     codes "steps" ∷ codes "states" ∷ codes "from" ∷ codes "rate" ∷ codes "seed" ∷ codes "every"
-    ∷ codes "only" ∷ codes "seconds" ∷ []
+    ∷ codes "only" ∷ codes "seconds" ∷ codes "scale" ∷ []
 
 -- a number with anything but decimal digits, such as a sign
 abbrev pub number_fault : Option (List ℕ) → Kinds
@@ -60,13 +60,20 @@ abbrev pub both_fault : (first second : Option (List ℕ)) → Kinds
 both_fault (Some one) (Some other) = kind.ArgumentConflict ∷ []
 both_fault first second = []
 
--- JSON and another trace, ASCII and a file for the picture, and two properties don't go together
+-- a scale without a file for the picture
+abbrev pub scale_fault : (scale bitmap png : Option (List ℕ)) → Kinds
+scale_fault (Some scale) None None = kind.MissingRequiredArgument ∷ []
+scale_fault scale bitmap png = []
+
+-- JSON and another trace, ASCII and a file for the picture, and two properties don't go together;
+-- a scale goes with a file for the picture alone
 abbrev pub clash_faults : List Row → Kinds
 clash_faults rows =
     or_else (clash_fault (first_of (codes "json") rows) (first_of (codes "against") rows))
     (or_else (clash_fault (first_of (codes "ascii") rows) (first_of (codes "pbm") rows))
     (or_else (clash_fault (first_of (codes "ascii") rows) (first_of (codes "png") rows))
-    (both_fault (first_of (codes "never") rows) (first_of (codes "always") rows))))
+    (or_else (both_fault (first_of (codes "never") rows) (first_of (codes "always") rows))
+    (scale_fault (first_of (codes "scale") rows) (first_of (codes "pbm") rows) (first_of (codes "png") rows)))))
 
 -- the name of a profile that there is not, or a list of what are no choices of quirks
 abbrev pub quirks_fault : (name list : Option (List ℕ)) → Kinds
@@ -184,6 +191,7 @@ pub record AsksPicture (rows : List Row) (arguments : PictureArguments) : Type 0
   pub ascii : AsksFlag (one_of (codes "ascii") rows) arguments.ascii
   pub bitmap : option_copied arguments.bitmap ≡ first_of (codes "pbm") rows
   pub png : option_copied arguments.png ≡ first_of (codes "png") rows
+  pub scale : ReadsOr 32 (first_of (codes "scale") rows) 1 arguments.scale
 
 -- the test that they ask for
 pub record AsksTest (rows : List Row) (arguments : TestArguments) : Type 0 where

@@ -3,7 +3,7 @@
 use Rattle.std.specs.Prelude.{ℕ, List, [], ◌∷◌, Some, codes, true, pos}
 use Rattle.clap.specs.Words.{App, Rule, new_app, new_rule, with_rule, with_subcommand}
 use Rattle.chip_replay.specs.declared.limits.TheConstants.{LAST_STEP, LEAST_SPACING, MOST_RATE, MOST_SPACING}
-use Rattle.chip_arguments.specs.declared.limits.TheConstants.{MOST_LINE, MOST_SECONDS, MOST_STATES}
+use Rattle.chip_arguments.specs.declared.limits.TheConstants.{MOST_LINE, MOST_SCALE, MOST_SECONDS, MOST_STATES}
 use Rattle.clap.specs.declared.builder.action.ArgAction.TheVariants.{Append, Set, SetTrue}
 use Rattle.clap.specs.declared.builder.value_parser.ValueParser.TheVariants as vp
 
@@ -130,6 +130,9 @@ pbm = option (codes "pbm")
 unfoldable pub png : Rule
 png = option (codes "png")
 
+unfoldable pub scale : Rule
+scale = number (codes "scale") 1 MOST_SCALE
+
 unfoldable pub code : Rule
 code = place (codes "code")
 
@@ -167,7 +170,8 @@ trace =
 
 unfoldable pub picture : App
 picture =
-    with_rule (with_rule (with_rule (with_steps (new_app (codes "picture"))) ascii) pbm) png
+    with_rule (with_rule (with_rule (with_rule (with_steps (new_app (codes "picture"))) ascii) pbm) png)
+    scale
 
 unfoldable pub test : App
 test = with_rule (with_rule (with_rule (new_app (codes "test")) files) update) tap

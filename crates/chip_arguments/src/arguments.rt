@@ -4,7 +4,7 @@ ghost use Rattle.clap.specs.Words.{rule_of};
 ghost use Rattle.chip_arguments.specs.CommandLine as line;
 ghost use Rattle.chip_arguments.specs.inner.Built.{rule_by};
 
-use crate::limits::{MOST_LINE, MOST_SECONDS, MOST_STATES};
+use crate::limits::{MOST_LINE, MOST_SCALE, MOST_SECONDS, MOST_STATES};
 use chip_replay::{LAST_STEP, LEAST_SPACING, MOST_RATE, MOST_SPACING};
 use clap::builder::ValueParser;
 use clap::{Arg, ArgAction, value_parser};
@@ -25,6 +25,7 @@ pub(crate) enum Argument {
     Ascii,
     Pbm,
     Png,
+    Scale,
     Code,
     Files,
     Update,
@@ -81,6 +82,7 @@ impl Argument {
             Argument::Ascii => flag(alloc, "ascii", help),
             Argument::Pbm => option(alloc, "pbm", "FILE", help),
             Argument::Png => option(alloc, "png", "FILE", help),
+            Argument::Scale => number(alloc, "scale", "K", help, 1, MOST_SCALE),
             Argument::Code => place(alloc, "code", "CODE", help),
             Argument::Files => place(alloc, "files", "FILE", help)
                 .action(ArgAction::Append)
@@ -140,6 +142,9 @@ impl Argument {
             Argument::Ascii => "Prints ASCII instead of half blocks",
             Argument::Pbm => "Writes a portable bitmap to a file, and prints nothing",
             Argument::Png => "Writes a PNG picture to a file, and prints nothing",
+            Argument::Scale =>
+                "Makes each pixel a square of K by K in the files of --pbm and --png, 1 to 16 \
+                 [default: 1]",
             Argument::Code =>
                 "F1 to F17, W1 to W9, P1 to P6, N1 to N10, Q1 to Q4, C1, C2, E1 to E4, O1 to O3, \
                  S1 to S7, or a command of `debug` such as regs [default: all, a line each]",

@@ -4,7 +4,7 @@ ghost use Rattle.std.specs.Char.{is_ascii_digit};
 ghost use Rattle.std.specs.List.{list_all};
 ghost use Rattle.clap.specs.Words.{FailsBy, all_of, first_of, kind_of, one_of};
 ghost use Rattle.chip_arguments.specs.SettingArguments.{default_arguments};
-ghost use Rattle.chip_arguments.specs.CommandArguments.{Asks, AsksFlag, AsksFor, AsksQuirks, AsksSettings, ReadsNumber, ReadsOr, AsksCheck, color_asked, AsksExplore, AsksPicture, AsksProve, AsksRun, AsksSearch, AsksTest, AsksTrace, both_fault, clash_fault, clash_faults, color_fault, first_value_fault, new_file_fault, number_fault, numbers, value_faults, argument_faults, needed, quirks_fault};
+ghost use Rattle.chip_arguments.specs.CommandArguments.{Asks, AsksFlag, AsksFor, AsksQuirks, AsksSettings, ReadsNumber, ReadsOr, AsksCheck, color_asked, AsksExplore, AsksPicture, AsksProve, AsksRun, AsksSearch, AsksTest, AsksTrace, both_fault, clash_fault, clash_faults, color_fault, first_value_fault, new_file_fault, number_fault, numbers, value_faults, argument_faults, needed, quirks_fault, scale_fault};
 ghost use Rattle.chip_arguments.specs.inner.Built.{IsOneOf, command_names, rows_in};
 
 use crate::commands::{chipbench, chipbench_for};
@@ -21,7 +21,7 @@ use std::convert::AsStr;
 const DEFAULT_RATE: u32 = 10;
 
 // The arguments that are numbers, each as `clap` shows it in a fault.
-const NUMBERS: [(&str, &str); 8] = [
+const NUMBERS: [(&str, &str); 9] = [
     ("steps", "--steps <N>"),
     ("states", "--states <M>"),
     ("from", "--from <M>"),
@@ -30,6 +30,7 @@ const NUMBERS: [(&str, &str); 8] = [
     ("every", "--every <P>"),
     ("only", "--only <LINE>"),
     ("seconds", "--seconds <N>"),
+    ("scale", "--scale <K>"),
 ];
 
 // The arguments that name a file to write, each as a fault shows it.
@@ -161,6 +162,8 @@ pub struct PictureArguments<'a> {
     pub bitmap: Option<&'a str>,
     /// The file for a PNG picture.
     pub png: Option<&'a str>,
+    /// How many times as long the sides of the pictures in files are as those of the screen.
+    pub scale: u32,
 }
 
 /// A test, as the arguments ask for it.
@@ -372,7 +375,7 @@ fn check_new_files(
     Ok(())
 }
 
-// Arguments that do not go together.
+// Arguments that do not go together, and one that goes with others alone.
 fn check_clashes(alloc: Global, found: &ArgMatches<'_>) -> Result<(), Error>
     ensures { FailsBy (clash_faults (rows_in found.now)) result }
 {
@@ -382,7 +385,8 @@ fn check_clashes(alloc: Global, found: &ArgMatches<'_>) -> Result<(), Error>
     check_clash(alloc, found, "ascii", "pbm", message)?;
     let message = "the argument '--ascii' cannot be used with '--png <FILE>'";
     check_clash(alloc, found, "ascii", "png", message)?;
-    check_both(alloc, found)
+    check_both(alloc, found)?;
+    check_scale(alloc, found)
 }
 
 // A flag, and an argument that it does not go with.
@@ -413,6 +417,25 @@ fn check_both(alloc: Global, found: &ArgMatches<'_>) -> Result<(), Error>
         (Some(_), Some(_)) => {
             let message = "the argument '--never <TEXT>' cannot be used with '--always <TEXT>'";
             Err(usage_error(alloc, ErrorKind::ArgumentConflict, message)?)
+        }
+        _ => Ok(()),
+    }
+}
+
+// The scale, which is that of the pictures in files.
+fn check_scale(alloc: Global, found: &ArgMatches<'_>) -> Result<(), Error>
+    ensures { FailsBy (scale_fault (first_of (codes "scale") (rows_in found.now))
+        (first_of (codes "pbm") (rows_in found.now)) (first_of (codes "png") (rows_in found.now)))
+        result }
+{
+    match (
+        value(found, "scale"),
+        value(found, "pbm"),
+        value(found, "png"),
+    ) {
+        (Some(_), None, None) => {
+            let message = "the argument '--scale <K>' needs '--pbm <FILE>' or '--png <FILE>'";
+            Err(usage_error(alloc, ErrorKind::MissingRequiredArgument, message)?)
         }
         _ => Ok(()),
     }
@@ -635,6 +658,7 @@ fn picture_arguments<'a>(found: &ArgMatches<'a>, quirks: Quirks) -> PictureArgum
         ascii: is_set(found, "ascii"),
         bitmap: value(found, "pbm"),
         png: value(found, "png"),
+        scale: number_or(found, "scale", 1),
     }
 }
 

@@ -209,6 +209,7 @@ const COMMANDS: [CommandRow; 14] = [
             Argument::Ascii,
             Argument::Pbm,
             Argument::Png,
+            Argument::Scale,
         ],
     },
     CommandRow {

@@ -9,5 +9,8 @@ pub const MOST_STATES: u32 = 100_000_000;
 /// The greatest number of a line that the arguments may name: no source has so many.
 pub const MOST_LINE: u32 = 1_000_000;
 
+/// How many times as long the sides of a picture may be as those of the screen.
+pub const MOST_SCALE: u32 = 16;
+
 /// The most seconds that a search may be given.
 pub const MOST_SECONDS: u32 = 1_000_000;

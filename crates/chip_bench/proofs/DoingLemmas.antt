@@ -142,7 +142,7 @@ module _ {R W : Type 0} (remaining : R → Option (List ℕ)) (contents : W → 
 
 abbrev pub Pictured : {W : Type 0} → (contents : W → Option (List ℕ)) → (old new : Tally W) → PictureArguments → Session → Outcome → Type 0
 Pictured contents old new arguments session =
-    PicturesBy contents old new (printed_picture session arguments.run.steps) arguments.ascii arguments.bitmap arguments.png
+    PicturesBy contents old new (printed_picture session arguments.run.steps) arguments.ascii arguments.scale arguments.bitmap arguments.png
 
 module _ {R W : Type 0} (remaining : R → Option (List ℕ)) (contents : W → Option (List ℕ)) (in_old in_new : Tally R) (old new : Tally W)
     (arguments : PictureArguments) (ended : Outcome) where

@@ -85,16 +85,19 @@ module _ {W : Type 0} (contents : W → Option (List ℕ)) (out_old out_new : Ta
       IfOpens contents out_old out_new (open_fault source)
       (Prints contents out_old out_new (printed_by (lines_of source))) ended
 
-  -- `picture`: without a file it is printed; of two files the second is written where the first was
+  -- `picture`: without a file it is printed; of two files the second is written where the first was.
+  -- The pictures in files have `scale` pixels in a row and in a column for each of the screen.
   abbrev pub PicturesBy : (pictured : PictureForm → Printed) → (is_ascii : Bool)
-      → (bitmap png : Option (Bor (List ℕ))) → Outcome → Type 0
-  PicturesBy pictured is_ascii None None ended =
+      → (scale : ℕ) → (bitmap png : Option (Bor (List ℕ))) → Outcome → Type 0
+  PicturesBy pictured is_ascii scale None None ended =
       Prints contents out_old out_new (pictured (form.Text (if is_ascii then Plain else Blocks))) ended
-  PicturesBy pictured is_ascii (Some bitmap) None ended = WritesPicture (pictured form.Bitmap) bitmap ended
-  PicturesBy pictured is_ascii None (Some png) ended = WritesPicture (pictured form.Png) png ended
-  PicturesBy pictured is_ascii (Some bitmap) (Some png) ended =
-      (WritesPicture (pictured form.Bitmap) bitmap ended × (ended ≢ Ok Done))
-      ⊎ WritesPicture (pictured form.Png) png ended
+  PicturesBy pictured is_ascii scale (Some bitmap) None ended =
+      WritesPicture (pictured (form.ScaledBitmap scale)) bitmap ended
+  PicturesBy pictured is_ascii scale None (Some png) ended =
+      WritesPicture (pictured (form.ScaledPng scale)) png ended
+  PicturesBy pictured is_ascii scale (Some bitmap) (Some png) ended =
+      (WritesPicture (pictured (form.ScaledBitmap scale)) bitmap ended × (ended ≢ Ok Done))
+      ⊎ WritesPicture (pictured (form.ScaledPng scale)) png ended
 
   -- the lines of a session's run, or where they differ first from those of another trace
   abbrev pub ShowsTrace : Shown → (theirs : Option (List (List ℕ))) → Session → Outcome → Type 0
@@ -178,7 +181,7 @@ module _ {R W : Type 0} (remaining : R → Option (List ℕ)) (contents : W → 
       WithAsked remaining in_old in_new (out_new ≡ out_old) arguments.run (λ settings keys source.
       WithSession contents out_old out_new settings source keys
       (λ session. PicturesBy contents out_old out_new (printed_picture session arguments.run.steps)
-      arguments.ascii arguments.bitmap arguments.png)) ended
+      arguments.ascii arguments.scale arguments.bitmap arguments.png)) ended
 
   -- what the program did for what it was asked; its output takes colours, or it doesn't. For `dis` it
   -- printed a source of an image that isn't too long, and for `explain` a page or the contents.

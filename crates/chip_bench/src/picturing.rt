@@ -71,28 +71,21 @@ fn show<'a, F: FileAccess, O: Write>(
 ) -> Result<Ending, Failure<'a>>
     ensures { PicturesBy O.contents output.old output.new
         (printed_picture bench.old.session arguments.now.run.steps) arguments.now.ascii
-        arguments.now.bitmap arguments.now.png result }
+        arguments.now.scale arguments.now.bitmap arguments.now.png result }
 {
+    let as_bitmap = PictureForm::ScaledBitmap(arguments.scale);
+    let as_png = PictureForm::ScaledPng(arguments.scale);
     match (arguments.bitmap, arguments.png) {
         (None, None) => {
             let form = PictureForm::Text(letters_of(arguments.ascii));
             let picture = picture_at(system.alloc, bench, arguments.run.steps, form);
             deliver(picture, output)
         }
-        (Some(name), None) => write(system, arguments, bench, PictureForm::Bitmap, name, output),
-        (None, Some(name)) => write(system, arguments, bench, PictureForm::Png, name, output),
+        (Some(name), None) => write(system, arguments, bench, as_bitmap, name, output),
+        (None, Some(name)) => write(system, arguments, bench, as_png, name, output),
         (Some(bitmap), Some(png)) => {
-            match write(
-                system,
-                arguments,
-                bench,
-                PictureForm::Bitmap,
-                bitmap,
-                output,
-            ) {
-                Ok(Ending::Done) => {
-                    write(system, arguments, bench, PictureForm::Png, png, output)
-                }
+            match write(system, arguments, bench, as_bitmap, bitmap, output) {
+                Ok(Ending::Done) => write(system, arguments, bench, as_png, png, output),
                 ended => ended,
             }
         }
@@ -119,7 +112,9 @@ fn write<'a, F: FileAccess, O: Write>(
         Ending::Done => {
             let source = file_name(arguments.run.source);
             // Of two pictures the bitmap is written first.
-            let bitmap = arguments.bitmap.filter(|_| form == PictureForm::Png);
+            let bitmap = arguments
+                .bitmap
+                .filter(|_| matches!(form, PictureForm::ScaledPng(_)));
             let taken = [source, arguments.run.keys, bitmap];
             system.write(&taken, name, &picture.text)
         }

@@ -4,9 +4,9 @@ use Rattle.std.specs.Prelude.{ℕ, List, nat_lt, Option, Some, None, Result, Ok,
 use Rattle.chip_asm.specs.Program.{image_of}
 use Rattle.chip_machine.specs.State.{State}
 use Rattle.chip_replay.specs.Limits.{last_step}
-use Rattle.chip_views.specs.Bitmap.{pbm_of}
+use Rattle.chip_views.specs.Bitmap.{pbm_of, scaled_pbm_of}
 use Rattle.chip_views.specs.Picture.{picture_of}
-use Rattle.chip_views.specs.Png.{png_of}
+use Rattle.chip_views.specs.Png.{png_of, scaled_png_of}
 use Rattle.chip_session.specs.Answers.{machine_at}
 use Rattle.chip_session.specs.Session.{Session}
 use Rattle.chip_session.specs.declared.picture.PictureForm.{PictureForm}
@@ -19,6 +19,8 @@ abbrev pub picture_by : PictureForm → State → List ℕ
 picture_by (form.Text letters) s = picture_of letters s
 picture_by form.Bitmap s = pbm_of s
 picture_by form.Png s = png_of s
+picture_by (form.ScaledBitmap scale) s = scaled_pbm_of scale s
+picture_by (form.ScaledPng scale) s = scaled_png_of scale s
 
 abbrev pub picture_of_image : Session → PictureForm → ℕ → Option (List ℕ) → Result (List ℕ) Refusal
 picture_of_image session form step None = Err NoImage

@@ -12,7 +12,9 @@ use crate::refusal::Refusal;
 use chip_asm::Source;
 use chip_machine::Machine;
 use chip_replay::LAST_STEP;
-use chip_views::{Letters, screen_pbm, screen_png, screen_text};
+use chip_views::{
+    Letters, screen_pbm, screen_pbm_scaled, screen_png, screen_png_scaled, screen_text,
+};
 use std::alloc::{AllocError, Global};
 
 /// How a picture of the screen is written.
@@ -24,6 +26,10 @@ pub enum PictureForm {
     Bitmap,
     /// As a PNG file.
     Png,
+    /// As a portable bitmap with so many pixels in a row and in a column for each of the screen.
+    ScaledBitmap(u32),
+    /// As a PNG file with so many.
+    ScaledPng(u32),
 }
 
 /// The picture of a machine's screen.
@@ -38,6 +44,8 @@ pub(crate) fn picture(
         PictureForm::Text(letters) => screen_text(alloc, machine, letters),
         PictureForm::Bitmap => screen_pbm(alloc, machine),
         PictureForm::Png => screen_png(alloc, machine),
+        PictureForm::ScaledBitmap(scale) => screen_pbm_scaled(alloc, machine, scale),
+        PictureForm::ScaledPng(scale) => screen_png_scaled(alloc, machine, scale),
     }
 }
 

@@ -45,6 +45,7 @@ rule_by argument.Against = line.against
 rule_by argument.Ascii = line.ascii
 rule_by argument.Pbm = line.pbm
 rule_by argument.Png = line.png
+rule_by argument.Scale = line.scale
 rule_by argument.Code = line.code
 rule_by argument.Files = line.files
 rule_by argument.Update = line.update

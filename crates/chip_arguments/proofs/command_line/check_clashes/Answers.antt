@@ -14,5 +14,13 @@ returns-in_err-check_clash-3 c =
     let step = c.from_residual-in_err-check_clash-3 in
     after _ _ _ c.in_ok-check_clash.ensures (after _ _ _ c.in_ok-check_clash-2.ensures (stops _ _ step.result _ step.ensures.1 c.in_err-check_clash-3.ensures))
 
+pub returns-in_err-check_both : goal.returns-in_err-check_both
+returns-in_err-check_both c =
+    let step = c.from_residual-in_err-check_both in
+    after _ _ _ c.in_ok-check_clash.ensures (after _ _ _ c.in_ok-check_clash-2.ensures (after _ _ _ c.in_ok-check_clash-3.ensures
+    (stops _ _ step.result _ step.ensures.1 c.in_err-check_both.ensures)))
+
 pub returns : goal.returns
-returns c = after _ _ _ c.in_ok-check_clash.ensures (after _ _ _ c.in_ok-check_clash-2.ensures (after _ _ _ c.in_ok-check_clash-3.ensures c.check_both.ensures))
+returns c =
+    after _ _ _ c.in_ok-check_clash.ensures (after _ _ _ c.in_ok-check_clash-2.ensures (after _ _ _ c.in_ok-check_clash-3.ensures
+    (after _ _ _ c.in_ok-check_both.ensures c.check_scale.ensures)))
