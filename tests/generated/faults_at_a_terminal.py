@@ -1,4 +1,4 @@
-"""Commands on a source that has faults, or doesn't open, tell them on standard error where that is a terminal.
+"""Commands on a source that has faults, or doesn't open, tell them on standard error where that is a terminal; so it is of a bad tape.
 
 Standard output has the same bytes as over a pipe, where nothing is told. The sentences are written by hand.
 """
@@ -30,6 +30,18 @@ MANY = (
     "many.asm:4001:1: O2: too many lines (at most 4000)\n"
     "help: put more values on each line of data, or remove empty lines and comments\n"
 )
+# Settings, and what standard error has below `chipbench: bad tape`.
+BYTES = "help: expected two hexadecimal digits for each byte, without 0x or #, as in --tape 2a07\n"
+DIGITS = "help: expected hexadecimal digits without 0x or #, as in --tape 2a07\n"
+LENGTH = "help: expected 1 to 4096 bytes, as in --tape 2a07\n"
+TAPES = {
+    "--tape 0x12": DIGITS,
+    "--tape #1": DIGITS,
+    "--tape 123": BYTES,
+    "--tape=": LENGTH,
+    "--tape " + 4097 * "00": LENGTH,
+    "--tape 00 --seed 1": "help: --tape and --seed exclude each other: give one of them\n",
+}
 # The words of each command after the name of the source.
 COMMANDS = {
     "asm": ["out.ch8"],
@@ -93,6 +105,15 @@ def wrong_debug(program, options, is_typed, wanted):
     return "" if found == (1, b"no O1\n", wanted) else f"{found!r}"
 
 
+def wrong_tape(program, settings, wanted):
+    """A bad tape: over a pipe there is one line, and at a terminal a second one says why."""
+    words = ["run", "none", "--steps", "1", *settings.split(" ")]
+    with tempfile.TemporaryDirectory() as folder:
+        found = [ran(program, words, folder, is_terminal) for is_terminal in (False, True)]
+    line = "chipbench: bad tape\n"
+    return "" if found == [(2, b"", line), (2, b"", line + wanted)] else f"{found!r}"
+
+
 def is_of_more(told):
     """The first fault alone is reported."""
     first, last = MORE
@@ -106,6 +127,8 @@ def checks(program):
         yield f"{command}, no fault", lambda command=command: wrong_telling(program, command, "good.asm", lambda told: told == "")
         yield f"{command}, a long line", lambda command=command: wrong_telling(program, command, "long.asm", lambda told: told == LONG)
         yield f"{command}, many lines", lambda command=command: wrong_telling(program, command, "many.asm", lambda told: told == MANY)
+    for settings, wanted in TAPES.items():
+        yield f"{settings[:20]}", lambda settings=settings, wanted=wanted: wrong_tape(program, settings, wanted)
     yield "an image", lambda: wrong_image(program)
     yield "debug, typed", lambda: wrong_debug(program, [], True, LONG)
     yield "debug, not typed", lambda: wrong_debug(program, [], False, "")

@@ -23,8 +23,8 @@ use chip_analysis::{check, explore, prove, tell_faults, tell_unopened};
 use chip_arguments::{CommandLine, RunArguments, SettingArguments, not_text, parse_arguments};
 use chip_asm::Source;
 use chip_host::{
-    AskedRun, Ending, Failure, FileAccess, MOST_SOURCE, System, as_source, deliver, faults,
-    file_name, print, read_asked, read_given, read_source, refuse_source, settings_of,
+    AskedRun, Ending, Failure, FileAccess, MOST_SOURCE, System, TapeFault, as_source, deliver,
+    faults, file_name, print, read_asked, read_given, read_source, refuse_source, settings_of,
 };
 use chip_pages::licence_text;
 use chip_session::Counted;
@@ -75,9 +75,15 @@ pub fn program<F: Files + Clock, S: AsStr, I: Read, O: Write, E: Write>(
 {
     let ended = carry_out(system, arguments, input, output, errors);
     let flushed = output.flush();
-    let is_unknown = is_unknown_command(&ended);
+    let advice = advice_on(&ended);
     let status = finish(ended, flushed.is_ok(), errors);
-    advise(is_unknown, arguments, errors);
+    match advice {
+        Advice::Commands => advise_commands(arguments, errors),
+        Advice::Tape(fault) if system.host.has_reader => {
+            let _ = write!(errors, "help: {fault}\n");
+        }
+        Advice::Tape(_) | Advice::Nothing => {}
+    }
     status
 }
 
@@ -106,23 +112,31 @@ fn finish<E: Write>(ended: Result<Ending, Failure<'_>>, is_flushed: bool, errors
     }
 }
 
-// Whether the first word is not a command.
-fn is_unknown_command(ended: &Result<Ending, Failure<'_>>) -> bool {
+// What is said after the failure of a run.
+#[derive(Clone, Copy)]
+enum Advice {
+    Nothing,
+    /// What to type for a game, where the first word is not a command.
+    Commands,
+    /// Why the tape is bad: to a reader alone, since programs know the line above it.
+    Tape(TapeFault),
+}
+
+fn advice_on(ended: &Result<Ending, Failure<'_>>) -> Advice {
     match ended {
-        Err(Failure::Usage(error)) => error.kind() == ErrorKind::InvalidSubcommand,
-        _ => false,
+        Err(Failure::BadTape(fault)) => Advice::Tape(*fault),
+        Err(Failure::Usage(error)) if error.kind() == ErrorKind::InvalidSubcommand => {
+            Advice::Commands
+        }
+        _ => Advice::Nothing,
     }
 }
 
-// Says, where the first word is not a command, what to type for a game: for the file of that word, if it
-// looks like the name of one.
-fn advise<S: AsStr, E: Write>(is_unknown: bool, arguments: &[S], errors: &mut E) {
+// Says what to type for a game: for the file of the first word, if that looks like the name of one.
+fn advise_commands<S: AsStr, E: Write>(arguments: &[S], errors: &mut E) {
     let Some(first) = arguments.first() else {
         return;
     };
-    if !is_unknown {
-        return;
-    }
     let word = first.as_str();
     let name = if is_file_name(word) { word } else { "game.asm" };
     let option = if name.ends_with(".ch8") {

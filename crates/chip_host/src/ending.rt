@@ -100,7 +100,7 @@ pub enum TapeFault {
 pub enum Failure<'a> {
     #[error("{0}")]
     Usage(clap::Error),
-    #[error("chipbench: bad tape: {0}\n")]
+    #[error("chipbench: bad tape\n")]
     BadTape(TapeFault),
     /// These are no stop causes.
     #[error("chipbench: --want takes S1 to S7 with commas between them, not {0}\n")]
