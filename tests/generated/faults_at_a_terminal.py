@@ -1,4 +1,4 @@
-"""Commands on a source that has faults, or doesn't open, tell them on standard error where that is a terminal; so it is of a bad tape.
+"""Commands on a source that has faults, or doesn't open, tell them on standard error where that is a terminal, and why a tape is bad.
 
 Standard output has the same bytes as over a pipe, where nothing is told. The sentences are written by hand.
 """

@@ -8,7 +8,7 @@ from dataclasses import dataclass
 # The processor time that no run takes, where nothing else is said: beside other work a run takes longer, and not more of it.
 SECONDS = 120
 # The time by the clock that nothing takes on the busiest machine: what has no end by then waits in vain.
-HANG_SECONDS = 1800
+HANG_SECONDS = 600
 
 
 class TookTooLong(Exception):
