@@ -1,5 +1,5 @@
 -- What `check` did with sources, one after another.
-use Rattle.std.proofs.Common.{◌≡◌, ◌⊎◌, inl, inr, ℕ, suc, ◌+◌, ◌<◌, ◌≤◌, ◌==◌, Bool, List, ◌∷◌, drop, length, get_or, Option, Some, None, Result, Ok, Err, IfErr, IfOk, refl, sym, ◌∙◌, ap, subst, add-one, drop-cons}
+use Rattle.std.proofs.Common.{◌≡◌, ◌⊎◌, inl, inr, ℕ, suc, ◌+◌, ◌<◌, ◌≤◌, Bool, List, ◌∷◌, drop, length, get_or, Option, Some, None, Result, Ok, Err, IfErr, IfOk, refl, sym, ◌∙◌, ap, subst, add-one, drop-cons}
 use Rattle.std.proofs.lemmas.List.{drop_all}
 use Rattle.std.specs.Borrow.{Bor}
 use Rattle.std.specs.Prelude.{IsErr, option_copied}

@@ -1,5 +1,5 @@
 -- What the command `prove` did with a source.
-use Rattle.std.proofs.Common.{◌≡◌, ◌⊎◌, inl, inr, ℕ, true, false, List, Option, Some, None, Err, refl, sym, ◌∙◌, ap, subst}
+use Rattle.std.proofs.Common.{◌≡◌, ◌⊎◌, inl, inr, ℕ, false, List, Option, Some, None, Err, refl, sym, ◌∙◌, ap, subst}
 use Rattle.std.specs.Prelude.{is_none, option_copied, if◌then◌else◌}
 use Rattle.chip_arguments.specs.declared.command_line.ProveArguments.{ProveArguments}
 use Rattle.chip_asm.specs.Lines.{lines_of, open_fault}

@@ -3,7 +3,7 @@
 --     worse, with_ending             how a list of sources ends
 --     gives_tape                     whether the arguments give a tape
 --     paints                         whether what is printed has colours
-use Rattle.std.specs.Prelude.{◌≡◌, ℕ, Bool, true, false, List, ◌++◌, ◌||◌, codes, is_some, Option, Some, None, Ok, Err}
+use Rattle.std.specs.Prelude.{◌≡◌, ℕ, Bool, true, false, List, ◌||◌, is_some, Option, Some, None, Ok, Err}
 use Rattle.chip_asm.specs.Program.{image_of}
 use Rattle.chip_asm.specs.declared.refusal.OpenError.{OpenError}
 use Rattle.chip_check.specs.Check.{IsChecked}

@@ -5,7 +5,7 @@
 --     SearchesFrom, Searches, Explores    what `explore` did with a machine, a source, and by its arguments
 --     ProvesFrom, ProvesWith, ProvesBy, Proves    what `prove` did with properties, a source, and by its
 --                                    arguments
-use Rattle.std.specs.Prelude.{◌≡◌, ◌⊎◌, ℕ, ◌==◌, Bool, true, false, List, [], ◌∷◌, length, Option, Some, None, MatchOption, MatchResult, option_copied, Ok, Err, IsErrAnd, IfOk}
+use Rattle.std.specs.Prelude.{◌≡◌, ◌⊎◌, ℕ, Bool, true, false, List, [], ◌∷◌, Option, Some, None, MatchOption, MatchResult, option_copied, Ok, Err, IsErrAnd, IfOk}
 use Rattle.std.specs.Borrow.{Bor}
 use Rattle.chip_asm.specs.Lines.{lines_of, open_fault}
 use Rattle.chip_asm.specs.Program.{image_of, symbols_of}
@@ -26,7 +26,6 @@ use Rattle.chip_explore.specs.declared.question.Explored.{Explored}
 use Rattle.chip_explore.specs.declared.target.Target.{Target}
 use Rattle.chip_machine.specs.Start.{start_of}
 use Rattle.chip_machine.specs.State.{State}
-use Rattle.chip_arguments.specs.declared.command_line.CommandLine.TheVariants as line
 use Rattle.chip_arguments.specs.declared.command_line.CheckArguments.{CheckArguments}
 use Rattle.chip_arguments.specs.declared.command_line.ExploreArguments.{ExploreArguments}
 use Rattle.chip_arguments.specs.declared.command_line.ProveArguments.{ProveArguments}

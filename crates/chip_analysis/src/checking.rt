@@ -14,9 +14,7 @@ use chip_arguments::{CheckArguments, ColorChoice, SettingArguments};
 use chip_asm::{OpenError, Source};
 use chip_check::{check_json, check_text, unopened_json, unopened_report};
 use chip_explore::Watcher;
-use chip_host::{
-    Answer, Ending, Failure, FileAccess, System, deliver, read_source, settings_of,
-};
+use chip_host::{Answer, Ending, Failure, FileAccess, System, deliver, read_source, settings_of};
 use chip_session::{Counted, Settings};
 use chip_warnings::{Asked, Warning, warnings};
 use std::alloc::{AllocError, Global};
@@ -220,13 +218,13 @@ impl<'p> Checker<'p> {
 
     // What is printed of a source that doesn't open.
     fn unopened_text(
-        self,
+        &self,
         alloc: Global,
         name: &[u8],
         error: OpenError,
     ) -> Result<Vec<u8>, AllocError>
         ensures { IfOk result (λ text. text.items
-            ≡ unopened_check self.is_json self.is_painted name.now error) }
+            ≡ unopened_check self.now.is_json self.now.is_painted name.now error) }
     {
         if self.is_json {
             unopened_json(alloc, name, error)

@@ -15,7 +15,7 @@ use Rattle.chip_session.specs.declared.refusal.Refusal.{Refusal}
 use Rattle.chip_session.specs.declared.refusal.Refusal.TheVariants.{AnswerMemory}
 use Rattle.chip_host.specs.Endings.{Outcome}
 use Rattle.chip_bench.specs.Doing.{WritesBy}
-use Rattle.chip_host.specs.Printing.{Printed, Refuses, printed, IsUnopened, printed_by}
+use Rattle.chip_host.specs.Printing.{Printed, Refuses, IsUnopened, printed_by}
 use Rattle.chip_bench.specs.Printing.{UnlessRefused, WithSession, answer_or_why, both_answers, unanswered}
 use Rattle.chip_bench.specs.inner.Written.{IsFoundWritten, IsImageWritten}
 use Rattle.chip_bench.specs.inner.Reads.{IsRefused, IsSessionOf, IsUnmade}

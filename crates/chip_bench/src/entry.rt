@@ -77,13 +77,7 @@ pub fn program<F: Files + Clock, S: AsStr, I: Read, O: Write, E: Write>(
     let flushed = output.flush();
     let advice = advice_on(&ended);
     let status = finish(ended, flushed.is_ok(), errors);
-    match advice {
-        Advice::Commands => advise_commands(arguments, errors),
-        Advice::Tape(fault) if system.host.has_reader => {
-            let _ = write!(errors, "help: {fault}\n");
-        }
-        Advice::Tape(_) | Advice::Nothing => {}
-    }
+    advise(advice, arguments, system.host.has_reader, errors);
     status
 }
 
@@ -129,6 +123,16 @@ fn advice_on(ended: &Result<Ending, Failure<'_>>) -> Advice {
             Advice::Commands
         }
         _ => Advice::Nothing,
+    }
+}
+
+fn advise<S: AsStr, E: Write>(advice: Advice, arguments: &[S], has_reader: bool, errors: &mut E) {
+    match advice {
+        Advice::Commands => advise_commands(arguments, errors),
+        Advice::Tape(fault) if has_reader => {
+            let _ = write!(errors, "help: {fault}\n");
+        }
+        Advice::Tape(_) | Advice::Nothing => {}
     }
 }
 

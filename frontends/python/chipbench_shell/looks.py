@@ -11,6 +11,7 @@ from chipbench import ListingLine, join_lines, run_once
 
 from . import views
 from .base import Commands, Snapshot
+from .session import SESSION_WORDS
 from .values import REGISTERS, Mistake
 
 LISTED = 11
@@ -211,6 +212,9 @@ class Looks(Commands):
         Shows the page on a code such as F9, N1 or S2: what it means, an example and the fix.
         """
         words = self.words_of(text, 1, "explain CODE")
+        word = "".join(words).lower()
+        if hasattr(self, f"do_{word}") and word not in SESSION_WORDS:
+            raise Mistake(f"{word} is a command: help {word} says what it does")
         self.say(*self._run(["explain", *(word.upper() for word in words)]).splitlines())
 
     def _run(self, arguments: list[str]) -> str:

@@ -225,7 +225,7 @@ class Moves(Commands):
     # -- breakpoints
 
     def do_break(self, text: str) -> None:
-        """break [PLACE] [if SUBJECT = NUMBER]
+        """break [PLACE [if SUBJECT = NUMBER]]
 
         Sets a breakpoint at a place, as for until. With `if` the breakpoint counts only where a comparison of a register
         holds. NUMBER is worked out each time a search begins, so a register there has the value of that moment. Without a

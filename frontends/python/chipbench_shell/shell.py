@@ -40,6 +40,8 @@ PREFERRED = {
     "p": "print", "r": "run", "h": "help", "d": "delete", "w": "watch", "e": "edit", "i": "insert", "q": "quit", "k": "keys",
     "bt": "backtrace", "where": "backtrace", "rc": "reverse", "disassemble": "dis", "exit": "quit", "?": "help",
 }
+# commands of the program that aren't commands here
+OUTSIDE = ("asm", "explore", "picture", "prove", "test", "trace")
 REPEATED = {"step", "back", "next", "finish", "until", "continue", "reverse", "watch", "who"}
 # commands behind which a name of the source may stand
 WITH_NAMES = {"until", "break", "clear", "list", "x", "dis", "print", "edit", "insert", "delete", "goto", "watch", "who"}
@@ -69,6 +71,8 @@ def command_named(word: str) -> str:
         return found[0]
     if found:
         raise Mistake(f"'{word}' begins several commands: {', '.join(found)}")
+    if small in OUTSIDE:
+        raise Mistake(f"'{small}' isn't a command of the shell: save, and run `chipbench {small}` outside of it")
     raise Mistake(f"no command '{word}'{near(small, [*COMMANDS, *SESSION_WORDS])}; help lists the commands")
 
 

@@ -466,6 +466,8 @@ class Refusals(AtTerminal):
             self.opened(),
             ("hlep", "no command 'hlep'; did you mean help?; help lists the commands"),
             ("qqqq", "no command 'qqqq'; help lists the commands"),
+            ("prove", "'prove' isn't a command of the shell: save, and run `chipbench prove` outside of it"),
+            ("explain until", "until is a command: help until says what it does"),
             ("re", "'re' begins several commands: reverse, regs, redo, release, reload"),
         )
 

@@ -49,12 +49,12 @@ returns-in_err-bytes-in-Syms g c =
 pub returns-in_ok-bytes-in-Syms : goal.returns-in_ok-bytes-in-Syms
 returns-in_ok-bytes-in-Syms g c =
     let output = c.args.output.now in
-    let new = c.tell-in_ok-bytes-in-Syms.new.output in
+    let new = c.tell-in-Syms.new.output in
     let bytes = c.in_ok-bytes-in-Syms.bytes.items in
-    does_it g.I.Read.remaining g.O.Write.contents c.args.input.now c.read_source.new.input output new c.args.system.now.host.takes_color c.args.line.now _ c.tell-in_ok-bytes-in-Syms.result
+    does_it g.I.Read.remaining g.O.Write.contents c.args.input.now c.read_source.new.input output new c.args.system.now.host.takes_color c.args.line.now _ c.tell-in-Syms.result
     c.in-Syms.is
     (tells g.I.Read.remaining g.O.Write.contents c.args.input.now c.read_source.new.input output new (printed_table Symbols c.in-Syms.is_hex) false c.in-Syms.source
-    bytes c.tell-in_ok-bytes-in-Syms.result (inl (bytes, c.in_ok-bytes-in-Syms.ensures.ok, refl)) c.tell-in_ok-bytes-in-Syms.ensures)
+    bytes c.tell-in-Syms.result (inl (bytes, c.in_ok-bytes-in-Syms.ensures.ok, refl)) c.tell-in-Syms.ensures)
 
 pub returns-in-Check : goal.returns-in-Check
 returns-in-Check g c =
