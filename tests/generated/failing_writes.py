@@ -32,6 +32,8 @@ RUNS = {
 ERRORS = ("ENOSPC", "EINTR")
 OUTPUT_FAULT = b"chipbench: output fault\n"
 PIPE_BYTES = 4096
+# how often in a row a program is seen to wait that waits for good: a write that doesn't fit leaves the pipe short of full
+CALM_LOOKS = 50
 # The library: the write to standard output of the number FAILS fails with the error ERROR, and a later one makes the file
 # AFTER.
 LIBRARY = """
@@ -151,8 +153,10 @@ def wrong_end(program, script, is_file):
                     running.stdin.write(script.encode())
                     running.stdin.close()
                 until = time.monotonic() + HANG_SECONDS
-                while not (waiting(out) == PIPE_BYTES and is_asleep(running.pid)) and time.monotonic() < until:
-                    time.sleep(0.001)
+                calm = 0
+                while calm < CALM_LOOKS and time.monotonic() < until:
+                    calm = calm + 1 if waiting(out) > 0 and is_asleep(running.pid) else 0
+                    time.sleep(0.004)
                 front = os.read(out, PIPE_BYTES)
                 told = all_of(errors)
                 after = all_of(out)
