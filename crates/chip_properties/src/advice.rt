@@ -5,12 +5,12 @@ ghost use Rattle.chip_properties.specs.Lines.{StandsAt};
 
 use crate::fault::{FaultCode, Found, PropertyFault};
 use crate::limits::{MOST_COMPARISONS, MOST_PROPERTIES, MOST_TERMS};
-use crate::near::{fewest_edits, most_edits};
-use crate::other_words::other_kind;
+use crate::near::{REGISTERS, fewest_edits, is_like_register, most_edits, undefined_sentence};
+use crate::other_words::{IMPLICATION, is_conditional, other_kind, text_help, word_help};
 use crate::reader::Reader;
 use crate::stated::Kind;
 use crate::tokens::respelled;
-use crate::words::{is_property_word, kind_of_word};
+use crate::words::{is_property_word, item_of_word, kind_of_word};
 use chip_asm::Source;
 use chip_lang::limits::OPEN_PARENTHESES;
 use chip_lang::{Fault, Lexeme, Span, Token, is_sign_of, is_the, lexemes, tokens};
@@ -32,10 +32,9 @@ pub(crate) fn fault_found(
     let parts = lexemes(alloc, &text)?;
     let found = narrowed(reader.source, &parts, found);
     let span = span_of(&tokens(alloc, &text)?, line, start, found);
-    let help = if line[span.start..span.end].starts_with(b"!") {
-        Vec::from_slice(alloc, b"write never for not, and <> or != for unequal")?
-    } else {
-        help_for(reader, &parts, found)?
+    let help = match text_help(&line[span.start..span.end]) {
+        Some(help) => Vec::from_slice(alloc, help)?,
+        None => help_for(reader, &parts, found)?,
     };
     Ok(PropertyFault {
         line: number,
@@ -182,9 +181,13 @@ fn help_for(reader: &Reader<'_>, tokens: &[Lexeme], found: Found) -> Result<Vec<
         return kind_help(alloc, word, kind);
     }
     let help: &[u8] = match (found.code, rest.first()) {
+        (FaultCode::UndefinedName, Some(Lexeme::Word(word)))
+            if item_of_word(word.get()).is_some() => { NAMES_ALONE }
         (FaultCode::NothingStated, _) =>
             b"write a condition, as V0 <= 8, or a place, as never at BUG",
-        (FaultCode::NoComparison, Some(token)) => help_at(token, before, rest),
+        (FaultCode::NoComparison, Some(token)) => {
+            help_on_phrase(token, before, rest).unwrap_or(help_at(token, before, rest))
+        }
         (FaultCode::UndefinedName, Some(Lexeme::Word(word))) => {
             return near_help(reader, word.get());
         }
@@ -210,11 +213,56 @@ fn kind_help(alloc: Global, word: &[u8], kind: &str) -> Result<Vec<u8>, AllocErr
     [word, written.as_bytes()].concat(alloc)
 }
 
+/// What helps with a token, with which the rest begins, in a phrase that others write.
+fn help_on_phrase(token: &Lexeme, before: &[Lexeme], rest: &[Lexeme]) -> Option<&'static [u8]> {
+    let is_arrow = matches!(token, Lexeme::Sign(b'=' | b'-')) && second_is(b'>', rest);
+    if is_conditional(token)
+        || before.iter().any(|word| is_conditional(word))
+        || is_arrow && has_relation(before)
+    {
+        Some(IMPLICATION)
+    } else if !has_relation(before) && before.iter().any(|word| is_the(b"PIXEL", word)) {
+        Some(b"write PIXEL(3, 4) for the pixel in column 3 and row 4")
+    } else if is_last(b"LINE", before) {
+        Some(
+            b"a place is a label or an address: label that line, or write here in the line above it",
+        )
+    } else if is_last(b"AT", before) && (second_is(b'+', rest) || second_is(b'-', rest)) {
+        Some(b"put a calculation into parentheses, as in at (LOOP + 2)")
+    } else if let Lexeme::Word(word) = token {
+        word_help(word.get())
+    } else {
+        None
+    }
+}
+
+/// Whether some tokens end with a word.
+fn is_last(word: &[u8], tokens: &[Lexeme]) -> bool {
+    tokens.last().is_some_and(|last| is_the(word, last))
+}
+
+/// Whether the second of some tokens is a sign.
+fn second_is(sign: u8, tokens: &[Lexeme]) -> bool {
+    tokens.get(1).is_some_and(|next| is_sign_of(sign, next))
+}
+
+/// Help with a register among names and numbers.
+const NAMES_ALONE: &[u8] =
+    b"parentheses and brackets take names and numbers alone, as in V0 <= (SIZE - 1)";
+
 /// What helps where a token can't stand after those before it, or nothing: `rest` begins with it.
 fn help_at(token: &Lexeme, before: &[Lexeme], rest: &[Lexeme]) -> &'static [u8] {
     let last = before.last();
     let follows = |sign: u8| last.is_some_and(|last| is_sign_of(sign, last));
     match token {
+        Lexeme::Sign(b',') if has_relation(before) && has_relation(rest) => {
+            b"write and between two comparisons"
+        }
+        Lexeme::Sign(b'(') if has_relation(rest) && !follows(b'(') => {
+            b"write comparisons without parentheses around them, as in V0 = 5 and V1 < 3"
+        }
+        _ if follows(b'[') => b"brackets take an address, a name or a number, as in [LIVES]",
+        _ if follows(b'(') => NAMES_ALONE,
         Lexeme::Sign(b'&') if stands_between(b'&', before, rest) => {
             b"write and between two comparisons"
         }
@@ -232,10 +280,10 @@ fn help_at(token: &Lexeme, before: &[Lexeme], rest: &[Lexeme]) -> &'static [u8] 
         Lexeme::Sign(b'/' | b'&' | b'|' | b'^' | b'~' | b'\\' | b'*') => {
             b"put a calculation with names and numbers into parentheses"
         }
-        Lexeme::Number(_) if follows(b'*') => {
-            b"write the number before * and what is asked after it"
+        Lexeme::Number(_) | Lexeme::Word(_) if follows(b'*') || second_is(b'*', rest) => {
+            b"write the number before * and what is asked after it, as in 2 * V0"
         }
-        Lexeme::Word(word) => help_at_word(word.get(), before),
+        Lexeme::Word(word) => help_at_word(word.get(), before, rest),
         _ => b"",
     }
 }
@@ -243,8 +291,7 @@ fn help_at(token: &Lexeme, before: &[Lexeme], rest: &[Lexeme]) -> &'static [u8] 
 /// Whether a sign, with which the rest begins, was meant to stand between two comparisons: it stands
 /// twice, or there is a relation on each side.
 fn stands_between(sign: u8, before: &[Lexeme], rest: &[Lexeme]) -> bool {
-    let is_double = rest.get(1).is_some_and(|next| is_sign_of(sign, next));
-    is_double || has_relation(before) && has_relation(rest)
+    second_is(sign, rest) || has_relation(before) && has_relation(rest)
 }
 
 /// Whether a relation is among tokens.
@@ -254,9 +301,9 @@ fn has_relation(tokens: &[Lexeme]) -> bool {
         .any(|token| matches!(token, Lexeme::Sign(b'=' | b'<' | b'>')))
 }
 
-/// What helps where a word can't stand after the tokens before it, or nothing.
-fn help_at_word(word: &[u8], before: &[Lexeme]) -> &'static [u8] {
-    let follows_at = before.last().is_some_and(|last| is_the(b"AT", last));
+/// What helps where a word can't stand after the tokens before it, or nothing: `rest` begins with it.
+fn help_at_word(word: &[u8], before: &[Lexeme], rest: &[Lexeme]) -> &'static [u8] {
+    let follows_at = is_last(b"AT", before);
     if word == b"AND".as_slice() || word == b"OR".as_slice() {
         b"a condition has and alone, or or alone: write two properties"
     } else if word == b"HERE".as_slice() && follows_at {
@@ -267,11 +314,20 @@ fn help_at_word(word: &[u8], before: &[Lexeme]) -> &'static [u8] {
         && !ends_with_sign(before)
     {
         help_at_kind(kind)
+    } else if is_item_word(word) && !follows_at && !has_relation(before) && !has_relation(rest) {
+        b"a comparison has two sides, as in V0 <= 8"
     } else if is_property_word(word) {
         b"put a name that is spelled so into parentheses"
+    } else if rest.len() == 1 && !is_item_word(word) {
+        b"write at before a place, as in never at BUG"
     } else {
         b""
     }
+}
+
+/// Whether a word in upper case begins what a property may ask for.
+fn is_item_word(word: &[u8]) -> bool {
+    item_of_word(word).is_some() || word == b"PIXEL".as_slice()
 }
 
 /// Whether some tokens end with a sign after which a value stands.
@@ -292,7 +348,7 @@ fn help_at_kind(kind: Kind) -> &'static [u8] {
     }
 }
 
-/// The name of the source that a word comes nearest to, as help.
+/// Help with a word that no name of the source is: the name that it comes nearest to, if one is near.
 fn near_help(reader: &Reader<'_>, word: &[u8]) -> Result<Vec<u8>, AllocError> {
     let mut help = Vec::new(reader.alloc);
     let mut most = most_edits(word);
@@ -310,5 +366,11 @@ fn near_help(reader: &Reader<'_>, word: &[u8]) -> Result<Vec<u8>, AllocError> {
             }
         }
     }
-    Ok(help)
+    if !help.is_empty() {
+        Ok(help)
+    } else if is_like_register(word) {
+        Vec::from_slice(reader.alloc, REGISTERS)
+    } else {
+        undefined_sentence(reader.alloc, word)
+    }
 }

@@ -1,6 +1,55 @@
-//! What other languages write where a property begins with the word for its kind.
+//! What other languages write in a property, and what is written here.
 
 use crate::near::{fewest_edits, most_edits};
+use chip_lang::{Lexeme, is_the};
+
+/// Words with which others state a condition on a condition.
+const CONDITIONALS: &[&str] = &[
+    "IF", "WHEN", "WHENEVER", "WHILE", "UNLESS", "THEN", "IMPLIES",
+];
+
+/// Help with a condition on a condition.
+pub(crate) const IMPLICATION: &[u8] =
+    b"a property has no if: write never V1 = 3 and V0 <> 5 in place of if V1 = 3 then V0 = 5";
+
+/// Whether a token is a word with which others state a condition on a condition.
+pub(crate) fn is_conditional(token: &Lexeme) -> bool {
+    CONDITIONALS
+        .iter()
+        .any(|word| is_the(word.as_bytes(), token))
+}
+
+/// Help with a place.
+const PLACE: &[u8] = b"write at before a place, as in V0 <= 8 at LOOP";
+
+/// Help with a range of values.
+const RANGE: &[u8] = b"write two comparisons for a range, as in V0 >= 1 and V0 <= 5";
+
+/// What helps with a word in upper case that others write in the place of a sign.
+pub(crate) fn word_help(word: &[u8]) -> Option<&'static [u8]> {
+    match word {
+        b"IS" | b"EQ" | b"EQUALS" => Some(b"write = for equal"),
+        b"IN" | b"BETWEEN" => Some(RANGE),
+        b"ON" | b"BEFORE" | b"AFTER" | b"WHERE" => Some(PLACE),
+        _ => None,
+    }
+}
+
+/// What helps where the text of a fault begins with a sign or a number that others write.
+pub(crate) fn text_help(text: &[u8]) -> Option<&'static [u8]> {
+    match text {
+        [b'!', ..] => Some(b"write never for not, and <> or != for unequal"),
+        [b'0', b'x' | b'X', ..] => Some(b"a hexadecimal number begins with #, as in #1F"),
+        [b'0', b'b' | b'B', ..] => Some(b"a binary number begins with $, as in $101"),
+        [128..=255, ..] => Some(b"write <=, >= and <> in ASCII"),
+        [b'@', ..] => Some(PLACE),
+        [b'%', ..] => Some(
+            b"registers are only added, or multiplied by a number before them, as in 2 * V0",
+        ),
+        [b'.', ..] => Some(RANGE),
+        _ => None,
+    }
+}
 
 /// A kind's word, in lower and in upper case, and what others write for it.
 const OTHER_WORDS: &[(&str, &str, &[&str])] = &[
