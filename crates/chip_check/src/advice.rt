@@ -5,17 +5,16 @@ use crate::hint::{Hint, push_formatted, push_help, push_note, push_sentence};
 use crate::known::Known;
 use crate::missing::missing_word;
 use crate::mistakes::push_mistake;
-use crate::operand_advice::{REGISTERS, out_of_range, wrong_operands};
+use crate::operand_advice::{ORIGIN, out_of_range, wrong_operands};
 use crate::other_assemblers::{Radix, other_number, other_word};
 use crate::place::tokens_after;
 use crate::reserved::push_meaning;
 use crate::spelling::wrong_byte;
-use crate::words::{
-    Word, has_twice, is_like_register, is_one_of, is_register, is_special, statement_of, words_of,
-};
+use crate::words::{Word, has_twice, is_one_of, is_register, is_special, statement_of, words_of};
 use chip_asm::{LineView, OpenError, Source};
 use chip_lang::limits::{IMAGE_BYTES, IMAGE_START, NAME_BYTES};
 use chip_lang::{Fault, Kind, Line, Token};
+use chip_properties::near::{REGISTERS, is_like_register, undefined_sentence};
 use std::alloc::{AllocError, Global};
 
 /// A line with a fault, and its words.
@@ -128,13 +127,32 @@ fn bad_character(
     if let Some(byte) = wrong_byte(faulty.line.text()) {
         return push_wrong_byte(alloc, hints, byte);
     }
-    match other_number(faulty.rest) {
-        Some((radix, digits)) => push_other_number(alloc, hints, radix, digits),
-        None => push_sentence(
+    if let [first, ..] = statement_of(faulty.words) {
+        let sentence = sentence_for_statement(faulty.text, first.text);
+        if sentence.is_some() {
+            return push_sentence(alloc, hints, sentence);
+        }
+    }
+    match (faulty.rest, other_number(faulty.rest)) {
+        (_, Some((radix, digits))) => push_other_number(alloc, hints, radix, digits),
+        ([Word { text: b".", .. }, word, ..], None) if other_word(word.text).is_some() => {
+            push_other_word(alloc, hints, word.text)
+        }
+        _ => push_sentence(
             alloc,
             hints,
             sentence_for_character(faulty.text, faulty.rest),
         ),
+    }
+}
+
+/// What helps with a byte that begins no token by the first word of its statement, if that says more:
+/// `text` is the line from the byte on.
+fn sentence_for_statement(text: &[u8], first: &[u8]) -> Option<&'static str> {
+    match (first, text) {
+        (b"*", _) => Some(ORIGIN),
+        (_, [b'!', ..]) => missing_word(first),
+        _ => None,
     }
 }
 
@@ -159,9 +177,14 @@ fn sentence_for_character(text: &[u8], rest: &[Word<'_>]) -> Option<&'static str
         }
         ([b'$', ..], _) => Some("`$` begins a binary number, as in `$101`"),
         ([b'@', ..], _) => Some("`@` begins an octal number, as in `@17`"),
-        ([b'%', ..], _) => Some("a binary number begins with `$`, as in `$101`"),
+        ([b'%', b'0'..=b'9', ..], _) => Some("a binary number begins with `$`, as in `$101`"),
+        ([b'%', ..], _) => Some("no sign divides with a remainder; `& 7` gives the remainder by 8"),
+        ([b'!', ..], _) => missing_word(b"CMP"),
         ([b'.', ..], [_, word, ..]) if word.kind == Kind::Word => {
             Some("no full stop stands before a directive or a label")
+        }
+        ([b'.', b'.' | b'1', ..], _) => {
+            Some("a binary number begins with `$`, and a full stop in it is a 0: $..11....")
         }
         ([b'.', ..], _) => Some("a number is whole"),
         ([b'0'..=b'9', ..], _) => {
@@ -261,14 +284,35 @@ fn push_meant(
     let other = other_word(word);
     match other.or(near_heading(word)) {
         Some(meant) if is_label && !stands_alone(meant.as_bytes()) => Ok(()),
-        Some(meant) if other.is_some() => push_help(
-            alloc,
-            hints,
-            &[word, b" is written ", meant.as_bytes(), b" here"],
-        ),
+        Some(meant) if other.is_some() => push_written(alloc, hints, word, meant),
         Some(meant) => push_help(alloc, hints, &[b"did you mean ", meant.as_bytes(), b"?"]),
         None => Ok(()),
     }
+}
+
+/// Help with a word of another assembler after a full stop.
+fn push_other_word(alloc: Global, hints: &mut Vec<Hint>, word: &[u8]) -> Result<(), AllocError> {
+    match other_word(word) {
+        Some(ours) => {
+            let dotted = [b".".as_slice(), word].concat(alloc)?;
+            push_written(alloc, hints, &dotted, ours)
+        }
+        None => Ok(()),
+    }
+}
+
+/// Adds how a word of another assembler is written here.
+fn push_written(
+    alloc: Global,
+    hints: &mut Vec<Hint>,
+    word: &[u8],
+    ours: &str,
+) -> Result<(), AllocError> {
+    push_help(
+        alloc,
+        hints,
+        &[word, b" is written ", ours.as_bytes(), b" here"],
+    )
 }
 
 /// Whether a line of these words would read with a colon after the first, which is `written` so and
@@ -379,7 +423,8 @@ fn undefined_name(
     }
 }
 
-/// Adds a note on the line of a name: the name, what is said of the line, its number and the end.
+/// Adds a note on the line of a name: the name, the text before the line's number, the number, and the
+/// text after it.
 fn push_line_note(
     alloc: Global,
     hints: &mut Vec<Hint>,
@@ -392,8 +437,8 @@ fn push_line_note(
     push_note(alloc, hints, &[name, line.as_bytes()])
 }
 
-/// Help with a name that stands on no other line: `words` are those of its line, `rest` those from it
-/// on.
+/// Help with a name that no other line begins with: `words` are those of its line, `rest` those from the
+/// name on.
 fn unknown_name(
     alloc: Global,
     hints: &mut Vec<Hint>,
@@ -411,19 +456,7 @@ fn unknown_name(
     } else if push_mistake(alloc, hints, statement_of(words))? {
         Ok(())
     } else {
-        push_help(
-            alloc,
-            hints,
-            &[
-                b"no line gives ",
-                name,
-                b" a value, as ",
-                name,
-                b": or ",
-                name,
-                b" EQU 5 would",
-            ],
-        )
+        push_help(alloc, hints, &[undefined_sentence(alloc, name)?.as_slice()])
     }
 }
 

@@ -32,7 +32,7 @@ pub(crate) struct Finding {
 }
 
 impl Finding {
-    /// What is said of the fault of a line.
+    /// The fault of a line, with its place and the help.
     pub(crate) fn of_fault(
         alloc: Global,
         source: &Source,

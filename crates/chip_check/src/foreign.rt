@@ -7,11 +7,11 @@ use crate::words::{Word, has_twice, is_one_of, statement_of};
 /// How many lines have to look so.
 const ENOUGH: usize = 3;
 
-/// What is said of a source of Octo.
+/// The note on a source that is written for Octo.
 const OCTO: &str =
     "this looks like a source of Octo; docs/LANGUAGE.md, \"You know Octo\", lists what is written differently here";
 
-/// What is said of a source of another assembler.
+/// The note on a source that is written for another assembler.
 const ANOTHER: &str =
     "this looks like a source of another assembler; docs/LANGUAGE.md, \"You know another assembler\", lists what is written differently here";
 
@@ -66,7 +66,8 @@ impl Tally {
         }
     }
 
-    /// What is said of the whole source below the first of its faults, if a line of a number has that.
+    /// The note on the whole source, which is printed below its first fault: none for another line than
+    /// the one of that fault.
     pub(crate) fn note_on(self, number: usize) -> Option<&'static str> {
         if number != self.first_line {
             None

@@ -95,7 +95,7 @@ impl Known {
         None
     }
 
-    /// What is said of the whole source below the fault of a line.
+    /// The note on the whole source that is printed below the fault of a line, if that is the first one.
     pub(crate) fn note_on(&self, number: usize) -> Option<&'static str> {
         self.tally.note_on(number)
     }

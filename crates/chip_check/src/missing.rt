@@ -33,6 +33,10 @@ const MISSING: &[(&str, &[&str])] = &[
         &["LOOP", "AGAIN", "WHILE", "REPEAT", "UNTIL", "FOR"],
     ),
     (
+        "no instruction loads or stores at an address of its own: LD I gives the address, LD [I], V0 stores V0 there, and LD V0, [I] loads it",
+        &["STA", "STX", "STY", "LDA", "LDX", "LDY"],
+    ),
+    (
         "the sprites of digits are in the machine: LD F, Vx points I to that of the digit in Vx",
         &["FONT"],
     ),

@@ -2,7 +2,8 @@
 
 use crate::forms::is_reserved;
 use crate::hint::{Hint, push_help};
-use crate::words::{Word, is_atom, is_like_register, is_register};
+use crate::words::{Word, is_atom, is_register};
+use chip_properties::near::is_like_register;
 use std::alloc::{AllocError, Global};
 
 /// Statements that have no meaning here, and what to write. In a statement `v` is a register, `n` a
@@ -74,6 +75,67 @@ const MISTAKES: &[(&str, &str)] = &[
     (
         "LD I , FONT *",
         "LD F, Vx points I to the sprite of the digit in Vx",
+    ),
+    (
+        "LD I , v",
+        "I takes an address; ADD I, {0} adds {0} to I, and LD F, {0} points I to the sprite of a digit",
+    ),
+    (
+        "ADD I , n",
+        "put the number into a register first: LD VE, {0}, then ADD I, VE",
+    ),
+    (
+        "LD v , ST",
+        "the sound timer can't be read; the delay timer DT can: LD {0}, DT",
+    ),
+    // parts of an address
+    (
+        "LD v , < n",
+        "the low byte of an address is {1} & 255: LD {0}, {1} & 255",
+    ),
+    (
+        "LD v , > n",
+        "the high byte of an address is {1} / 256: LD {0}, {1} / 256",
+    ),
+    (
+        "LD v , LOW n",
+        "the low byte of an address is {1} & 255: LD {0}, {1} & 255",
+    ),
+    (
+        "LD v , HIGH n",
+        "the high byte of an address is {1} / 256: LD {0}, {1} / 256",
+    ),
+    // random values
+    (
+        "LD v , RANDOM n",
+        "RND gives a register a random value: RND {0}, {1}",
+    ),
+    (
+        "LD v , RND n",
+        "RND gives a register a random value: RND {0}, {1}",
+    ),
+    (
+        "LD v , RANDOM",
+        "RND gives a register a random value: RND {0}, 255",
+    ),
+    // instructions that others spell out
+    (
+        "NOT v",
+        "XOR with 255 flips all bits: LD VE, 255, then XOR {0}, VE",
+    ),
+    (
+        "NEG v",
+        "SUBN subtracts from 0: LD VE, 0, then SUBN {0}, VE",
+    ),
+    (
+        "SCROLL - DOWN n",
+        "scroll-down is written SCD here: SCD {0}",
+    ),
+    ("SCROLL - RIGHT", "scroll-right is written SCR here"),
+    ("SCROLL - LEFT", "scroll-left is written SCL here"),
+    (
+        "SCROLL - *",
+        "the screen scrolls by SCD, SCR and SCL: down, right and left",
     ),
     ("SAVE v", "SAVE is written LD here: LD [I], {0}"),
     ("LOAD v", "LOAD is written LD here: LD {0}, [I]"),
@@ -262,7 +324,7 @@ fn filled(
     Ok(sentence)
 }
 
-/// The word in the place of a statement's `v`, `n` or `o`, of which so many stand before it.
+/// The word in the place of a statement's `v`, `n` or `o` that comes after so many others of them.
 fn written_at<'a>(before: usize, statement: &str, words: &[Word<'a>]) -> &'a [u8] {
     let mut left = before;
     for (wanted, word) in statement.split(' ').zip(words) {

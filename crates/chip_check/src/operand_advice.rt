@@ -7,10 +7,10 @@ use crate::mistakes::push_mistake;
 use crate::place::out_operand;
 use crate::reserved::push_meaning;
 use crate::words::{
-    Word, has_twice, is_atom, is_comma, is_like_register, is_one_of, is_register, is_special,
-    statement_of,
+    Word, has_twice, is_atom, is_comma, is_one_of, is_register, is_special, statement_of,
 };
 use chip_lang::{Body, Expr, Kind, Line, Operand, Pattern, eval};
+use chip_properties::near::{REGISTERS, is_like_register};
 use std::alloc::{AllocError, Global};
 
 /// Help with operands that fit no form: `words` are those of the line, `rest` those from the place
@@ -88,6 +88,11 @@ fn wrong_front(alloc: Global, hints: &mut Vec<Hint>, rest: &[Word<'_>]) -> Resul
             alloc,
             hints,
             &[b"a name stands before EQU, as in SIZE EQU 5"],
+        ),
+        [Word { text: b"*", .. }, Word { text: b"=", .. }, ..] => push_help(
+            alloc,
+            hints,
+            &[ORIGIN.as_bytes()],
         ),
         [Word { text: b":", .. }, ..] => {
             push_help(
@@ -212,8 +217,8 @@ fn sentence_for_parentheses(operand: &[Word<'_>]) -> Option<&'static str> {
     (open > 0).then_some("each `(` needs its `)`")
 }
 
-/// Help with a name that looks like a register.
-pub(crate) const REGISTERS: &[u8] = b"the registers are V0 to V9 and VA to VF";
+/// Help with the `*` that other assemblers write for the address of the next line.
+pub(crate) const ORIGIN: &str = "ORG sets the address of the next line, as in ORG #200";
 
 /// The values that stand in an operand's place: from `low` to `high`.
 #[derive(Clone, Copy)]

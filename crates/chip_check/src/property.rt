@@ -35,7 +35,7 @@ pub fn push_property_fault(
 }
 
 impl Finding {
-    /// What is said of a property that can't be read.
+    /// The fault of a property that can't be read, with its place and the help.
     fn of_property(alloc: Global, line: &[u8], fault: &PropertyFault) -> Result<Finding, AllocError>
         ensures rises { IfOk result (λ finding. finding.span.start ≤ finding.span.end) }
         ensures inside { IfOk result (λ finding. finding.span.end ≤ length line.now) }

@@ -43,14 +43,6 @@ pub(crate) fn is_special(word: &[u8]) -> bool {
     is_one_of(word, &["I", "DT", "ST", "K", "F", "HF", "B", "R"])
 }
 
-/// Whether a word looks like a register of another machine, or like one too many.
-pub(crate) fn is_like_register(word: &[u8]) -> bool {
-    matches!(
-        word,
-        [b'R', b'0'..=b'9'] | [b'R' | b'V', b'1', b'0'..=b'9'] | [b'V', b'G'..=b'Z']
-    )
-}
-
 /// Whether a token is a word, a number or a text.
 pub(crate) fn is_atom(word: &Word<'_>) -> bool {
     matches!(word.kind, Kind::Word | Kind::Number(_) | Kind::Text)
