@@ -55,6 +55,6 @@ def checks(program):
             ["test", "case"],
             "keys",
             filled(KEYS + 1, b"", b"; a comment\n"),
-            (3, b"", b"chipbench: case:2: cannot read the file\nreason: it has over 10000000 bytes\n"),
+            (3, b"", b"chipbench: case:2: cannot read the file that this line names, from the folder of case\nreason: it has over 10000000 bytes\n"),
         )
     )

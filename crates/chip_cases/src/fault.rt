@@ -10,7 +10,7 @@ use thiserror::Error;
 #[derive(Clone, Copy, Debug, Error)]
 pub enum CaseFault {
     /// A line before a case's first command is neither a setting nor anything else known.
-    #[error("neither a setting nor a command")]
+    #[error("expected a setting, as in `rate 10`, or a command, as in `> image` (a comment begins with `#`)")]
     UnknownLine,
     /// The lines of a source end with the file.
     #[error("no `end` follows")]

@@ -6,7 +6,7 @@ ghost use Rattle.chip_host.specs.Endings.{ending_status, failure_status, setting
 use crate::limits::EVENT_BYTES;
 use chip_cases::CaseFault;
 use chip_machine::limits::TAPE_BYTES;
-use chip_replay::{KEYS, LAST_STEP, MOST_EVENTS};
+use chip_replay::{KEYS, LAST_STEP, LEAST_SPACING, MOST_EVENTS, MOST_RATE, MOST_SPACING};
 use chip_session::SetError;
 use chip_trace::HeaderError;
 use clap::error::ErrorKind;
@@ -49,7 +49,8 @@ impl fmt::Display for Code {
             [b'N', b'9'] => write!(f, "there are over {MOST_EVENTS} events"),
             _ => write!(
                 f,
-                "expected STEP KEY down or STEP KEY up, as in `10 4 down` (KEY is 0 to {last_key}, or A to F)"
+                "expected STEP KEY down or STEP KEY up, as in `10 4 down` (KEY is 0 to {last_key}, or A to F); \
+                 a comment begins with `;`"
             ),
         }
     }
@@ -72,11 +73,11 @@ pub enum TestFault {
     Line(CaseFault),
     #[error("this is not text in UTF-8")]
     NotText,
-    #[error("this setting does not take such a number")]
+    #[error("expected a number, as in `rate 10`, `every 1000` or `seed 5`: rate is 1 to {MOST_RATE}, and every {LEAST_SPACING} to {MOST_SPACING}")]
     Number,
-    #[error("there is no such profile")]
+    #[error("there is no such profile; `chipbench run --help` lists them")]
     Profile,
-    #[error("these are no quirks with commas between them, each once")]
+    #[error("expected quirks with commas between them, each at most once; `chipbench run --help` lists them")]
     Quirks,
     #[error("a tape has 1 to 4096 bytes in hexadecimal, and goes without a seed")]
     Tape,
@@ -130,7 +131,7 @@ pub enum Failure<'a> {
     #[error("chipbench: {0}:{1}: {2}\n")]
     BadTest(&'a str, usize, TestFault),
     /// The file that the line of that number names can't be read.
-    #[error("chipbench: {0}:{1}: cannot read the file\nreason: {2}\n")]
+    #[error("chipbench: {0}:{1}: cannot read the file that this line names, from the folder of {0}\nreason: {2}\n")]
     UnreadInTest(&'a str, usize, io::Error),
     #[error("chipbench: no page on {0}; `chipbench explain` lists the codes\n")]
     NoPage(&'a str),

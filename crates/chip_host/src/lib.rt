@@ -15,6 +15,6 @@ pub use file_access::FileAccess;
 pub use printing::{Answer, deliver, faults, print, refuse_source, unopened_text};
 pub use reading::{
     AskedRun, KeyFile, MOST_SOURCE, as_source, file_name, read_asked, read_given, read_source,
-    settings_of,
+    settings_of, tell_text,
 };
 pub use system::{Host, System};

@@ -23,8 +23,11 @@ use std::io::{Read, Write};
 // The name of a source that is read from the standard input.
 const INPUT: &str = "-";
 
-// How many bytes of a source are looked at to see that it is an image.
+// How many bytes of a file are looked at to see whether it is an image or a text.
 const FIRST_BYTES: usize = 64;
+
+// A shorter file isn't taken for a text.
+const LEAST_TEXT: usize = 8;
 
 /// A source of this length or more doesn't open.
 pub const MOST_SOURCE: u32 = SOURCE_BYTES as u32 + 1;
@@ -141,7 +144,32 @@ pub fn read_given<'a, F: FileAccess, I: Read, E: Write>(
     ensures err { IfErr result (IsNotGiven I.remaining input.old input.new is_image name.entry) }
 {
     let bytes = read_source(system, name, input)?;
+    if is_image {
+        tell_text(system, name, &bytes, errors);
+    }
     as_source(system.alloc, name, is_image, bytes, errors)
+}
+
+/// Says on the standard error, where somebody reads it, that a file that is given as an image looks like
+/// a source.
+pub fn tell_text<F, E: Write>(system: &System<'_, F>, name: &str, bytes: &[u8], errors: &mut E) {
+    if system.host.has_reader && is_text(bytes) {
+        let _ = write!(
+            errors,
+            "chipbench: {name} looks like a source, and is taken as an image; `asm` makes an image of \
+             a source, and other commands take one without --image\n"
+        );
+    }
+}
+
+// Whether the first bytes of a file are those of lines of text.
+fn is_text(bytes: &[u8]) -> bool {
+    bytes.len() >= LEAST_TEXT
+        && bytes.contains(&b'\n')
+        && bytes.iter().take(FIRST_BYTES).all(|byte| matches!(
+            *byte,
+            b' '..=b'~' | b'\t' | b'\n' | b'\r'
+        ))
 }
 
 /// The bytes themselves, or the source that `dis` prints of them. Where an image was given as a
