@@ -325,6 +325,21 @@ fn row_named<'a>(rows: &'a [CommandRow], name: &str) -> Option<&'a CommandRow>
     rows.iter().find(|row| row.name == name)
 }
 
+/// The names of the commands that take an argument `--NAME`, in the order of the help.
+///
+/// # Errors
+///
+/// Out of memory.
+pub fn commands_with(alloc: Global, name: &str) -> Result<Vec<&'static str>, AllocError> {
+    let mut names = Vec::new(alloc);
+    for row in &COMMANDS {
+        if row.takes(alloc, name) {
+            names.push(row.name)?;
+        }
+    }
+    Ok(names)
+}
+
 // The program without its commands.
 fn program<'a>(alloc: Global) -> Result<Command<'a>, AllocError>
     ensures { IfOk result (λ command. app_of command
@@ -357,6 +372,16 @@ fn with_commands<'a>(
 }
 
 impl CommandRow {
+    // Whether the command takes an argument `--NAME`.
+    fn takes(&self, alloc: Global, name: &str) -> bool {
+        for argument in self.arguments {
+            if argument.build(alloc).get_long() == Some(name) {
+                return true;
+            }
+        }
+        false
+    }
+
     fn command<'a>(&self, alloc: Global) -> Result<Command<'a>, AllocError>
         ensures { IfOk result (Makes (app_of_row self.now)) }
     {

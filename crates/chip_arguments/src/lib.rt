@@ -11,5 +11,5 @@ pub use command_line::{
     RunArguments, SearchArguments, SettingArguments, TestArguments, TraceArguments, not_text,
     number, parse_arguments, seed,
 };
-pub use commands::VERSION;
+pub use commands::{VERSION, commands_with};
 pub use limits::USUAL_STATES;

@@ -1,6 +1,7 @@
 //! What is printed of cases: those that failed, and how many passed.
 
 use crate::case_run::Verdict;
+use crate::terminal::word_page;
 use chip_cases::{Case, Given, Step, difference_text};
 use chip_check::push_as_shown;
 use chip_pages::page_on;
@@ -29,13 +30,15 @@ impl Report {
         }
     }
 
-    /// Adds the outcome of a case of a file.
+    /// Adds the outcome of a case of a file. `fault` is the first fault of its source, as lines, where an
+    /// answer is that there is no image.
     pub(crate) fn push_case(
         &mut self,
         alloc: Global,
         file: &str,
         case: &Case<'_>,
         verdict: &Verdict,
+        fault: &[u8],
     ) -> Result<(), AllocError> {
         let has_passed = verdict.has_passed();
         if has_passed {
@@ -49,6 +52,7 @@ impl Report {
         if !has_passed {
             let mut details = Vec::new(alloc);
             push_failure(alloc, &mut details, file, case, verdict)?;
+            details.extend_from_slice(fault)?;
             // Lines are comments in the Test Anything Protocol. The last one has its end too.
             let mut start = 0;
             for (end, byte) in details.iter().enumerate() {
@@ -175,21 +179,26 @@ fn push_other_answer(
     if let [b'n', b'o', b' ', code @ .., b'\n'] = given.answer.as_slice()
         && given.is_refused
     {
-        push_title(text, code)?;
+        push_title(text, code, step.command)?;
     }
     text.push(b'\n')?;
     let difference = difference_text(alloc, &step.expected, &given.answer)?;
     text.extend_from_slice(&difference)
 }
 
-// Adds what a code means, where it is known.
-fn push_title(text: &mut Vec<u8>, code: &[u8]) -> Result<(), AllocError> {
+// Adds what a code means, where it is known, and of what form the command is, where it has another one.
+fn push_title(text: &mut Vec<u8>, code: &[u8], command: &[u8]) -> Result<(), AllocError> {
     let Ok(code) = str::from_utf8(code) else {
         return Ok(());
     };
     if let Some(page) = page_on(code) {
         text.extend_from_slice(b": refused, ")?;
         text.extend_from_slice(page.title.as_bytes())?;
+    }
+    if code == "C1"
+        && let Some(page) = word_page(command)
+    {
+        push_parts(text, &[b": ", page.title.as_bytes()])?;
     }
     Ok(())
 }

@@ -19,12 +19,14 @@ use crate::picturing::picture;
 use crate::terminal::{Begun, answer_begun};
 use crate::testing::test_files;
 use crate::tracing::trace;
+use crate::usage::tell_usage;
 use chip_analysis::{check, explore, prove, tell_faults, tell_unopened};
 use chip_arguments::{CommandLine, RunArguments, SettingArguments, not_text, parse_arguments};
 use chip_asm::Source;
 use chip_host::{
     AskedRun, Ending, Failure, FileAccess, MOST_SOURCE, System, TapeFault, as_source, deliver,
     faults, file_name, print, read_asked, read_given, read_source, refuse_source, settings_of,
+    tell_text,
 };
 use chip_pages::licence_text;
 use chip_session::Counted;
@@ -76,6 +78,7 @@ pub fn program<F: Files + Clock, S: AsStr, I: Read, O: Write, E: Write>(
     let ended = carry_out(system, arguments, input, output, errors);
     let flushed = output.flush();
     let advice = advice_on(&ended);
+    tell_usage(system.alloc, &ended, first_of(arguments), errors);
     let status = finish(ended, flushed.is_ok(), errors);
     advise(advice, arguments, system.host.has_reader, errors);
     status
@@ -89,7 +92,10 @@ pub fn refuse_arguments<E: Write>(alloc: Global, error: &io::Error, errors: &mut
         return report(Failure::OutOfMemory, errors);
     }
     match not_text(alloc) {
-        Ok(error) => report(Failure::Usage(error), errors),
+        Ok(error) => {
+            let _ = write!(errors, "{error}");
+            report(Failure::Usage(error), errors)
+        }
         Err(_) => report(Failure::OutOfMemory, errors),
     }
 }
@@ -114,6 +120,8 @@ enum Advice {
     Commands,
     /// Why the tape is bad: to a reader alone, since programs know the line above it.
     Tape(TapeFault),
+    /// That the folder of a file isn't there: to a reader alone too.
+    Folder,
 }
 
 fn advice_on(ended: &Result<Ending, Failure<'_>>) -> Advice {
@@ -121,6 +129,9 @@ fn advice_on(ended: &Result<Ending, Failure<'_>>) -> Advice {
         Err(Failure::BadTape(fault)) => Advice::Tape(*fault),
         Err(Failure::Usage(error)) if error.kind() == ErrorKind::InvalidSubcommand => {
             Advice::Commands
+        }
+        Err(Failure::CannotWrite(_, error)) if error.kind() == io::ErrorKind::NotFound => {
+            Advice::Folder
         }
         _ => Advice::Nothing,
     }
@@ -132,7 +143,13 @@ fn advise<S: AsStr, E: Write>(advice: Advice, arguments: &[S], has_reader: bool,
         Advice::Tape(fault) if has_reader => {
             let _ = write!(errors, "help: {fault}\n");
         }
-        Advice::Tape(_) | Advice::Nothing => {}
+        Advice::Folder if has_reader => {
+            let _ = write!(
+                errors,
+                "help: make the folder of this file first, as by mkdir\n"
+            );
+        }
+        Advice::Tape(_) | Advice::Folder | Advice::Nothing => {}
     }
 }
 
@@ -168,11 +185,22 @@ fn is_file_name(word: &str) -> bool {
         })
 }
 
-// Says what hindered the program. Where the standard error fails there is nobody to tell.
+// The first argument, or nothing.
+fn first_of<S: AsStr>(arguments: &[S]) -> &str {
+    match arguments.first() {
+        Some(first) => first.as_str(),
+        None => "",
+    }
+}
+
+// Says what hindered the program, unless that was said of its arguments. Where the standard error fails
+// there is nobody to tell.
 fn report<E: Write>(failure: Failure<'_>, errors: &mut E) -> u8
     ensures { result ≡ failure_status failure.entry }
 {
-    let _ = write!(errors, "{failure}");
+    if !matches!(&failure, Failure::Usage(_)) {
+        let _ = write!(errors, "{failure}");
+    }
     failure.status()
 }
 
@@ -315,6 +343,9 @@ fn debug<'a, F: FileAccess, I: Read, O: Write, E: Write>(
     match given.source {
         Some(name) => {
             let bytes = system.read(name, MOST_SOURCE)?;
+            if given.is_image {
+                tell_text(system, name, &bytes, errors);
+            }
             let source = as_source(system.alloc, name, given.is_image, bytes, errors)?;
             let begun = Begun {
                 source: &source,

@@ -12,6 +12,7 @@ mod picturing;
 mod terminal;
 mod testing;
 mod tracing;
+mod usage;
 
 pub use chip_arguments::{
     CommandLine, ExploreArguments, PictureArguments, ProveArguments, RunArguments, SearchArguments,

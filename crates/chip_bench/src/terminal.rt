@@ -6,7 +6,7 @@ use crate::output::answer_script;
 use chip_asm::Source;
 use chip_check::unopened_report;
 use chip_host::{Ending, Failure};
-use chip_pages::{page_on, word_pages};
+use chip_pages::{Page, page_on, word_pages};
 use chip_session::{Bench, CommandFault, Counted, Nobody, Observer, Refusal, Refused, Settings};
 use std::alloc::Global;
 use std::io::{Read, Write};
@@ -48,6 +48,16 @@ pub(crate) fn answer_begun<'a, I: Read, O: Write, E: Write>(
     } else {
         answer_script(alloc, begun.source, settings, input, output, &mut Nobody)
     }
+}
+
+/// The page on the word with which a command begins, if it is one that commands have.
+pub(crate) fn word_page(command: &[u8]) -> Option<&'static Page> {
+    word_pages().iter().find(|page| {
+        matches!(
+            command.strip_prefix(page.code.as_bytes()),
+            Some([] | [b' ', ..])
+        )
+    })
 }
 
 // The one who types. Where standard error fails there is nobody to tell.
@@ -95,13 +105,7 @@ impl<'e, E: Write> Observer for Terminal<'e, E> {
             // What would be right: the form of the command that the first word names, or else the words
             // that name one.
             Refused::Line(CommandFault::Unknown) => {
-                let named = word_pages().iter().find(|page| {
-                    matches!(
-                        line.strip_prefix(page.code.as_bytes()),
-                        Some([] | [b' ', ..])
-                    )
-                });
-                match named {
+                match word_page(line) {
                     Some(page) => self.say(page.title),
                     None => {
                         self.say("the commands are ");

@@ -6,10 +6,13 @@ use crate::case_report::Report;
 use crate::case_run::{Verdict, run_case};
 use crate::case_setup::{case_keys, case_settings, case_source};
 use chip_arguments::TestArguments;
+use chip_asm::Source;
 use chip_cases::{Case, FileFault, Given, misplaced_refusal, read_cases, updated_text};
+use chip_check::fault_text;
 use chip_host::limits::TEST_FILE_BYTES;
 use chip_host::{Ending, Failure, FileAccess, KeyFile, System, TestFault, print};
 use chip_session::Counted;
+use std::alloc::{AllocError, Global};
 use std::io::Write;
 
 /// `test`: carries out the cases of the files, one file after another, and prints what failed.
@@ -84,12 +87,50 @@ fn test_cases<'a, F: FileAccess>(
     for case in cases {
         let verdict = test_case(system, name, case)?;
         has_passed = has_passed && verdict.has_passed();
-        report.push_case(system.alloc, name, case, &verdict)?;
+        let fault = source_fault(system, name, case, &verdict);
+        report.push_case(system.alloc, name, case, &verdict, &fault)?;
         if let Verdict::Answered(mut given) = verdict {
             others.append(&mut given)?;
         }
     }
     Ok(has_passed)
+}
+
+// The first fault of a case's source, as `check` prints it, where an answer is that there is no image, and
+// otherwise nothing.
+fn source_fault<F: FileAccess>(
+    system: &System<'_, F>,
+    name: &str,
+    case: &Case<'_>,
+    verdict: &Verdict,
+) -> Vec<u8> {
+    let alloc = system.alloc;
+    let is_asked = match verdict {
+        Verdict::Answered(others) => others
+            .iter()
+            .any(|given| given.answer.as_slice() == b"no Q1\n".as_slice()),
+        Verdict::Unopened(_) | Verdict::BadKeys(_, _) => false,
+    };
+    if !is_asked {
+        return Vec::new(alloc);
+    }
+    let Ok(bytes) = case_source(system, name, case.setup.source) else {
+        return Vec::new(alloc);
+    };
+    let Ok(source) = Source::open(alloc, &bytes) else {
+        return Vec::new(alloc);
+    };
+    first_fault(alloc, &source).unwrap_or(Vec::new(alloc))
+}
+
+// The first fault of a source, as `check` prints it; nothing of a source without faults.
+fn first_fault(alloc: Global, source: &Source) -> Result<Vec<u8>, AllocError> {
+    for number in 1..=source.lines() {
+        if source.fault(number).is_some() {
+            return fault_text(alloc, b"source", source, number);
+        }
+    }
+    Ok(Vec::new(alloc))
 }
 
 // Carries out a case on the source, the key events and the settings that its lines ask for.

@@ -15,7 +15,7 @@ returns-in_ok-source-in-Some g c =
     debugs_file g.I.Read.remaining g.O.Write.contents c.args.input.now c.answer_begun.new.input c.args.output.now c.answer_begun.new.output
     c.args.given.source c.args.given.is_image c.in-Some.name c.args.arguments.now c.in_ok-settings.settings c.in_ok-bytes-in-Some.bytes.items
     c.in_ok-source-in-Some.source.items c.answer_begun.result c.in-Some.is c.in_ok-settings.ensures.ok c.in_ok-source-in-Some.ensures.ok
-    (rw c.deref.ensures.value at seeded)
+    (rw c.deref-in-Some.ensures.value at seeded)
 
 pub returns-in_err-source-in-Some : goal.returns-in_err-source-in-Some
 returns-in_err-source-in-Some g c =

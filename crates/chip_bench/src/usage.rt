@@ -1,0 +1,176 @@
+//! The messages on arguments that the program doesn't take.
+
+use chip_arguments::commands_with;
+use chip_host::{Ending, Failure};
+use clap::Error;
+use clap::error::ErrorKind;
+use std::alloc::{AllocError, Global};
+use std::io::Write;
+
+/// What to type in place of commands of other programs.
+const OTHER_COMMANDS: &[(&str, &[&str])] = &[
+    (
+        "`chipbench asm` makes an image of a source",
+        &["assemble", "build", "compile", "make"],
+    ),
+    (
+        "`chipbench dis` makes a source of an image",
+        &["disasm", "disassemble", "decompile", "disassembly"],
+    ),
+    (
+        "`chipbench run` makes a number of steps, and `chipbench-page` opens the page, where you can play",
+        &["play", "start", "exec", "execute", "emulate"],
+    ),
+    (
+        "`chipbench check` prints the faults and the warnings of a source",
+        &["lint", "validate"],
+    ),
+    (
+        "`chipbench prove` answers the properties of a source",
+        &["verify", "proof"],
+    ),
+];
+
+/// What to type in place of an argument, for a command or, with none, for each.
+const OTHER_ARGUMENTS: &[(&str, &str, &str)] = &[
+    (
+        "-o",
+        "asm",
+        "the image comes after the source: chipbench asm game.asm game.ch8",
+    ),
+    (
+        "--output",
+        "asm",
+        "the image comes after the source: chipbench asm game.asm game.ch8",
+    ),
+    (
+        "--keys",
+        "explore",
+        "explore tries all keys; `run`, `trace` and `picture` take --keys",
+    ),
+    (
+        "--keys",
+        "prove",
+        "prove tries all keys; `run`, `trace` and `picture` take --keys",
+    ),
+];
+
+/// If the program ended because of its arguments, says in the words of `clap` what is wrong with them. A tip
+/// of the program's own takes the place of clap's where there is one. `first` is the first argument.
+pub(crate) fn tell_usage<E: Write>(
+    alloc: Global,
+    ended: &Result<Ending, Failure<'_>>,
+    first: &str,
+    errors: &mut E,
+) {
+    if let Err(Failure::Usage(error)) = ended {
+        let _ = match usage_text(alloc, error, first) {
+            Ok(text) => errors.write_all(&text),
+            Err(_) => write!(errors, "{error}"),
+        };
+    }
+}
+
+// The text of a fault of the arguments, with the program's own tip in the place of that of `clap`.
+fn usage_text(alloc: Global, error: &Error, first: &str) -> Result<Vec<u8>, AllocError> {
+    let text = format!(in alloc; "{error}")?;
+    let Some(tip) = tip_on(alloc, error.kind(), text.as_str(), first)? else {
+        return Ok(text.into_bytes());
+    };
+    let (front, below) = text
+        .as_str()
+        .split_once("\n\n")
+        .unwrap_or((text.as_str(), ""));
+    // Where clap tips a similar option, its usage shows that option, so both are left out.
+    let rest = match below.split_once("Usage: ") {
+        Some((tips, usage)) if !tips.contains("similar argument") => usage,
+        _ => "",
+    };
+    let (usage, _) = rest.split_once("\n").unwrap_or((rest, ""));
+    let (before, after) = match usage {
+        "" => ("", ""),
+        _ => ("Usage: ", "\n\n"),
+    };
+    let parts: &[&[u8]] = &[
+        front.as_bytes(),
+        b"\n\n  tip: ",
+        &tip,
+        b"\n\n",
+        before.as_bytes(),
+        usage.as_bytes(),
+        after.as_bytes(),
+        b"For more information, try '--help'.\n",
+    ];
+    parts.concat(alloc)
+}
+
+// The program's own tip for a fault of this kind, if it has one.
+fn tip_on(
+    alloc: Global,
+    kind: ErrorKind,
+    text: &str,
+    first: &str,
+) -> Result<Option<Vec<u8>>, AllocError> {
+    let Some(word) = quoted_in(text) else {
+        return Ok(None);
+    };
+    match kind {
+        ErrorKind::UnknownArgument => tip_on_argument(alloc, word, first),
+        ErrorKind::InvalidSubcommand => match sentence_on_command(word) {
+            Some(sentence) => Ok(Some(Vec::from_slice(alloc, sentence.as_bytes())?)),
+            None => Ok(None),
+        },
+        ErrorKind::ValueValidation if text.contains("invalid digit found in string") => {
+            let sentence = b"a number has decimal digits alone, as in 16";
+            Ok(Some(Vec::from_slice(alloc, sentence)?))
+        }
+        _ => Ok(None),
+    }
+}
+
+// What a text has between its first two quotes.
+fn quoted_in(text: &str) -> Option<&str> {
+    let (_, rest) = text.split_once("'")?;
+    let (word, _) = rest.split_once("'")?;
+    Some(word)
+}
+
+// What to type in place of an argument that the command of the first word doesn't take.
+fn tip_on_argument(alloc: Global, word: &str, first: &str) -> Result<Option<Vec<u8>>, AllocError> {
+    for (argument, command, sentence) in OTHER_ARGUMENTS {
+        let is_word = word.as_bytes() == argument.as_bytes();
+        let is_command = first.as_bytes() == command.as_bytes();
+        if is_word && is_command {
+            let sentence = sentence.as_bytes();
+            return Ok(Some(Vec::from_slice(alloc, sentence)?));
+        }
+    }
+    if let [b'-', b'0'..=b'9', ..] = word.as_bytes() {
+        let sentence = b"a number has decimal digits alone, and no sign";
+        return Ok(Some(Vec::from_slice(alloc, sentence)?));
+    }
+    let Some(name) = word.strip_prefix("--") else {
+        return Ok(None);
+    };
+    let commands = commands_with(alloc, name)?;
+    if commands.is_empty() {
+        return Ok(None);
+    }
+    let names = commands.join(alloc, ", ")?;
+    let more = match word {
+        "--image" => "; `chipbench dis` makes a source of an image",
+        _ => "",
+    };
+    let tip = format!(in alloc; "the commands that take '{word}' are: {names}{more}")?;
+    Ok(Some(tip.into_bytes()))
+}
+
+// What to type in place of a command of other programs.
+fn sentence_on_command(word: &str) -> Option<&'static str> {
+    for (sentence, others) in OTHER_COMMANDS {
+        if others.iter().any(|other| word == *other) {
+            return Some(*sentence);
+        }
+    }
+    None
+}
