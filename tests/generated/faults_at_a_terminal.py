@@ -1,4 +1,5 @@
 """Commands on a source that has faults, or doesn't open, tell them on standard error where that is a terminal, and why a tape is bad.
+They also tell there which lines and places of a source say less than they seem to.
 
 Standard output has the same bytes as over a pipe, where nothing is told. The sentences are written by hand.
 """
@@ -15,6 +16,10 @@ FILES = {
     "long.asm": b"CLS\n" + b";" * 201 + b"\n",
     "many.asm": b"\n" * 4001,
     "game.ch8": b"\x12\x00",
+    # line 1 begins at 512, line 2 at 514
+    "notes.asm": b"LOOP: LD V0, 1 ;! V0 <= 5\nJP LOOP\n;! V0 <= 5 at 3\nEND\nnext game\n",
+    "quiet.asm": b"LOOP: LD V0, 1\nJP LOOP ; never ;!\n;! V0 <= 5 at LOOP\nEND\n\n; the end\n",
+    "broken.asm": b";! V0 < 1\nLOOP: LD V0, 1\nJP LOOP\n",
 }
 ONE = (
     "one.asm:2:4: F9: undefined name\nJP STRAT\n   ^~~~~\n"
@@ -42,6 +47,26 @@ TAPES = {
     "--tape " + 4097 * "00": LENGTH,
     "--tape 00 --seed 1": "help: --tape and --seed exclude each other: give one of them\n",
 }
+HIDDEN = "chipbench: notes.asm:1: `;!` behind a statement or a label states nothing; put it on a line of its own\n"
+BEHIND_END = "chipbench: notes.asm:4: END ends the source here, so the lines below it are ignored\n"
+NO_LINE = "chipbench: notes.asm{}: no line begins at address {}; the nearest, line 1, begins at 512\n"
+TEXT = (
+    "chipbench: {} looks like a source, and is taken as an image; `asm` makes an image of a source, and other commands take one "
+    "without --image\n"
+)
+# The words of runs, the first part of what standard error has over a pipe, and what it has more at a terminal.
+NOTES = [
+    (["check", "notes.asm"], "", HIDDEN + BEHIND_END),
+    (["check", "quiet.asm"], "", ""),
+    (["prove", "notes.asm"], "", NO_LINE.format(":3", 3) + HIDDEN + BEHIND_END),
+    (["prove", "quiet.asm"], "", ""),
+    (["explore", "notes.asm", "--reach", "2"], "", NO_LINE.format("", 2)),
+    (["explore", "notes.asm", "--reach", "LOOP"], "", ""),
+    (["explore", "notes.asm", "--never", "V0 = 6 at 2"], "", NO_LINE.format("", 2)),
+    (["dis", "quiet.asm"], "", TEXT.format("quiet.asm")),
+    (["run", "--image", "quiet.asm", "--steps", "1"], "", TEXT.format("quiet.asm")),
+    (["prove", "broken.asm", "--keys-to", "none/"], "chipbench: cannot write none/\nreason: ", "help: make the folder of this file first, as by mkdir\n"),
+]
 # The words of each command after the name of the source.
 COMMANDS = {
     "asm": ["out.ch8"],
@@ -114,6 +139,18 @@ def wrong_tape(program, settings, wanted):
     return "" if found == [(2, b"", line), (2, b"", line + wanted)] else f"{found!r}"
 
 
+def wrong_notes(program, words, over_pipe, more):
+    """What is wrong with what a run tells."""
+    with tempfile.TemporaryDirectory() as folder:
+        for name, content in FILES.items():
+            pathlib.Path(folder, name).write_bytes(content)
+        status, output, told = ran(program, words, folder, True)
+        again = ran(program, words, folder, False)
+    if (status, output) != again[:2] or not again[2].startswith(over_pipe) or (over_pipe == "" and again[2] != ""):
+        return f"{status} {output!r} at a terminal, {again} over a pipe"
+    return "" if told == again[2] + more else f"standard error has {told!r}"
+
+
 def is_of_more(told):
     """The first fault alone is reported."""
     first, last = MORE
@@ -133,3 +170,5 @@ def checks(program):
     yield "debug, typed", lambda: wrong_debug(program, [], True, LONG)
     yield "debug, not typed", lambda: wrong_debug(program, [], False, "")
     yield "debug, typed, --quiet", lambda: wrong_debug(program, ["--quiet"], True, "")
+    for words, over_pipe, more in NOTES:
+        yield " ".join(words), lambda words=words, over_pipe=over_pipe, more=more: wrong_notes(program, words, over_pipe, more)

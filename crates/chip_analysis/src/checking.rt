@@ -8,7 +8,8 @@ ghost use Rattle.chip_analysis.specs.inner.Covering.{IsCovered};
 ghost use Rattle.chip_host.specs.Printing.{printed_by, printed};
 
 use crate::covering::Covered;
-use crate::progress::Progress;
+use crate::noting::tell_lines;
+use crate::progress::{Progress, Teller};
 use crate::sets::warnings_of;
 use chip_arguments::{CheckArguments, ColorChoice, SettingArguments};
 use chip_asm::{OpenError, Source};
@@ -19,6 +20,7 @@ use chip_session::{Counted, Settings};
 use chip_warnings::{Asked, Warning, warnings};
 use std::alloc::{AllocError, Global};
 use std::io::{Read, Write};
+use std::str;
 use std::time::Clock;
 
 /// How sources are checked, and how what is found in them is printed.
@@ -109,13 +111,13 @@ impl<'p> Checker<'p> {
         }
     }
 
-    fn check_each<'a, F: FileAccess, I: Read, O: Write, W: Watcher>(
+    fn check_each<'a, F: FileAccess, I: Read, O: Write, T: Teller>(
         &self,
         system: &System<'_, F>,
         names: &[&'a str],
         input: &mut Counted<I>,
         output: &mut Counted<O>,
-        watcher: &mut W,
+        teller: &mut T,
     ) -> Result<Ending, Failure<'a>>
         ensures { ChecksEach I.remaining O.contents self.now.is_json self.now.is_painted
             names.now input.old input.new output.old output.new result }
@@ -123,7 +125,7 @@ impl<'p> Checker<'p> {
         let mut ending = Ending::Done;
         for name in names {
             let bytes = read_source(system, name, input)?;
-            let answer = self.answer_on(system.alloc, name.as_bytes(), &bytes, watcher);
+            let answer = self.answer_on(system.alloc, name.as_bytes(), &bytes, teller);
             let one = deliver(answer, output)?;
             ending = worse(ending, one);
         }
@@ -131,12 +133,12 @@ impl<'p> Checker<'p> {
     }
 
     // What is found in a source, or why it doesn't open.
-    fn answer_on<W: Watcher>(
+    fn answer_on<T: Teller>(
         &self,
         alloc: Global,
         name: &[u8],
         bytes: &[u8],
-        watcher: &mut W,
+        teller: &mut T,
     ) -> Result<Answer, AllocError>
         ensures { IfOk result (λ answer. IsPrintedCheckOf self.now.is_json self.now.is_painted
             name.now (open_fault bytes.now) (lines_of bytes.now) (printed_by answer)) }
@@ -145,7 +147,8 @@ impl<'p> Checker<'p> {
             Ok(source) => source,
             Err(error) => return self.unopened(alloc, name, error),
         };
-        let covered = self.covered(alloc, &source, watcher)?;
+        tell_lines(alloc, str::from_utf8(name).unwrap_or(""), &source, teller);
+        let covered = self.covered(alloc, &source, teller)?;
         let coverage = covered.as_ref().map(|covered| covered.coverage());
         let asked = Asked {
             allowed: self.allowed,

@@ -6,6 +6,7 @@ ghost use Rattle.chip_analysis.specs.Commands.{Explores, IsBadProperty, IsScript
 ghost use Rattle.chip_analysis.specs.inner.Written.{IsNamedWritten, IsScriptWritten};
 ghost use Rattle.chip_analysis.specs.Exploring.{AsksProperty, StatesOne, address_of, answer_lines, cause_word, covering_text, in_memory, met_line, met_word, number_line, search_ending, target_asked};
 
+use crate::noting::tell_target;
 use crate::progress::{News, Progress, Teller};
 use crate::sets::{Sets, sets_of};
 use crate::stop_place::{place_text, word_text};
@@ -100,6 +101,9 @@ fn search_opened<'a, F: FileAccess, O: Write, T: Teller>(
     let Some(target) = target_of(arguments, sets.causes, source, &properties) else {
         return Err(Failure::BadPlace(arguments.place.unwrap_or("")));
     };
+    if !arguments.is_image {
+        tell_target(arguments.search.source, source, &target, teller);
+    }
     let start = machine_of(system.alloc, image, settings.tape(), settings.quirks())?;
     let question = Question {
         rate: settings.rate(),

@@ -4,6 +4,7 @@
 mod checking;
 mod covering;
 mod exploring;
+mod noting;
 mod progress;
 mod proving;
 mod sets;

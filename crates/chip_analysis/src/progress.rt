@@ -13,6 +13,35 @@ pub(crate) enum News<'n> {
     NothingStated(&'n str),
     /// The time is over.
     OutOfTime,
+    /// A note on a line of the source of this name, or with the number 0 on the whole source. Only a reader
+    /// is told.
+    Noted {
+        name: &'n str,
+        line: usize,
+        note: Note<'n>,
+    },
+}
+
+/// Why a property or a place says less than it seems to.
+#[derive(Clone, Copy)]
+pub(crate) enum Note<'n> {
+    /// No line begins at `address`. The nearest line has this number, and begins at `begin`.
+    NoLineAt {
+        address: u16,
+        number: usize,
+        begin: usize,
+    },
+    /// A comparison has numbers alone, and this label is one of them.
+    Label {
+        label: &'n str,
+        value: i32,
+    },
+    /// A comparison has numbers alone.
+    Constant,
+    /// `;!` stands behind a statement.
+    Hidden,
+    /// Lines that aren't empty stand behind END.
+    BehindEnd,
 }
 
 /// A watcher that also tells what a command did.
@@ -77,8 +106,50 @@ impl<'e, E: Write, C: Clock> Watcher for Progress<'e, E, C> {
     }
 }
 
+impl<'e, E: Write, C: Clock> Progress<'e, E, C> {
+    /// Tells a note on a line of a source.
+    fn tell_note(&mut self, name: &str, line: usize, note: Note<'_>) {
+        let _ = match line {
+            0 => write!(self.errors, "chipbench: {name}: "),
+            _ => write!(self.errors, "chipbench: {name}:{line}: "),
+        };
+        let _ = match note {
+            Note::NoLineAt {
+                address,
+                number,
+                begin,
+            } => writeln!(
+                self.errors,
+                "no line begins at address {address}; the nearest, line {number}, begins at {begin}"
+            ),
+            Note::Label { label, value } => writeln!(
+                self.errors,
+                "a comparison has constants alone: {label} is the address {value}; [{label}] is the byte there"
+            ),
+            Note::Constant => writeln!(
+                self.errors,
+                "a comparison has constants alone, so no step changes it"
+            ),
+            Note::BehindEnd => writeln!(
+                self.errors,
+                "END ends the source here, so the lines below it are ignored"
+            ),
+            Note::Hidden => writeln!(
+                self.errors,
+                "`;!` behind a statement or a label states nothing; put it on a line of its own"
+            ),
+        };
+    }
+}
+
 impl<'e, E: Write, C: Clock> Teller for Progress<'e, E, C> {
     fn tell(&mut self, news: News<'_>) {
+        if let News::Noted { name, line, note } = news {
+            if self.is_shown {
+                self.tell_note(name, line, note);
+            }
+            return;
+        }
         let _ = match news {
             News::Written(name) => writeln!(self.errors, "chipbench: wrote {name}"),
             News::NothingStated(name) => writeln!(
@@ -86,6 +157,7 @@ impl<'e, E: Write, C: Clock> Teller for Progress<'e, E, C> {
                 "chipbench: {name} states no property: a line such as `;! always V0 <= 9` does"
             ),
             News::OutOfTime => writeln!(self.errors, "chipbench: out of time"),
+            News::Noted { .. } => Ok(()),
         };
     }
 }

@@ -18,6 +18,7 @@ ghost use Rattle.chip_analysis.specs.inner.Proofs.{IsAnswering, IsLeft, IsNext, 
 
 use crate::checking::Checker;
 use crate::exploring::{bounds_of, machine_of, script_text};
+use crate::noting::{tell_lines, tell_properties};
 use crate::progress::{News, Progress, Teller};
 use crate::sets::keys_of;
 use chip_arguments::ProveArguments;
@@ -273,6 +274,9 @@ impl<'p, 'a, F: FileAccess> Prover<'p, 'a, F> {
     {
         let Properties { stated, faults } = properties_of(self.system.alloc, self.source)?;
         let arguments = self.arguments;
+        let name = arguments.search.source;
+        tell_properties(self.system.alloc, name, self.source, &stated, teller);
+        tell_lines(self.system.alloc, name, self.source, teller);
         let only = arguments.only;
         let left = Left::of(self.system.alloc, only, stated)?;
         let is_faulty = has_faults(only, &faults);
@@ -281,7 +285,7 @@ impl<'p, 'a, F: FileAccess> Prover<'p, 'a, F> {
             return Err(Failure::NoProperty(line));
         }
         if is_empty && !is_faulty {
-            teller.tell(News::NothingStated(arguments.search.source));
+            teller.tell(News::NothingStated(name));
         }
         let reports = self.reports(&faults)?;
         self.prove_left(left, &reports, is_faulty, output, teller)

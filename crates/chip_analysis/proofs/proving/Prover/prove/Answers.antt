@@ -13,7 +13,7 @@ returns-in-Some g c =
     let asked = asked_of p.arguments.now.only properties.stated.items in
     let is : IsLeft asked c.in_ok-left.left = c.in_ok-left.ensures in
     let faulty : c.has_faults-is_faulty.result ≡ has_faults p.arguments.now.only properties.faults.items =
-    c.has_faults-is_faulty.ensures ∙ ap (has_faults p.arguments.now.only) c.deref.ensures.value in
+    c.has_faults-is_faulty.ensures ∙ ap (has_faults p.arguments.now.only) c.deref-2.ensures.value in
     let none : unstated_line p.arguments.now.only asked c.has_faults-is_faulty.result ≡ Some c.in-Some.line =
     missing p.arguments.now.only c.in-Some.line c.is_empty-is_empty.result c.has_faults-is_faulty.result asked c.in-Some.ensures
     (asked_none asked c.in_ok-left.left c.is_empty-is_empty.result is c.is_empty-is_empty.ensures) in
@@ -32,7 +32,7 @@ returns g c =
     let asked = asked_of p.arguments.now.only properties.stated.items in
     let is : IsLeft asked c.in_ok-left.left = c.in_ok-left.ensures in
     let faulty : c.has_faults-is_faulty.result ≡ has_faults p.arguments.now.only properties.faults.items =
-    c.has_faults-is_faulty.ensures ∙ ap (has_faults p.arguments.now.only) c.deref.ensures.value in
+    c.has_faults-is_faulty.ensures ∙ ap (has_faults p.arguments.now.only) c.deref-2.ensures.value in
     let some : unstated_line p.arguments.now.only asked c.has_faults-is_faulty.result ≡ None =
     not_missing p.arguments.now.only c.is_empty-is_empty.result c.has_faults-is_faulty.result asked c.in_default.ensures
     (left_none asked c.in_ok-left.left c.is_empty-is_empty.result is c.is_empty-is_empty.ensures) in
