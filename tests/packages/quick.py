@@ -168,7 +168,7 @@ class TestRelease(unittest.TestCase):
             self.skipTest("there is no release/")
         self.top = pathlib.Path(tempfile.mkdtemp(prefix="chipbench-package-tests-"))
         self.addCleanup(shutil.rmtree, self.top)
-        for folder in ("crates", "docs", "examples", "frontends/page", "frontends/web", "packaging", "release"):
+        for folder in ("crates", "docs", "examples", "frontends/page", "frontends/python/chipbench_steps", "frontends/web", "packaging", "release"):
             shutil.copytree(TOP / folder, self.top / folder, ignore=shutil.ignore_patterns("out", "__pycache__"))
         for file in ("chipbench", "crates.txt", "HANDLES", "THIRD-PARTY"):
             shutil.copy(TOP / file, self.top)
@@ -188,7 +188,7 @@ class TestRelease(unittest.TestCase):
         self.assertIn("1 passed, 0 failed", self.check(0))
 
     def test_a_changed_byte_is_refused(self):
-        for name in ("chipbench", *self.modules()):
+        for name in ("chipbench", *self.modules(), *self.steps()):
             with self.subTest(name):
                 self.change(f"release/{name}")
                 self.assertIn("0 passed, 1 failed", self.check(1))
@@ -197,7 +197,8 @@ class TestRelease(unittest.TestCase):
 
     def test_a_changed_source_is_refused(self):
         of_modules = ("frontends/web/heap.c", "frontends/web/carrier.mjs", "frontends/page/static/main.mjs", "examples/bounce.asm", "docs/MACHINE.md")
-        for name in ("crates/chip_pages/src/pages.rt", "crates/chip_web/src/lib.rt", *(of_modules if self.modules() else ())):
+        of_steps = ("frontends/python/chipbench_steps/rows.py", "examples/emulator/run_steps.c", "docs/EMULATORS.md") if self.steps() else ()
+        for name in ("crates/chip_pages/src/pages.rt", "crates/chip_web/src/lib.rt", *(of_modules if self.modules() else ()), *of_steps):
             with self.subTest(name):
                 self.change(name)
                 self.assertIn("0 passed, 1 failed", self.check(1))
@@ -208,8 +209,12 @@ class TestRelease(unittest.TestCase):
         """The files of release/ that are WebAssembly or made of it."""
         return [name for name in ("session.wasm", "chipbench.wasm", "chipbench.html") if (self.top / "release" / name).exists()]
 
-    def test_a_module_that_is_missing_is_refused(self):
-        for name in self.modules():
+    def steps(self):
+        """The archive of tests for emulators, where release/ has it."""
+        return [path.name for path in (self.top / "release").glob("chipbench-steps.tar.xz")]
+
+    def test_a_file_that_is_missing_is_refused(self):
+        for name in (*self.modules(), *self.steps()):
             (self.top / "release" / name).rename(self.top / "away")
             self.assertIn("0 passed, 1 failed", self.check(1))
             (self.top / "away").rename(self.top / "release" / name)
@@ -413,8 +418,8 @@ class TestLaunchers(unittest.TestCase):
     def test_steps_are_written_and_agree(self):
         made, examples = self.folder / "steps", self.folder / "prefix" / DOCUMENTS / "examples"
         run(self.link(self.folder / "prefix/bin/chipbench-steps"), "--count", "2", "--programs", "1", made, cwd="/")
-        printed = run(sys.executable, "-B", examples / "emulator/run_steps.py", made).decode()
-        self.assertEqual(printed, "schip: 0 of 90 cases differ, 0 of 1 program\n")
+        printed = [run(sys.executable, "-B", examples / f"emulator/run_{what}.py", made).decode() for what in ("steps", "programs")]
+        self.assertEqual(printed, ["schip: 0 of 90 cases differ\n", "schip: 0 of 1 programs differ\n"])
 
     def test_shell_answers(self):
         """The installed shell takes the program that was installed with it."""

@@ -1,4 +1,5 @@
-"""The files that the tests of chipbench-steps look at: thirty cases of each row under each profile, made once."""
+"""The files that the tests of chipbench-steps look at: some cases of each row under two profiles, made once, and those of the
+archive in release/, which has all profiles."""
 import concurrent.futures
 import functools
 import json
@@ -7,6 +8,7 @@ import pathlib
 import shutil
 import subprocess
 import sys
+import tarfile
 import tempfile
 
 TOP = pathlib.Path(__file__).resolve().parents[2]
@@ -18,10 +20,17 @@ STEPS = TOP / "packaging" / "chipbench-steps"
 EXAMPLE = TOP / "examples" / "emulator"
 BUILT = TOP / "crates" / "chipbench" / "out" / "chipbench"
 PROGRAM = pathlib.Path(os.environ.get("CHIPBENCH") or BUILT).absolute()
+ARCHIVE = TOP / "release" / "chipbench-steps.tar.xz"
 PROFILES = ("schip", "vip")
-# as many cases of each row as the planted bugs have to be found by
-COUNT = int(os.environ.get("STEPS_COUNT") or 30)
-PROGRAMS = 4
+IS_ALL = bool(os.environ.get("STEPS_ALL"))
+COUNT = 100 if IS_ALL else 30
+# one of each kind
+PROGRAMS = 10
+
+
+def compiler():
+    """The C compiler, or None."""
+    return shutil.which("cc") or shutil.which("gcc")
 
 
 def run(*words, status=0, **options):
@@ -56,8 +65,17 @@ def folders():
     """The folder of each profile, with the files of all rows and some programs."""
     made = {profile: work() / profile for profile in PROFILES}
     with concurrent.futures.ThreadPoolExecutor() as both:
-        list(both.map(lambda name: steps("--profile", name, "--count", COUNT, "--programs", PROGRAMS, made[name]), PROFILES))
+        options = ("--count", COUNT, "--programs", PROGRAMS, "--format", "both")
+        list(both.map(lambda name: steps("--profile", name, *options, made[name]), PROFILES))
     return made
+
+
+@functools.cache
+def archive():
+    """The folder of the archive in release/."""
+    with tarfile.open(ARCHIVE) as found:
+        found.extractall(work(), filter="data") if hasattr(tarfile, "data_filter") else found.extractall(work())
+    return work() / "chipbench-steps"
 
 
 @functools.cache

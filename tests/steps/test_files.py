@@ -5,8 +5,8 @@ import json
 import re
 import unittest
 
-from common import COUNT, PROFILES, PROGRAM, TOP, all_cases, cases, folder, index, run, steps, work
-from replay import differing
+from common import ARCHIVE, COUNT, IS_ALL, PROFILES, PROGRAM, TOP, all_cases, archive, cases, folder, index, programs, run, steps, work
+from replay import QUIRKS, differing, emulator
 from schema import Schema
 
 
@@ -28,7 +28,16 @@ class TestFiles(unittest.TestCase):
         for profile in PROFILES:
             listed = index(profile)
             self.assertEqual(f"{listed['program']} (logic {listed['logic']})", printed)
-            self.assertEqual((listed["profile"], listed["seed"]), (profile, 0))
+            self.assertEqual((listed["format"], listed["profile"], listed["seed"]), (1, profile, 0))
+
+    def test_each_case_and_program_names_its_profile_and_format(self):
+        for profile in PROFILES:
+            found = {(record["format"], record["profile"]) for record in [*all_cases(profile), *programs(profile)]}
+            words = json.loads((folder(profile) / "words.json").read_text())
+            self.assertEqual(found | {(words["format"], words["profile"])}, {(1, profile)})
+            lines = [line.split() for path in folder(profile).glob("*.txt") for line in path.open()]
+            self.assertEqual({tuple(line[1:3]) for line in lines if line[0] in ("step", "words", "program")}, {("1", profile)})
+            self.assertEqual({line[0] for line in lines}, {"step", "words", "program", "key", "state"})
 
     def test_another_emulator_agrees_with_each_case(self):
         differ = [(profile, case["name"], found) for profile in PROFILES for case in all_cases(profile)
@@ -56,6 +65,96 @@ class TestFiles(unittest.TestCase):
                     self.assertRegex(word, re.sub("[XYNK]", "[0-9A-F]", row), case["name"])
 
 
+class TestWords(unittest.TestCase):
+    def test_the_verdicts_are_those_of_the_table_of_instructions(self):
+        """By the document alone, and by another emulator: a word has a row where its digits are those of the row's pattern."""
+        machine = (TOP / "docs/MACHINE.md").read_text(encoding="utf-8")
+        table = machine[machine.index("## Instructions") : machine.index("## Profiles and quirks")]
+        rows = [(row, re.compile(re.sub("[XYNK]", "[0-9A-F]", row))) for row in re.findall(r"^\| `(\w{4})` \|", table, re.M)]
+        lacking = set(re.findall(r"^\| `(\w{4})` \|.*not an instruction, S2", machine, re.M))
+        self.assertEqual(len(lacking), 9)
+        for profile in PROFILES:
+            verdicts = {}
+            for first, last, row in json.loads((folder(profile) / "words.json").read_text())["words"]:
+                verdicts |= dict.fromkeys(range(first, last + 1), row)
+            expected = {word: next((row for row, pattern in rows if pattern.fullmatch(f"{word:04X}")), None) for word in range(65536)}
+            if profile == "vip":
+                expected = {word: None if row in lacking else row for word, row in expected.items()}
+            self.assertEqual(verdicts, expected)
+            self.assertEqual([word for word in range(65536) if self.stops(word, profile) != (verdicts[word] is None)], [])
+
+    def stops(self, word, profile):
+        """Whether the emulator of tests/trace knows no such word. It doesn't tell stops apart, so that those that have another
+        reason are asked for by their rows."""
+        machine = emulator.Machine(word.to_bytes(2, "big"), QUIRKS[profile], b"\0", None)
+        machine.stack = [0x200]
+        if word == 0x00FD and machine.has_super or word & 0xF0FF in (0xF075, 0xF085) and machine.has_super:
+            return False
+        machine.step(0, False)
+        return machine.stopped
+
+    def test_a_word_of_no_row_is_there_for_each_digit_that_a_decoder_may_ignore(self):
+        """Of each row whose other digits are free, S2 has a word that differs in one fixed digit."""
+        words = {dict(case["initial"]["memory"])[case["initial"]["pc"]] << 8 | dict(case["initial"]["memory"])[case["initial"]["pc"] + 1]
+                 for case in json.loads((self.many() / "S2.json").read_text())}
+        for mask, like in ((0xF0F0, 0x00C0), (0xF00F, 0xE00E), (0xF00F, 0xE001), (0xF00F, 0xF003), (0xF00F, 0xF007), (0xF00F, 0xF009),
+                           (0xF00F, 0xF00E), (0xFFFF, 0xF000), (0xFFFF, 0x0230)):
+            self.assertTrue(any(word & mask == like for word in words), f"{like:04x}")
+        self.assertGreater(len({word >> 12 for word in words}), 5)
+
+    def many(self):
+        """S2.json with as many cases as chipbench-steps writes by default."""
+        made = work() / "many"
+        if not made.exists():
+            steps("--instruction", "S2", made)
+        return made
+
+
+class TestPrograms(unittest.TestCase):
+    def test_they_come_to_each_stop_and_to_the_last_step(self):
+        for profile, stops in (("schip", "S1 S2 S3 S4 S5 S6 S7"), ("vip", "S2 S3 S4 S5 S6")):
+            last = [program["states"][-1] for program in programs(profile)]
+            self.assertEqual({state["text"] for state in last}, {"run", *stops.split()})
+            self.assertEqual({state["step"] for state in last}, {2000})
+            for program in programs(profile):
+                reached = [state["step"] for state in program["states"]]
+                self.assertLessEqual(max(second - first for first, second in zip(reached, reached[1:-1])), 100)
+
+    def test_they_go_where_emulators_differ(self):
+        """An odd pc, the last word, the last bytes, F000 that is skipped over, a jump by another V0 than Vx, and waits for keys."""
+        for profile in PROFILES:
+            found = set()
+            for program in programs(profile):
+                found |= self.met(program, profile)
+            self.assertEqual(found, {"odd", "last", "f000", "jump", "wait", "taken", "edge"})
+
+    def met(self, program, profile):
+        """What a run of the program meets, by the emulator of tests/trace."""
+        machine = emulator.Machine(bytes.fromhex(program["image"]), QUIRKS[profile], bytes.fromhex(program["tape"]), None)
+        found, events, keys, waited = set(), {}, 0, False
+        for step, key, is_down in program["keys"]:
+            events.setdefault(step, []).append((key, is_down))
+        for step in range(2000):
+            for key, is_down in events.get(step, []):
+                keys = keys | 1 << key if is_down else keys & ~(1 << key)
+            pc = machine.pc
+            if pc > 4094:
+                break
+            word = int.from_bytes(machine.memory[pc : pc + 2], "big")
+            found |= {name for name, holds in (
+                ("odd", pc % 2), ("last", pc == 4094), ("wait", word & 0xF0FF == 0xF00A and not keys),
+                ("taken", waited and keys), ("jump", word >> 12 == 11 and machine.v[0] != machine.v[word >> 8 & 15]),
+                ("edge", machine.i + (word & 15 if word >> 12 == 13 else (word >> 8 & 15) + 1) == 4096
+                 and (word >> 12 == 13 or word & 0xF0FF == 0xF065))) if holds}
+            waited = word & 0xF0FF == 0xF00A and not keys
+            machine.step(keys, (step + 1) % program["rate"] == 0)
+            if machine.pc == pc + 4 and bytes(machine.memory[pc + 2 : pc + 4]) == b"\xf0\0":
+                found.add("f000")
+            if machine.stopped:
+                break
+        return found
+
+
 class TestSchema(unittest.TestCase):
     def setUp(self):
         self.schema = Schema(json.loads((TOP / "docs/steps.schema.json").read_text(encoding="utf-8")))
@@ -64,6 +163,13 @@ class TestSchema(unittest.TestCase):
         for profile in PROFILES:
             for listed in index(profile)["files"]:
                 self.assertEqual(list(self.schema.faults(cases(profile, listed["row"]))), [], listed["row"])
+
+    def test_words_and_programs_are_valid(self):
+        for name in ("words", "programs"):
+            rule = self.schema.referred(f"#/$defs/{name}")
+            for profile in PROFILES:
+                content = json.loads((folder(profile) / f"{name}.json").read_text())
+                self.assertEqual(list(self.schema.faults(content, rule)), [], name)
 
     def test_broken_cases_are_not_valid(self):
         def broken(change):
@@ -74,6 +180,8 @@ class TestSchema(unittest.TestCase):
         self.assertEqual(broken(lambda case: None), [])
         for change in (
             lambda case: case.pop("stops"),
+            lambda case: case.pop("profile"),
+            lambda case: case.update(format=2),
             lambda case: case["initial"].pop("tick"),
             lambda case: case["initial"]["v"].append(0),
             lambda case: case["initial"].update(pc=-1),
@@ -112,6 +220,28 @@ class TestSameBytes(unittest.TestCase):
         other = self.made("other", "--seed", 2**64 - 1, "--count", COUNT, "--instruction", "8XY4")
         self.assertEqual(json.loads((other / "index.json").read_text())["seed"], 2**64 - 1)
         self.assertNotEqual(json.loads((other / "8XY4.json").read_text()), cases("schip", "8XY4"))
+
+    def test_mixtures_are_asked_of_the_machine(self):
+        """Another emulator agrees with cases of a mixture that no profile has."""
+        mixture = "vip,shift=vx,edges=wrap,fx1e=flag"
+        made = self.made("mixture", "--profile", "vip", "--quirks", "shift=vx,edges=wrap,fx1e=flag", "--count", 40, "--instruction", "8XY6,DXYN,FX1E,00E0")
+        QUIRKS[mixture] = QUIRKS["vip"] | {"shift": "vx", "edges": "wrap", "fx1e": "flag"}
+        self.assertEqual(json.loads((made / "index.json").read_text())["profile"], mixture)
+        for row in ("8XY6", "DXYN", "FX1E", "00E0"):
+            found = json.loads((made / f"{row}.json").read_text())
+            self.assertEqual({case["profile"] for case in found}, {mixture})
+            self.assertEqual([(case["name"], parts) for case in found if (parts := differing(case, mixture))], [])
+
+    @unittest.skipUnless(ARCHIVE.is_file(), "needs release/chipbench-steps.tar.xz")
+    def test_the_archive_has_what_the_program_answers(self):
+        """Some rows and programs of each profile, or all."""
+        rows = () if IS_ALL else ("--instruction", "S2,00FE,8XY6", "--count", 5)
+        for profile in sorted(path.parent.name for path in archive().glob("*/index.json")):
+            made = self.made(f"archive-{profile}", "--profile", profile, "--format", "flat", "--programs", 20 if IS_ALL else 3, *rows)
+            for path in made.rglob("*.*"):
+                old = archive() / profile / path.relative_to(made)
+                if path.suffix in (".txt", ".ch8", ".keys"):
+                    self.assertTrue(old.read_bytes().startswith(path.read_bytes()), path)
 
     def test_programs_are_the_same_again(self):
         again = self.made("again-programs", "--count", 1, "--instruction", "00E0", "--programs", 2)

@@ -2,12 +2,12 @@
 
 from __future__ import annotations
 
-from dataclasses import dataclass
 from typing import Any, NamedTuple
 
 from chipbench import Bench, ChipbenchError, State, event_command
 
 from .cases import AFTER_INDEX, BEFORE_INDEX, Case, Row
+from .settings import Settings, tape_of
 from .setup import MEMORY_BYTES, START, Setup
 
 # The image is as long as a program can be, and has lines of as many bytes.
@@ -22,21 +22,6 @@ RANDOM_BYTES = 2
 DARK = "0" * 32
 # the parts of a state that stand in a case as they are
 PARTS = ("pc", "v", "i", "dt", "st", "stack", "flags", "high")
-
-
-@dataclass(frozen=True)
-class Settings:
-    """The program and its profile, and the tape: each byte once."""
-
-    program: str
-    profile: str
-    tape: bytes
-
-
-def has_super(settings: Settings) -> bool:
-    """Whether the machine has the instructions of SUPER-CHIP: HIGH stops one that lacks them."""
-    with Bench("HIGH", profile=settings.profile, program=settings.program) as bench:
-        return bench.at(1).stopped is None
 
 
 def data_line(content: bytes) -> str:
@@ -59,10 +44,9 @@ class Answered(NamedTuple):
 class Session:
     """One running program at a rate. Its image is edited from one case to the next."""
 
-    def __init__(self, settings: Settings, rate: int) -> None:
+    def __init__(self, settings: Settings, tape: bytes, rate: int) -> None:
         self._image = bytes(MEMORY_BYTES - START)
-        source = "\n".join(lines_of(self._image))
-        self._bench = Bench(source, profile=settings.profile, rate=rate, tape=settings.tape, program=settings.program)
+        self._bench = Bench("\n".join(lines_of(self._image)), rate=rate, tape=tape, **settings.options())
 
     def close(self) -> None:
         self._bench.close()
@@ -122,9 +106,10 @@ class Answers:
     """The cases of a profile. Close it, which ends the programs that it runs."""
 
     def __init__(self, settings: Settings) -> None:
-        self.settings = settings
+        self._settings = settings
+        self._tape = tape_of(settings.seed)
         self._sessions: dict[int, Session] = {}
-        self._has_super = has_super(settings)
+        self._has_super = settings.has_super()
 
     def __enter__(self) -> Answers:
         return self
@@ -135,12 +120,12 @@ class Answers:
 
     def _session(self, rate: int) -> Session:
         if rate not in self._sessions:
-            self._sessions[rate] = Session(self.settings, rate)
+            self._sessions[rate] = Session(self._settings, self._tape, rate)
         return self._sessions[rate]
 
-    def record(self, row: Row, number: int, seed: int) -> dict[str, Any]:
+    def record(self, row: Row, number: int) -> dict[str, Any]:
         """Case `number` of a row, counted from 0, as it stands in a file."""
-        case = row.case(number, seed, self._has_super)
+        case = row.case(number, self._settings.seed, self._has_super)
         rate, setup = NO_TICK, Setup(case.state)
         if case.state.is_tick:
             rate = next(rate for rate in TICKS if setup.steps < rate)
@@ -149,6 +134,7 @@ class Answers:
         if before["stops"] or (before["pc"], before["v"]) != (case.state.pc, case.state.v):
             raise ChipbenchError(f"{row.name} case {number + 1}: its program does not lead to its state")
         return {
+            **self._settings.marks,
             "name": f"{row.name} {number + 1}",
             "text": text,
             "about": case.about,
@@ -169,8 +155,7 @@ class Answers:
 
     def _random(self, used: int) -> list[int]:
         """The random bytes that come next."""
-        tape = self.settings.tape
-        return [tape[at % len(tape)] for at in range(used, used + RANDOM_BYTES)]
+        return [self._tape[at % len(self._tape)] for at in range(used, used + RANDOM_BYTES)]
 
     def _final(self, before: dict[str, Any], after: dict[str, Any]) -> dict[str, Any]:
         """What the step changed."""

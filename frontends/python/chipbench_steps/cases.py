@@ -17,6 +17,8 @@ F = 15
 # where sprites that are drawn before the step have their bytes, as a case puts them there
 SHEET = 0xE00
 SOLID = (0xFF,) * 16
+# the flag registers of rows that don't use them
+SOME_FLAGS = (0x13, 0x57, 0x9B, 0xDF, 0x24, 0x68, 0xAC, 0xE1)
 # a second word that XO-CHIP skips together with the first
 LONG = (0xF0, 0x00, 0x12, 0x34)
 # how many bytes of the memory before and after I a case shows
@@ -41,10 +43,10 @@ class Case:
         state.is_tick = rng.randrange(4) == 0
         state.random_bytes_used = rng.randrange(4)
         state.keys = sorted(rng.sample(range(16), rng.randrange(4)))
-        # drawn under each profile, so that all else is the same
-        flags, is_high = [self.byte() for _ in range(8)], rng.randrange(2) == 0
+        # made under each profile, so that all else is the same
+        self.flags, is_high = [self.byte() for _ in range(8)], rng.randrange(2) == 0
         if has_super:
-            state.flags, state.is_high = flags, is_high
+            state.flags, state.is_high = list(SOME_FLAGS), is_high
         # what is made from the rest once a kind has set it
         self.depth = rng.choice((0, 0, 1, 2, 3, 5))
         self.last_call: int | None = None

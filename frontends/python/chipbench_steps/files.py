@@ -1,43 +1,45 @@
-"""The files of single steps: a file for each row, those of programs, and the index."""
+"""The files of single steps: a file for each row, those of words and of programs, and the index."""
 
 from __future__ import annotations
 
 import contextlib
 import json
-import random
 import re
 from collections import Counter
+from collections.abc import Iterable
 from dataclasses import dataclass
 from pathlib import Path
 from typing import Any
 
 from chipbench import ChipbenchError, run_once
 
-from .answers import Answers, Settings
+from . import flat, folder, programs
+from .answers import Answers
 from .cases import Row
-from .programs import write_programs
-from .rows import rows
+from .rows import rows, table
+from .settings import FORMAT, Settings
+from .words import runs
 from .writing import lines, progress, replace
 
 INDEX = "index.json"
+WORDS = "words"
 
 
 @dataclass(frozen=True)
 class Asked:
-    """What is written: the rows by name, or all; the cases of each; the seed of all; and how many programs."""
+    """What is written: the rows, the cases of each, whether the verdicts on all words, how many programs, and the forms of the
+    files, which are `json` and `flat`. Whether files of another machine or format are replaced."""
 
-    profile: str
     rows: tuple[Row, ...]
     count: int
-    seed: int
+    has_words: bool
     programs: int
+    forms: tuple[str, ...]
+    replaces: bool
 
-
-def tape_of(seed: int) -> bytes:
-    """A tape on which each byte stands once."""
-    values = list(range(256))
-    random.Random(f"{seed} tape").shuffle(values)
-    return bytes(values)
+    def names(self) -> list[str]:
+        """The files without their suffix, except the index and those of the programs' folder."""
+        return [*(row.name for row in self.rows), *([WORDS] if self.has_words else []), *([programs.NAME] if self.programs else [])]
 
 
 def version(program: str) -> tuple[str, str]:
@@ -49,30 +51,59 @@ def version(program: str) -> tuple[str, str]:
     return found.group(1), found.group(2)
 
 
-def write_all(folder: Path, program: str, asked: Asked) -> None:
-    """Writes all that is asked for. The index goes first and comes last: without it the files aren't complete."""
-    name, logic = version(program)
-    settings = Settings(program, asked.profile, tape_of(asked.seed))
+def write_all(place: Path, settings: Settings, asked: Asked) -> list[str]:
+    """Writes all that is asked for, and gives the names of earlier files that were removed.
+
+    The index goes first and comes last: without it the files aren't complete."""
+    name, logic = version(settings.program)
     with Answers(settings) as answers:
-        folder.mkdir(parents=True, exist_ok=True)
+        place.mkdir(parents=True, exist_ok=True)
+        if not asked.replaces:
+            folder.refuse_others(place, settings)
         with contextlib.suppress(FileNotFoundError):
-            (folder / INDEX).unlink()
-        listed = [write_row(folder, answers, row, asked) for row in asked.rows]
-    index = {"program": name, "logic": logic, "profile": asked.profile, "seed": asked.seed, "files": listed}
+            (place / INDEX).unlink()
+        listed = [write_row(place, answers, row, asked) for row in asked.rows]
+    index = {"format": FORMAT, "program": name, "logic": logic, "profile": settings.machine, "seed": settings.seed, "files": listed}
+    if asked.has_words:
+        index[WORDS] = write_words(place, settings, asked)
     if asked.programs:
-        index["programs"] = write_programs(folder, settings, asked.seed, asked.programs)
-    replace(folder / INDEX, json.dumps(index, indent=1) + "\n")
+        index[programs.NAME] = write_programs(place, settings, asked)
+    removed = folder.remove_others(place, folder.names(asked.names(), asked.forms, asked.programs))
+    replace(place / INDEX, json.dumps(index, indent=1) + "\n")
+    return removed
 
 
-def write_row(folder: Path, answers: Answers, row: Row, asked: Asked) -> dict[str, Any]:
+def write(place: Path, name: str, asked: Asked, as_json: str, flat_lines: Iterable[str]) -> dict[str, str]:
+    """Writes a file in the forms that are asked for, and gives their names for the index."""
+    for form, text in (("json", as_json), ("flat", "".join(flat_lines))):
+        if form in asked.forms:
+            replace(place / f"{name}{folder.SUFFIXES[form]}", text)
+    members = {"json": "file", "flat": "flat"}
+    return {members[form]: f"{name}{folder.SUFFIXES[form]}" for form in asked.forms}
+
+
+def write_row(place: Path, answers: Answers, row: Row, asked: Asked) -> dict[str, Any]:
     """Writes the file of a row, and gives its entry in the index."""
     records = []
     for number in range(asked.count):
         progress(f"{row.name} {number + 1}")
-        records.append(answers.record(row, number, asked.seed))
-    replace(folder / f"{row.name}.json", lines(records))
+        records.append(answers.record(row, number))
+    names = write(place, row.name, asked, lines(records), map(flat.case_line, records))
     kinds = Counter(record["about"] for record in records)
-    return {"row": row.name, "file": f"{row.name}.json", "cases": len(records), "kinds": dict(kinds)}
+    return {"row": row.name, **names, "cases": len(records), "kinds": dict(kinds)}
+
+
+def write_words(place: Path, settings: Settings, asked: Asked) -> dict[str, Any]:
+    progress("words")
+    found = runs(settings, [row.pattern for row in table()])
+    text = json.dumps(settings.marks, separators=(",", ":"))[:-1] + ',"words":' + lines(found)[:-1] + "}\n"
+    return {**write(place, WORDS, asked, text, flat.word_lines(settings.marks, found)), "runs": len(found)}
+
+
+def write_programs(place: Path, settings: Settings, asked: Asked) -> dict[str, Any]:
+    records = programs.make_programs(place, settings, asked.programs)
+    names = write(place, programs.NAME, asked, lines(records), map(flat.program_lines, records))
+    return {**names, "folder": programs.FOLDER, "programs": len(records), "steps": programs.STEPS}
 
 
 def rows_named(text: str | None) -> tuple[Row, ...]:

@@ -1,4 +1,4 @@
-"""The kinds of cases of jumps, calls, skips and waits, and of what stops the machine without an instruction."""
+"""The kinds of cases of jumps, calls, skips and waits, and of pc past the memory."""
 
 from __future__ import annotations
 
@@ -180,23 +180,7 @@ WAIT = (
     *COMMON,
 )
 
-# -- what stops the machine without an instruction
-
-OTHER_WORDS = (
-    0x0000, 0x00E1, 0x00EF, 0x5121, 0x8128, 0x812F, 0x9121, 0xE19F, 0xE1A0, 0xF100, 0x00FA, 0x00DF, 0x00BF, 0x0100, 0x02E0,
-    0x0FEE, 0xF17F, 0xF166, 0xF108, 0xF132, 0xF156, 0xF164, 0xF186, 0xFFFF, 0xE100, 0xEFFF, 0x812D, 0xF002, 0xF03A, 0x00F0,
-)
-
-
-def set_word(case: Case, word: int) -> None:
-    case.whole_word = word
-
-
-def any_other_word(case: Case) -> None:
-    """A word whose last digit no row of its family has."""
-    family, digits = case.rng.choice(((0x5, range(1, 16)), (0x8, (8, 9, 10, 11, 12, 13, 15)), (0x9, range(1, 16))))
-    case.whole_word = family << 12 | case.rng.randrange(256) << 4 | case.rng.choice(digits)
-
+# -- pc past the memory
 
 def past_end(case: Case, pc: int) -> None:
     """pc past the last word. The jump that leads there adds V0 or VF, by the profile."""
@@ -208,5 +192,4 @@ def anywhere_past_end(case: Case) -> None:
     past_end(case, LAST + case.rng.randrange(256))
 
 
-OTHER = (Kind("words near those of the table", OTHER_WORDS, set_word, 8), *COMMON)
 PAST_END = (Kind("pc at edges", (LAST, LAST + 1, LAST + 2, LAST + 255), past_end), *TICKS)

@@ -2,11 +2,13 @@
 
 from __future__ import annotations
 
+import functools
 from collections.abc import Callable, Iterable, Sequence
 
 from . import flow, sprites, stores, values
 from .cases import Case, Kind, Row
 from .kinds import COMMON
+from .words import OtherWords
 
 
 def nothing(case: Case) -> None:
@@ -18,9 +20,10 @@ def like(names: str, kinds: Sequence[Kind], prepare: Callable[[Case], None] = no
     return (Row(name, name, kinds, prepare, **shows) for name in names.split())
 
 
-def rows() -> list[Row]:
-    """All rows, in the order of the table, and then what stops the machine without an instruction."""
-    return [
+@functools.cache
+def table() -> tuple[Row, ...]:
+    """The rows of the instruction table, in its order."""
+    return (
         *like("00CN", sprites.SCROLL_DOWN, sprites.light_some),
         *like("00E0", sprites.SCREEN, sprites.light_some),
         *like("00EE", flow.RETURN),
@@ -50,7 +53,16 @@ def rows() -> list[Row]:
         *like("FX29 FX30", values.DIGITS),
         *like("FX33", stores.DECIMAL, shows_index=True),
         *like("FX55 FX65", stores.BLOCK, shows_index=True),
-        *like("FX75 FX85", values.FLAG_REGISTERS),
-        Row("S2", "", flow.OTHER, flow.any_other_word),
+        *like("FX75 FX85", values.FLAG_REGISTERS, values.any_flags),
+    )
+
+
+@functools.cache
+def rows() -> tuple[Row, ...]:
+    """The rows of the table, and then what stops the machine without an instruction."""
+    others = OtherWords(row.pattern for row in table())
+    return (
+        *table(),
+        Row("S2", "", others.kinds(), others.choose),
         Row("S3", "", flow.PAST_END, flow.anywhere_past_end),
-    ]
+    )

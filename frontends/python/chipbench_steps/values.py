@@ -140,6 +140,13 @@ SET_TIMER = (
     X_IS_F,
     *ANYWHERE,
 )
+
+
+def any_flags(case: Case) -> None:
+    if case.has_super:
+        case.state.flags = case.flags
+
+
 FLAG_REGISTERS = (
     Kind("each x, above 7 too", (7, 8, 0, 15, 1, 9, *range(2, 7), *range(10, 15)), set_register, 4),
     *COMMON,
