@@ -255,6 +255,27 @@ class TestRootWithPython(unittest.TestCase):
         self.root.shell("chipbench-steps --count 1 --instruction DXYN steps && test -s steps/DXYN.json && rm -r steps")
 
 
+class TestEmulators(unittest.TestCase):
+    """The tests for emulators in a root that has a C compiler, and no Python."""
+
+    def test_an_emulator_in_c_is_tried(self):
+        archive = common.TOP / "release" / "chipbench-steps.tar.xz"
+        if not archive.is_file():
+            self.skipTest("release/ has no tests for emulators")
+        root = Root("emulators", _base)
+        self.addCleanup(root.remove)
+        root.apt("update")
+        root.apt("install", "-y", "--no-install-recommends", "gcc", "libc6-dev", "xz-utils")
+        shutil.copy(archive, root.path / "home" / USER)
+        self.assertEqual(root.shell("command -v python3 || echo none"), "none\n")
+        root.shell("tar xf chipbench-steps.tar.xz")
+        compiled = "for what in steps words programs; do cc -std=c99 -o run_$what emulator/run_$what.c emulator/emulator.c; done"
+        tried = "for files in */index.json; do in=${files%/*}; ./run_steps $in/*.txt; ./run_words $in/words.txt; ./run_programs $in/programs.txt; done"
+        printed = root.shell(f"cd chipbench-steps && {compiled} && {tried}").splitlines()
+        self.assertEqual(len(printed), 18)
+        self.assertEqual([line for line in printed if not line.startswith("0 of ")], [])
+
+
 class TestArchive(unittest.TestCase):
     """The archive in an empty folder of a user."""
 
