@@ -22,6 +22,7 @@ CRATES = HERE.parents[1] / "crates"
 LAUNCHERS = {
     "chipbench-page": ("bridge", "page"),
     "chipbench-lsp": ("chipbench_lsp.__main__", "python"),
+    "chipbench-dap": ("chipbench_dap.__main__", "python"),
     "chipbench-steps": ("chipbench_steps.__main__", "python"),
     "chipbench-shell": ("chipbench_shell.__main__", "python"),
 }

@@ -94,6 +94,9 @@ class TestList(unittest.TestCase):
     def test_manual_of_the_shell_has_its_options(self):
         self.check_manual("chipbench-shell", TOP / "frontends/python/chipbench_shell")
 
+    def test_manual_of_the_debug_adapter_has_its_options(self):
+        self.check_manual("chipbench-dap", TOP / "frontends/python/chipbench_dap")
+
     def test_manual_of_the_steps_has_their_options(self):
         self.check_manual("chipbench-steps", TOP / "frontends/python/chipbench_steps")
 

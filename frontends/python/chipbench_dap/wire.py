@@ -1,0 +1,86 @@
+"""Messages of the Debug Adapter Protocol: their numbers, and what is read of their arguments."""
+
+from __future__ import annotations
+
+import json
+import threading
+from typing import Any, BinaryIO
+
+Arguments = dict[str, Any]
+#: The most that a number of a message may be, so that none is taken for a size of memory.
+MOST = 1 << 53
+KINDS = {str: "a text", int: "a number", bool: "true or false", list: "a list", dict: "an object"}
+
+
+class Refusal(Exception):
+    """A request that is answered with an error. `word` is what the protocol calls it, where it has a word for it."""
+
+    def __init__(self, text: str, word: str | None = None, is_shown: bool = True) -> None:
+        super().__init__(text)
+        self.text = text
+        self.word = word
+        self.is_shown = is_shown
+
+
+def is_a(value: Any, kind: type) -> bool:
+    return isinstance(value, kind) and (kind is not int or (not isinstance(value, bool) and abs(value) <= MOST))
+
+
+def optional(arguments: Any, name: str, kind: type) -> Any:
+    """The argument of a name, or None where it isn't given. `Refusal` where it is of another kind."""
+    value = arguments.get(name) if isinstance(arguments, dict) else None
+    if value is not None and not is_a(value, kind):
+        raise Refusal(f"{name} has to be {KINDS[kind]}, and is {shown(value)}")
+    return value
+
+
+def required(arguments: Any, name: str, kind: type) -> Any:
+    value = optional(arguments, name, kind)
+    if value is None:
+        raise Refusal(f"{name} is missing: {KINDS[kind]}")
+    return value
+
+
+def objects(arguments: Any, name: str, is_needed: bool = False) -> list[Arguments]:
+    """A list of objects; none where it isn't given."""
+    found = (required if is_needed else optional)(arguments, name, list) or []
+    for value in found:
+        if not isinstance(value, dict):
+            raise Refusal(f"each of {name} has to be an object, and one is {shown(value)}")
+    return found
+
+
+def shown(value: Any) -> str:
+    text = json.dumps(value, ensure_ascii=True)
+    return text if len(text) <= 60 else text[:57] + ".."
+
+
+class Writer:
+    """Writes messages, each with its number."""
+
+    def __init__(self, stream: BinaryIO) -> None:
+        self._stream = stream
+        self._lock = threading.Lock()
+        self._last = 0
+
+    def _write(self, message: Arguments) -> None:
+        with self._lock:
+            self._last += 1
+            # a lone surrogate can't be written but as an escape, so that the text is ASCII
+            body = json.dumps({"seq": self._last, **message}, separators=(",", ":")).encode("ascii")
+            self._stream.write(b"Content-Length: %d\r\n\r\n" % len(body) + body)
+            self._stream.flush()
+
+    def event(self, name: str, body: Arguments | None = None) -> None:
+        self._write({"type": "event", "event": name, **({} if body is None else {"body": body})})
+
+    def answer(self, request: int, command: str, body: Arguments | None = None) -> None:
+        made = {"type": "response", "request_seq": request, "success": True, "command": command}
+        self._write({**made, **({} if body is None else {"body": body})})
+
+    def fail(self, request: int, command: str, refusal: Refusal) -> None:
+        error = {"id": 1, "format": refusal.text.replace("{", "(").replace("}", ")"), "showUser": refusal.is_shown}
+        self._write({
+            "type": "response", "request_seq": request, "success": False, "command": command,
+            "message": refusal.word or refusal.text, "body": {"error": error},
+        })
