@@ -1,5 +1,5 @@
 #!/usr/bin/env python3
-"""Writes the completions, the manual page and the syntax files from the tables of the sources.
+"""Writes the completions, the manual page, the syntax files and the icon of the extension from the tables of the sources.
 
     frontends/editors/generate.py           writes the files
     frontends/editors/generate.py --check   writes nothing; the status is 1 where a file isn't what the tables give
@@ -13,7 +13,9 @@ import importlib
 import json
 import pathlib
 import re
+import struct
 import sys
+import zlib
 
 sys.dont_write_bytecode = True
 HERE = pathlib.Path(__file__).resolve().parent
@@ -365,6 +367,26 @@ def emacs(language):
         "(provide 'chip8-words)", ";;; chip8-words.el ends here", ""])
 
 
+# the ball of the README, on a screen of 16 by 16 pixels
+ICON_ROWS = ((3, "..####.."), (4, ".######."), (5, "########"), (6, "########"), (7, "########"), (8, "########"), (9, ".######."), (10, "..####.."))
+ICON_SCALE = 8
+ICON_COLOURS = bytes.fromhex("1b2b34" "99c794")
+
+
+def icon():
+    """A picture of 128 by 128 pixels of two colours, as PNG. Its rows aren't compressed, so that each zlib gives the same bytes."""
+    def chunk(kind, content):
+        return struct.pack(">I", len(content)) + kind + content + struct.pack(">I", zlib.crc32(kind + content))
+
+    rows, size = dict(ICON_ROWS), 16 * ICON_SCALE
+    lines = (rows.get(row, "").center(16, ".") for row in range(16) for _ in range(ICON_SCALE))
+    # a pixel of the screen is a byte of the picture: 8 pixels of one bit
+    content = b"".join(b"\0" + bytes(255 * (pixel == "#") for pixel in line) for line in lines)
+    header = struct.pack(">IIBBBBB", size, size, 1, 3, 0, 0, 0)
+    parts = (b"IHDR", header), (b"PLTE", ICON_COLOURS), (b"IDAT", zlib.compress(content, 0)), (b"IEND", b"")
+    return b"\x89PNG\r\n\x1a\n" + b"".join(chunk(*part) for part in parts)
+
+
 def files():
     words, language = Words(), Language()
     return {
@@ -376,9 +398,9 @@ def files():
         **{f"_{name}": zsh_launcher(name) for name in LAUNCHERS},
         **{f"{name}.fish": fish_launcher(name) for name in LAUNCHERS},
         "vim/syntax/chip8.vim": vim(language),
-        "chip8.tmLanguage.json": textmate(language),
         "vscode/syntaxes/chip8.tmLanguage.json": textmate(language),
         "emacs/chip8-words.el": emacs(language),
+        "vscode/icon.png": icon(),
     }
 
 
@@ -388,14 +410,14 @@ def main(arguments):
         print(__doc__, file=sys.stderr)
         return 2
     stale = []
-    for name, text in files().items():
-        path = HERE / name
+    for name, made in files().items():
+        path, content = HERE / name, made if isinstance(made, bytes) else made.encode()
         if is_check:
-            if not path.is_file() or path.read_text(encoding="utf-8") != text:
+            if not path.is_file() or path.read_bytes() != content:
                 stale.append(name)
         else:
             path.parent.mkdir(parents=True, exist_ok=True)
-            path.write_text(text, encoding="utf-8")
+            path.write_bytes(content)
     for name in stale:
         print(f"frontends/editors/{name} isn't what the tables give: run frontends/editors/generate.py", file=sys.stderr)
     return 1 if stale else 0

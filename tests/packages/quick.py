@@ -12,6 +12,8 @@ import sys
 import tarfile
 import tempfile
 import unittest
+import zipfile
+from xml.etree import ElementTree
 
 from common import DOCUMENTS, STAND_IN, TOP, Page, answers_initialize, contents, dead_links, entries, image_of
 from common import is_repository, named_documents, package, program, run, version
@@ -581,12 +583,36 @@ class TestPackages(unittest.TestCase):
 
     def test_checksums(self):
         names = set(contents(self.folder / "one"))
-        packages = {f"chipbench_{version()}_amd64.deb", f"chipbench-{version()}-x86_64-linux.tar.gz"}
+        packages = {f"chipbench_{version()}_amd64.deb", f"chipbench-{version()}-x86_64-linux.tar.gz", f"chipbench-{version()}.vsix"}
         if (pathlib.Path(TOP) / "release/chipbench.wasm").exists():
             packages.add(f"chipbench-{version()}-node.tgz")
         self.assertEqual(names, {*packages, "SHA256SUMS"})
         checked = run("sha256sum", "--check", "SHA256SUMS", cwd=self.folder / "one").decode()
         self.assertEqual(sorted(checked.splitlines()), sorted(f"{name}: OK" for name in packages))
+
+    def test_the_extension_has_what_its_manifest_names(self):
+        with zipfile.ZipFile(self.folder / f"one/chipbench-{version()}.vsix") as archive:
+            archive.extractall(self.folder / "extension")
+            names = set(archive.namelist())
+        manifest = ElementTree.parse(self.folder / "extension/extension.vsixmanifest").getroot()
+        paths = {element.get("Path") for element in manifest.iter() if element.get("Path")}
+        self.assertEqual(paths - names, set())
+        made = json.loads((self.folder / "extension/extension/package.json").read_text(encoding="utf-8"))
+        self.assertEqual(made["version"], version() + ".0")
+        self.assertEqual({f"extension/{made[name].removeprefix('./')}" for name in ("main", "icon")} - names, set())
+        kinds = (self.folder / "extension/[Content_Types].xml").read_text(encoding="utf-8")
+        for name in names - {"[Content_Types].xml"}:
+            self.assertIn(f'"{pathlib.Path(name).suffix or "/" + name}"', kinds)
+
+    def test_the_extension_has_its_programs(self):
+        with zipfile.ZipFile(self.folder / f"one/chipbench-{version()}.vsix") as archive:
+            archive.extractall(self.folder / "unpacked")
+        python = self.folder / "unpacked/extension/chipbench/python"
+        answers_initialize(self, sys.executable, "-B", python / "chipbench_lsp")
+        request = b'{"seq":1,"type":"request","command":"initialize","arguments":{"adapterID":"chipbench"}}'
+        message = b"Content-Length: %d\r\n\r\n%s" % (len(request), request)
+        done = subprocess.run([sys.executable, "-B", python / "chipbench_dap"], input=message, capture_output=True, timeout=60)
+        self.assertIn(b"supportsStepBack", done.stdout, done.stderr)
 
     def test_entries_of_the_archive(self):
         time = int(run("git", "-C", TOP, "log", "-1", "--format=%ct"))

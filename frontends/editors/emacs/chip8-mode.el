@@ -5,7 +5,7 @@
 
 ;;; Commentary:
 
-;; A mode for sources of chipbench: colours, columns, and the language server by eglot.
+;; A mode for sources of chipbench: colours, columns, the language server by eglot, and the debug adapter by dape.
 ;;
 ;;     (add-to-list 'load-path "FOLDER/editors/emacs")
 ;;     (require 'chip8-mode)
@@ -92,6 +92,25 @@ A property list of :profile, :rate, :tape, :seed, :every, :program."
 
 ;;;###autoload
 (add-to-list 'auto-mode-alist '("\\.ch8asm\\'" . chip8-mode))
+
+;; The debug adapter
+
+(defcustom chip8-debugger "chipbench-dap"
+  "The debug adapter, as dape starts it."
+  :type 'string)
+
+(defcustom chip8-debugger-settings nil
+  "Arguments of a launch besides the file, such as (:seed 7 :keys \"game.keys\").
+docs/DEBUGGER.md has them all."
+  :type 'plist)
+
+(defvar dape-configs)
+
+(with-eval-after-load 'dape
+  (add-to-list 'dape-configs
+               `(chipbench modes (chip8-mode) command ,chip8-debugger command-cwd dape-command-cwd
+                           :type "chipbench" :request "launch" :source dape-buffer-default :cwd dape-cwd
+                           ,@chip8-debugger-settings)))
 
 ;; The language server
 

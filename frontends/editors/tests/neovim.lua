@@ -288,6 +288,8 @@ test('hints', function()
   same(count(), 0)
 end)
 
+dofile(vim.env.CHIPBENCH_TESTS .. '/debugger.lua')(test, same, wait_for)
+
 -- Neovim itself may have left a line without its end
 io.stdout:write('\n' .. passed .. ' passed, ' .. failed .. ' failed\n')
 vim.cmd(failed == 0 and 'qall!' or 'cquit!')

@@ -39,12 +39,13 @@ class Connection {
   #last = 0;
   #isOver = false;
 
-  /** Starts a server. `onNotification(method, params)` and `onEnd(reason)` are called as they come. */
+  /** Starts a server. `onNotification(method, params)` and `onEnd(reason, how)` are called as they come; `how` has the code or
+   * the status with which it ended. */
   constructor(command, args, { onNotification, onEnd }) {
     const messages = new Messages();
     this.#process = spawn(command, args, { stdio: ['pipe', 'pipe', 'pipe'] });
     let errors = '';
-    const end = (reason) => this.#end(reason, errors, onEnd);
+    const end = (reason, how) => this.#end(reason, errors, (said) => onEnd(said, how));
     this.#process.stderr.on('data', (text) => {
       errors = (errors + text).slice(-2000);
     });
@@ -52,8 +53,8 @@ class Connection {
     this.#process.stdout.on('data', (bytes) => {
       for (const message of messages.take(bytes)) this.#take(message, onNotification);
     });
-    this.#process.on('error', (error) => end(error.message));
-    this.#process.on('exit', (status, killedBy) => end(`it ended with ${killedBy ?? `status ${status}`}`));
+    this.#process.on('error', (error) => end(error.message, { code: error.code }));
+    this.#process.on('exit', (status, killedBy) => end(`it ended with ${killedBy ?? `status ${status}`}`, { status }));
   }
 
   get processId() {

@@ -4,10 +4,13 @@
 const vscode = require('vscode');
 const { Connection } = require('./connection.js');
 const convert = require('./convert.js');
+const debug = require('./debugger.js');
+const programs = require('./programs.js');
 
 const LANGUAGE = 'chip8';
 const RUN_TO = 'chipbench.runTo';
 const PROVE = 'chipbench.prove';
+const WARNING = 2;
 // A server that ends more often than this in a minute is left alone.
 const MOST_STARTS = 4;
 const MINUTE = 60_000;
@@ -22,8 +25,11 @@ class Server {
   #starts = [];
   #output;
   #diagnostics;
+  #folder;
 
-  constructor(output, diagnostics) {
+  /** `folder` is that of the extension. */
+  constructor(output, diagnostics, folder) {
+    this.#folder = folder;
     this.#output = output;
     this.#diagnostics = diagnostics;
   }
@@ -35,9 +41,10 @@ class Server {
   start() {
     const settings = vscode.workspace.getConfiguration('chipbench');
     this.#starts.push(Date.now());
-    const connection = new Connection(settings.get('server') || 'chipbench-lsp', [], {
+    const launched = programs.launcher('server', settings, this.#folder);
+    const connection = new Connection(launched.command, launched.args, {
       onNotification: (method, params) => this.#told(method, params),
-      onEnd: (reason) => this.#ended(connection, reason),
+      onEnd: (reason, how) => this.#ended(connection, reason, programs.missing(launched, how)),
     });
     this.#connection = connection;
     this.#isReady = false;
@@ -58,13 +65,15 @@ class Server {
     return { profile, quirks, rate, every, ...(seed ? { seed } : { tape: settings.get('tape') }) };
   }
 
-  #ended(connection, reason) {
+  /** `missing` says what to install, where that is why it ended. */
+  #ended(connection, reason, missing) {
     if (connection !== this.#connection) return;
     this.#connection = null;
     this.#diagnostics.clear();
     this.#output.appendLine(`the language server ended: ${reason}`);
     this.#starts = this.#starts.filter((at) => at > Date.now() - MINUTE);
-    if (this.#starts.length < MOST_STARTS) this.start();
+    if (missing !== undefined) vscode.window.showErrorMessage(missing);
+    else if (this.#starts.length < MOST_STARTS) this.start();
     else vscode.window.showErrorMessage('chipbench: the language server keeps ending; see the output of chipbench.');
   }
 
@@ -73,6 +82,7 @@ class Server {
       this.#diagnostics.set(vscode.Uri.parse(params.uri), params.diagnostics.map(convert.diagnostic));
     } else if (method === 'window/showMessage') {
       this.#output.appendLine(params.message);
+      if (params.type <= WARNING) vscode.window.showWarningMessage(params.message);
     }
   }
 
@@ -210,17 +220,35 @@ function runTo(server, output, uri, line) {
   return carryOut(server, output, 'run to here', RUN_TO, uri, line);
 }
 
+/** Opens the page on the file that is shown; its server ends with the editor. */
+async function runOnPage(pages, folder) {
+  const document = vscode.window.activeTextEditor?.document;
+  if (document?.languageId !== LANGUAGE) throw new Error('open a source (*.ch8asm) to run it on the page');
+  await document.save();
+  const settings = vscode.workspace.getConfiguration('chipbench');
+  const launched = programs.launcher('page', settings, folder);
+  const program = programs.chipbench(settings);
+  if (program === undefined && launched.isPackaged) throw new Error(programs.NO_PROGRAM);
+  const address = await new Promise((resolve, reject) => {
+    const failed = (how, errors) => reject(new Error(programs.missing(launched, how) ?? errors));
+    pages.push(programs.startPage(launched, program, document.uri.fsPath, { onAddress: resolve, onEnd: failed }));
+  });
+  await vscode.env.openExternal(vscode.Uri.parse(address));
+}
+
 function activate(context) {
+  const folder = context.extensionPath ?? __dirname;
+  const pages = [];
   const output = vscode.window.createOutputChannel('chipbench');
   const diagnostics = vscode.languages.createDiagnosticCollection('chipbench');
-  const server = new Server(output, diagnostics);
+  const server = new Server(output, diagnostics, folder);
   const selector = { language: LANGUAGE };
   const answered = new vscode.EventEmitter();
   const shown = (work) => async (...args) => {
     try {
       await work(...args);
     } catch (error) {
-      vscode.window.showErrorMessage(`chipbench: ${error.message}`);
+      vscode.window.showErrorMessage(`chipbench: ${error.message.replace(/^chipbench: /, '')}`);
     }
   };
   context.subscriptions.push(
@@ -241,6 +269,9 @@ function activate(context) {
       const editor = vscode.window.activeTextEditor;
       if (editor) await runTo(server, output, editor.document.uri.toString(), editor.selection.active.line);
     })),
+    vscode.commands.registerCommand('chipbench.runOnPage', shown(() => runOnPage(pages, folder))),
+    { dispose: () => pages.forEach((page) => page.kill()) },
+    ...debug.register(folder),
     { dispose: () => server.close() },
   );
   for (const [kind, provider] of Object.entries(providers(server, answered.event))) {

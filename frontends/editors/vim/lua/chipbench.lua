@@ -3,6 +3,12 @@
 --     require('chipbench').setup()
 --
 -- Options: `cmd` (by default { 'chipbench-lsp' }), `settings` (profile, quirks, rate, tape, seed, every, program) and `on_attach`.
+--
+-- The debug adapter, for the plugin nvim-dap:
+--
+--     require('chipbench').setup_debugger()
+--
+-- Options: `cmd` (by default { 'chipbench-dap' }) and `settings` (those of a launch, docs/DEBUGGER.md).
 
 local M = {}
 
@@ -164,6 +170,17 @@ function M.setup(options)
       add_commands(event.buf)
     end,
   })
+end
+
+-- Tells nvim-dap of the adapter, and of a launch of the file in the window.
+function M.setup_debugger(options)
+  options = options or {}
+  local command = options.cmd or { 'chipbench-dap' }
+  local dap = require('dap')
+  dap.adapters.chipbench = { type = 'executable', command = command[1], args = vim.list_slice(command, 2) }
+  local launch = { type = 'chipbench', request = 'launch', name = 'Debug this file', source = '${file}', cwd = '${fileDirname}' }
+  dap.configurations.chip8 = dap.configurations.chip8 or {}
+  table.insert(dap.configurations.chip8, vim.tbl_extend('force', launch, options.settings or {}))
 end
 
 return M

@@ -1,6 +1,8 @@
 // As much of VS Code as the extension uses: plain data, and an editor that the tests type in.
 'use strict';
 
+const fs = require('node:fs');
+
 class Position {
   constructor(line, character) {
     Object.assign(this, { line, character });
@@ -20,6 +22,9 @@ class Uri {
   }
   toString() {
     return this.text;
+  }
+  get fsPath() {
+    return this.text.replace('file://', '');
   }
 }
 
@@ -58,13 +63,16 @@ class TextDocument {
   getText() {
     return this.text;
   }
+  async save() {
+    fs.writeFileSync(this.uri.fsPath, this.text);
+  }
 }
 
 function makeEditor(settings) {
   const events = { opened: new Event(), changed: new Event(), closed: new Event(), configured: new Event() };
   const diagnostics = new Map();
   const shown = new Event();
-  const editor = { providers: {}, commands: {}, diagnostics, output: [], errors: [], documents: [], settings };
+  const editor = { providers: {}, commands: {}, diagnostics, output: [], errors: [], warnings: [], opened: [], documents: [], settings };
 
   editor.open = (document) => {
     editor.documents.push(document);
@@ -146,6 +154,12 @@ function makeEditor(settings) {
       fire = () => this.#listeners.forEach((listener) => listener());
       dispose() {}
     },
+    DebugAdapterExecutable: record('command', 'args'),
+    debug: {
+      registerDebugConfigurationProvider: (type, provider) => register('DebugConfiguration')(type, provider),
+      registerDebugAdapterDescriptorFactory: (type, factory) => register('DebugAdapter')(type, factory),
+    },
+    env: { openExternal: async (uri) => editor.opened.push(uri.toString()) },
     commands: {
       registerCommand: (name, work) => {
         editor.commands[name] = work;
@@ -155,6 +169,10 @@ function makeEditor(settings) {
     window: {
       createOutputChannel: () => ({ appendLine: (text) => editor.output.push(text), show() {}, dispose() {} }),
       showErrorMessage: (text) => editor.errors.push(text),
+      showWarningMessage: (text) => editor.warnings.push(text),
+      get activeTextEditor() {
+        return editor.documents.length > 0 ? { document: editor.documents.at(-1) } : undefined;
+      },
       withProgress: (_, work) => work({}, { onCancellationRequested: () => ({ dispose() {} }) }),
     },
     workspace: {

@@ -4,6 +4,7 @@
 const assert = require('node:assert');
 const fs = require('node:fs');
 const Module = require('node:module');
+const os = require('node:os');
 const path = require('node:path');
 const { after, test } = require('node:test');
 const { makeEditor, Position, Range, TextDocument } = require('./fake_vscode.js');
@@ -33,12 +34,13 @@ const settings = (more) => ({
 });
 
 const running = [];
+const removed = [];
 
 /** The extension, started anew over an editor of its own. */
 function activated(more) {
   editor = makeEditor(settings(more));
-  for (const name of ['extension.js', 'convert.js']) delete require.cache[path.join(FOLDER, name)];
-  const context = { subscriptions: [] };
+  for (const name of ['extension.js', 'convert.js', 'debugger.js']) delete require.cache[path.join(FOLDER, name)];
+  const context = { subscriptions: [], extensionPath: more?.folder ?? FOLDER };
   const server = require('../extension.js').activate(context);
   running.push(context);
   return { editor, server };
@@ -54,6 +56,7 @@ async function opened(text = GAME, more = {}) {
 
 after(async () => {
   for (const context of running) for (const part of context.subscriptions) await part.dispose?.();
+  for (const folder of removed) fs.rmSync(folder, { recursive: true });
 });
 
 test('faults come and go as typed', options, async () => {
@@ -163,13 +166,71 @@ test('a server that dies is restarted, and nothing is lost', options, async () =
   assert.ok(found.some((fault) => fault.range.start.line === 2));
 });
 
-test('a server that is not there is given up', options, async () => {
+/** Waits until something is there. */
+async function there(found) {
+  for (let tries = 0; tries < 5000 && !found(); tries += 1) await new Promise((resolve) => setTimeout(resolve, 20));
+  assert.ok(found());
+}
+
+test('a server that is not there is given up, and what to install is said', options, async () => {
   const { editor } = activated({ server: '/nowhere/chipbench-lsp' });
-  for (let tries = 0; tries < 10000 && editor.errors.length === 0; tries += 1) {
-    await new Promise((resolve) => setTimeout(resolve, 20));
-  }
-  assert.match(editor.errors[0], /keeps ending/);
+  await there(() => editor.errors.length > 0);
+  assert.match(editor.errors[0], /language server .nowhere.chipbench-lsp isn't there. Install chipbench/);
+  assert.strictEqual(editor.errors.length, 1);
   assert.strictEqual(await editor.providers.Hover.provideHover(new TextDocument('x.asm', ''), new Position(0, 0)), null);
+});
+
+test('a server that keeps ending is given up', options, async () => {
+  const { editor } = activated({ server: '/bin/false' });
+  await there(() => editor.errors.length > 0);
+  assert.match(editor.errors[0], /keeps ending/);
+});
+
+/** A folder as the package has it: the extension beside the programs that it starts. */
+function packaged() {
+  const folder = fs.mkdtempSync(path.join(os.tmpdir(), 'chipbench-extension-'));
+  removed.push(folder);
+  fs.mkdirSync(path.join(folder, 'chipbench'));
+  for (const name of ['python', 'page', 'web']) fs.symlinkSync(path.join(TOP, 'frontends', name), path.join(folder, 'chipbench', name));
+  return folder;
+}
+
+test('the programs of the package are started by Python', options, async () => {
+  const { editor, document } = await opened('FOO\n', { server: '', page: '', folder: packaged() });
+  await editor.diagnosed(document, (found) => found.length === 1);
+  const made = editor.providers.DebugAdapter.createDebugAdapterDescriptor();
+  assert.deepStrictEqual([made.command, path.basename(made.args[1])], ['python3', 'chipbench_dap']);
+});
+
+test('without Python it says what to install', options, async () => {
+  const { editor } = activated({ server: '', python: '/nowhere/python3', folder: packaged() });
+  await there(() => editor.errors.length > 0);
+  assert.match(editor.errors[0], /python3 isn't there or is older. Install Python 3.10 or later/);
+  assert.throws(() => editor.providers.DebugAdapter.createDebugAdapterDescriptor(), /Install Python/);
+});
+
+test('a launch takes the file that is shown and the settings', options, async () => {
+  const { editor, document } = await opened(GAME, { seed: '7', every: 2000 });
+  const { resolveDebugConfiguration } = editor.providers.DebugConfiguration;
+  const launch = resolveDebugConfiguration({ uri: { fsPath: '/tmp' } }, {});
+  const wanted = { source: document.uri.fsPath, seed: '7', every: 2000, rate: 10, profile: 'schip', chipbench: PROGRAM, cwd: '/tmp' };
+  assert.deepStrictEqual(launch, { type: 'chipbench', request: 'launch', name: 'Debug this file', ...wanted });
+  assert.strictEqual(resolveDebugConfiguration(undefined, { source: 'a.asm', tape: '2a' }).seed, undefined);
+  editor.close(document);
+  assert.strictEqual(resolveDebugConfiguration(undefined, {}), undefined);
+  assert.match(editor.errors[0], /open a source/);
+});
+
+test('a game runs on the page', options, async () => {
+  const folder = packaged();
+  const made = activated({ page: '', folder });
+  const document = new TextDocument('game.asm', GAME);
+  document.uri = { fsPath: path.join(folder, 'game.asm'), toString: () => `file://${folder}/game.asm` };
+  made.editor.open(document);
+  await made.editor.commands['chipbench.runOnPage']();
+  assert.deepStrictEqual(made.editor.errors, []);
+  assert.match(made.editor.opened[0], /^http:..127\.0\.0\.1:/);
+  assert.match(await (await fetch(made.editor.opened[0])).text(), /<title>/);
 });
 
 test('messages in pieces', () => {
@@ -185,7 +246,7 @@ test('messages in pieces', () => {
 test('the words of the package lead somewhere', () => {
   const made = JSON.parse(fs.readFileSync(path.join(FOLDER, 'package.json'), 'utf8'));
   const { languages, grammars } = made.contributes;
-  for (const place of [made.main, languages[0].configuration, grammars[0].path]) assert.ok(fs.existsSync(path.join(FOLDER, place)));
+  for (const place of [made.main, made.icon, languages[0].configuration, grammars[0].path]) assert.ok(fs.existsSync(path.join(FOLDER, place)));
   JSON.parse(fs.readFileSync(path.join(FOLDER, languages[0].configuration), 'utf8'));
 });
 
@@ -197,4 +258,13 @@ test('the manifest has a setting for each option of the server, and claims no fi
   for (const name of names) assert.ok(`chipbench.${name}` in contributes.configuration.properties, name);
   assert.deepStrictEqual(contributes.languages[0].extensions, ['.ch8asm']);
   assert.strictEqual(contributes.commands[0].title, 'Run to Cursor');
+});
+
+test('the manifest has each argument of a launch', () => {
+  const { contributes } = JSON.parse(fs.readFileSync(path.join(FOLDER, 'package.json'), 'utf8'));
+  const launch = fs.readFileSync(path.join(TOP, 'frontends/python/chipbench_dap/launch.py'), 'utf8');
+  const names = [.../^KINDS: [^]*?^}$/m.exec(launch)[0].matchAll(/"(\w+)": /g)].map(([, name]) => name);
+  const known = Object.keys(contributes.debuggers[0].configurationAttributes.launch.properties);
+  // VS Code adds noDebug itself
+  assert.deepStrictEqual(known.sort(), [...names.filter((name) => name !== 'noDebug'), 'seed'].sort());
 });
