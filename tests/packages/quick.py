@@ -484,8 +484,10 @@ class TestMakingPackages(unittest.TestCase):
         """A folder for the PATH with all commands but some."""
         tools = pathlib.Path(tempfile.mkdtemp(dir=self.folder))
         tools.chmod(0o755)
-        for folder in reversed(os.environ["PATH"].split(os.pathsep)):
-            for path in pathlib.Path(folder).glob("*"):
+        for folder in map(pathlib.Path, reversed(os.environ["PATH"].split(os.pathsep))):
+            # a user who isn't root can't enter each folder
+            is_open = folder.is_dir() and all(place.stat().st_mode & 0o001 for place in (folder, *folder.parents))
+            for path in folder.glob("*") if is_open else ():
                 if path.name not in names:
                     (tools / path.name).unlink(missing_ok=True)
                     (tools / path.name).symlink_to(path)

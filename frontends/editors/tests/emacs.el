@@ -142,6 +142,15 @@ LOOP:   ADD V0, STEP
   (with-current-buffer "*chipbench*"
     (same (not (string-match-p "step 15: pc is at #208" (buffer-string))) nil)))
 
+;; dape isn't in Debian: what it is told is looked at without it
+(defvar dape-configs nil)
+(let ((load-file-name nil)) (provide 'dape))
+
+(try "debugging: what dape is told" game
+  (let ((config (cdr (assq 'chipbench dape-configs))))
+    (same (list (plist-get config 'command) (plist-get config :source) (plist-get config :request))
+          '("chipbench-dap" dape-buffer-default "launch"))))
+
 ;; the server that is started next has these settings
 (setq chip8-settings (append chip8-settings '(:tape "2a")))
 

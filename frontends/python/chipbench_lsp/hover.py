@@ -9,9 +9,11 @@ from chipbench import ChipbenchError, to_bytes
 from .document import Document, OverLimits
 from .language import Line, Token, in_all_bases, read_number
 from .names import definition_of
+from .properties import WORDS
 from .tables import DIRECTIVES, PARTS, REGISTERS, Instruction, row_of_word, rows_of
 
 MOST_BYTES = 32
+PROPERTY_WORDS = {word.upper(): f"`{word}`: {text}" for word, text in WORDS.items()}
 
 
 def hover(document: Document, number: int, place: int) -> dict[str, Any] | None:
@@ -54,6 +56,10 @@ def token_text(document: Document, number: int, line: Line, token: Token) -> str
         return f"{in_all_bases(inner[0])}" if len(inner) == 1 else f"{len(inner)} bytes: `{inner[:MOST_BYTES].hex(' ')}`"
     if token.kind != "word":
         return ""
+    if line.stated and token.upper not in REGISTERS and (token, True) not in line.stated_names():
+        word = PROPERTY_WORDS.get(token.upper)
+        if word is not None:
+            return word
     if token == line.head and line.mnemonic is not None:
         return instruction_text(document, number, line.mnemonic)
     if token == line.head and line.directive is not None:

@@ -30,6 +30,10 @@ NUMBERS = (
     (re.compile(r"\$[01.]+"), 1, 2),
 )
 DEFINERS = ("EQU", "=")
+# A line that states a property of the game, which other assemblers take for a comment.
+PROPERTY = re.compile(r"[ \t\f\r\x1a]*;!")
+# Words of properties that could be names: a name that is spelled so stands in parentheses there.
+PROPERTY_WORDS = frozenset("ALWAYS NEVER EVER CAN HERE AT PC DEPTH KEYS PIXEL DRAWS".split())
 # What stands after these isn't an expression.
 WITHOUT_NAMES = frozenset({"ALIGN", "OPTION", "INCLUDE"})
 
@@ -51,7 +55,7 @@ class Line:
     """A line: its tokens without blanks and comment, the token that it defines, and its statement.
 
     `form` is `label`, `value` (EQU and `=`), `define` or `plain`; `head` is the statement's first token, the EQU or `=` of a
-    definition, and `operands` are the tokens after it.
+    definition, and `operands` are the tokens after it. `stated` are the tokens of a property, after its `;!`.
     """
 
     text: str
@@ -61,6 +65,7 @@ class Line:
     defined: Token | None
     head: Token | None
     operands: tuple[Token, ...]
+    stated: tuple[Token, ...] = ()
 
     @property
     def is_bad(self) -> bool:
@@ -82,7 +87,7 @@ class Line:
 
     def token_at(self, place: int) -> Token | None:
         """The token that a place is in, or that ends there."""
-        touching = [token for token in self.tokens if token.start <= place <= token.end]
+        touching = [token for token in self.tokens or self.stated if token.start <= place <= token.end]
         inside = [token for token in touching if place < token.end]
         return next(iter(inside + touching), None)
 
@@ -93,11 +98,25 @@ class Line:
         if self.directive in WITHOUT_NAMES:
             return
         yield from (token for token in self.operands if token.kind == "word" and token.upper not in RESERVED)
+        yield from (token for token, _ in self.stated_names())
+
+    def stated_names(self) -> Iterator[tuple[Token, bool]]:
+        """The names in a property, each with whether it stands in parentheses or brackets.
+
+        >>> [(token.text, inside) for token, inside in read_line(";! never [BALL] = PC + (PC) at LOOP").stated_names()]
+        [('BALL', True), ('PC', True), ('LOOP', False)]
+        """
+        depth = 0
+        for token in self.stated:
+            if token.kind == "sign":
+                depth += (token.text in "([") - (token.text in ")]")
+            elif token.kind == "word" and token.upper not in RESERVED and (depth > 0 or token.upper not in PROPERTY_WORDS):
+                yield token, depth > 0
 
 
-def scan(text: str) -> tuple[tuple[Token, ...], Token | None]:
+def scan(text: str, start: int = 0) -> tuple[tuple[Token, ...], Token | None]:
     tokens: list[Token] = []
-    for found in TOKEN.finditer(text):
+    for found in TOKEN.finditer(text, start):
         kind = found.lastgroup or "bad"
         if kind == "blank":
             continue
@@ -119,8 +138,10 @@ def read_line(text: str) -> Line:
     tokens, comment = scan(text)
 
     def made(form: str, defined: Token | None, statement: tuple[Token, ...]) -> Line:
-        return Line(text, tokens, comment, form, defined, statement[0] if statement else None, statement[1:])
+        return Line(text, tokens, comment, form, defined, statement[0] if statement else None, statement[1:], stated)
 
+    mark = PROPERTY.match(text)
+    stated = scan(text, mark.end())[0] if mark is not None else ()
     if not tokens or tokens[0].kind != "word":
         return made("plain", None, tokens)
     colon = len(tokens) > 1 and tokens[1].text == ":"

@@ -5,10 +5,10 @@ from __future__ import annotations
 from collections.abc import Iterator
 from typing import Any
 
-from chipbench import Bench, ChipbenchError, Refused, join_lines, to_bytes
+from chipbench import Bench, ChipbenchError, Refused, check, join_lines, to_bytes
 
 from .document import Document, OpenBench, OverLimits, over_limits
-from .language import Token
+from .language import PROPERTY_WORDS, Token
 from .tables import name_fault
 from .wire import REQUEST_FAILED, Failed
 
@@ -74,7 +74,8 @@ def prepare_rename(document: Document, number: int, place: int) -> dict[str, Any
 
 
 def rename(document: Document, number: int, place: int, new_name: str, open_bench: OpenBench) -> dict[str, Any]:
-    """One edit of all uses. It is refused where the new name can't be one, is taken, or changes what is assembled."""
+    """One edit of all uses, those in properties among them. It is refused where the new name can't be one, is taken, or changes
+    what is assembled or which properties can be read."""
     token = name_at(document, number, place)
     if token is None:
         raise Failed(REQUEST_FAILED, "there is no name here")
@@ -84,13 +85,34 @@ def rename(document: Document, number: int, place: int, new_name: str, open_benc
     is_other = new_name.upper() != token.upper
     if is_other and next(uses(document, new_name.upper()), None) is not None:
         raise Failed(REQUEST_FAILED, f"{new_name.upper()} is already used in the source")
-    places = list(uses(document, token.upper))
+    places = [(at, use, written(document, at, use, new_name)) for at, use in uses(document, token.upper)]
     lines = document.lines
-    for at, use in reversed(places):
-        lines[at] = lines[at][: use.start] + new_name + lines[at][use.end :]
+    for at, use, text in reversed(places):
+        lines[at] = lines[at][: use.start] + text + lines[at][use.end :]
     check_same(document, lines, open_bench)
-    edits = [{"range": location(document, at, use)["range"], "newText": new_name} for at, use in places]
+    check_properties(document, lines)
+    edits = [{"range": location(document, at, use)["range"], "newText": text} for at, use, text in places]
     return {"changes": {document.uri: edits}}
+
+
+def written(document: Document, number: int, use: Token, new_name: str) -> str:
+    """A new name as a use of the old one has it: a name that is spelled as a word of properties stands in parentheses there."""
+    if new_name.upper() not in PROPERTY_WORDS:
+        return new_name
+    return f"({new_name})" if (use, False) in document.read(number).stated_names() else new_name
+
+
+def check_properties(document: Document, lines: list[str]) -> None:
+    """Refuses a change of the lines where other properties can be read."""
+    if not any(document.read(number).stated for number in range(document.line_count)):
+        return
+    program = document.bench().program
+    before, after = (
+        [(fault.line, fault.code) for fault in check(join_lines(map(to_bytes, source)), program) if fault.code.startswith("P")]
+        for source in (document.lines, lines)
+    )
+    if before != after:
+        raise Failed(REQUEST_FAILED, "the properties of the changed source can't be read as before")
 
 
 def outcome(bench: Bench) -> tuple[bytes, ...]:

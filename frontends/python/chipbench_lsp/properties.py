@@ -4,17 +4,16 @@ stand in them, and `prove`, which answers one."""
 from __future__ import annotations
 
 import json
-import re
 import subprocess
 import threading
 from typing import Any
 
 from .document import Document
+from .language import PROPERTY
 from .tables import REGISTERS
 from .wire import REQUEST_CANCELLED, REQUEST_FAILED, Failed
 
 COMMAND = "chipbench.prove"
-MARK = re.compile(r"[ \t]*;!")
 # the words of a property, and what each says
 WORDS = {
     "always": "the condition holds before each step, at its place",
@@ -39,7 +38,7 @@ LOOK_SECONDS = 0.1
 
 
 def is_property(line: str) -> bool:
-    return MARK.match(line) is not None
+    return PROPERTY.match(line) is not None
 
 
 def text_of(line: str) -> str:
