@@ -47,6 +47,8 @@ def instructions(machine: str) -> list[dict[str, Any]]:
     for word, source, effect, stops in rows(machine, "| Word | Source | Effect | Stops |"):
         pattern = quoted(word)[0]
         forms = [form for form in quoted(source)]
+        # there is no table below it where it is shown
+        effect = effect.removesuffix(", see below")
         also = vip.get(pattern, "") or (f"n = 0: {vip['DXY0']}" if pattern == "DXYN" else "")
         found.append({"word": pattern, "forms": forms, "effect": effect, "stops": stops, "vip": also})
     found.append({
@@ -63,7 +65,7 @@ def directives(language: str, words: list[str]) -> dict[str, dict[str, Any]]:
             for word in re.findall(r"[A-Z]{2,}", form):
                 if word in found and word not in ("ON", "OFF"):
                     found[word]["forms"].append(form)
-                    found[word]["effect"] = effect
+                    found[word]["effect"] = effect.removesuffix(", see below")
     return found
 
 

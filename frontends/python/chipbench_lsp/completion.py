@@ -11,15 +11,19 @@ from chipbench import ChipbenchError
 from .document import Document, OverLimits
 from .hover import directive_text, row_text
 from .language import in_all_bases, read_line
+from .operands import ANY_REGISTER, VALUES, place_in, wanted_at
 from .properties import is_property, words
 from .tables import DIRECTIVES, INSTRUCTIONS, OPTIONS, PARTS, REGISTERS, RESERVED
+from .tokens import label_of
 
-KEYWORD, SNIPPET, VALUE, VARIABLE, CONSTANT = 14, 15, 12, 6, 21
+KEYWORD, SNIPPET, VALUE, VARIABLE, CONSTANT, FUNCTION = 14, 15, 12, 6, 21, 3
+# The most rows of a sprite.
+MOST_ROWS = 15
 FIELD = re.compile(r"Vx|Vy|\bkk\b|\ba\b|\bn\b")
 WORD_BEFORE = re.compile(r"[A-Za-z0-9_]*$")
 NAME_ONLY = ("IFDEF", "IFUND", "USED", "XREF")
 # What may stand after a statement's word that takes an expression and no register.
-VALUES_ONLY = ("ORG", "DB", "DW", "DS", "EQU", "=", "JP", "CALL", "SYS")
+VALUES_ONLY = ("ORG", "DB", "DW", "DS", "EQU", "=")
 
 
 def complete(document: Document, number: int, place: int, has_snippets: bool) -> list[dict[str, Any]]:
@@ -29,13 +33,15 @@ def complete(document: Document, number: int, place: int, has_snippets: bool) ->
     start = prefix.start()
     before = read_line(text[:start])
     if is_property(text):
-        return matching(document, number, start, place, [*words(), *names(document)])
+        return matching(document, number, start, place, [*words(), *names(document, prefix[0])])
     if before.comment is not None or before.is_bad or (start > 0 and text[start - 1] in "#@$"):
         return []
     if before.head is None:
         items = statements(has_snippets)
+    elif before.mnemonic is not None:
+        items = instruction_operands(document, text[:start], prefix[0])
     else:
-        items = operands(document, before.head.upper)
+        items = operands(document, before.head.upper, prefix[0])
     return matching(document, number, start, place, items)
 
 
@@ -98,32 +104,72 @@ def documented(label: str, kind: int, detail: str, text: str) -> dict[str, Any]:
     return {"label": label, "kind": kind, "detail": detail, "documentation": {"kind": "markdown", "value": text}}
 
 
-def operands(document: Document, head: str) -> list[dict[str, Any]]:
+def operands(document: Document, head: str, begun: str) -> list[dict[str, Any]]:
     if head == "OPTION":
         return [{"label": word, "kind": KEYWORD} for word in OPTIONS]
     if head == "ALIGN":
         return [{"label": word, "kind": KEYWORD} for word in ("ON", "OFF")]
-    items = names(document)
+    items = names(document, begun)
     if head in NAME_ONLY or head in VALUES_ONLY:
-        return items + ([registers()[0]] if head == "JP" else [])
+        return items
     return registers() + [documented(word, KEYWORD, "", PARTS[word]) for word in PARTS] + items
 
 
-def registers() -> list[dict[str, Any]]:
-    return [{"label": name, "kind": VARIABLE, "detail": "register"} for name in REGISTERS]
+def instruction_operands(document: Document, text: str, begun: str) -> list[dict[str, Any]]:
+    """What the forms of an instruction take at the end of a text, what is meant most often first: for an address labels, for a
+    byte registers and constants, for a number of rows constants and numbers."""
+    place = place_in(text)
+    wanted = wanted_at(place) if place is not None else []
+    if text.rstrip().endswith("["):
+        return [documented("I]", KEYWORD, "", "the bytes from I on")] if "[I]" in wanted else []
+    values = [operand for operand in wanted if operand in VALUES]
+    of_registers = registers(begun) if any(operand in ANY_REGISTER for operand in wanted) else []
+    of_registers += registers(begun)[:1] if "V0" in wanted else []
+    of_names = value_operands(document, begun, values)
+    groups = [*of_names, of_registers] if "a" in values else [of_registers, *of_names]
+    groups.append([part_operand(operand) for operand in wanted if operand in PARTS or operand == "[I]"])
+    return [{**item, "sortText": f"{rank}{item['label']:>2}"} for rank, group in enumerate(groups) for item in group]
 
 
-def names(document: Document) -> list[dict[str, Any]]:
-    """The names of the source, with their values where the program knows them."""
+def part_operand(operand: str) -> dict[str, Any]:
+    return documented(operand, KEYWORD, "", "the bytes from I on" if operand == "[I]" else PARTS[operand])
+
+
+def value_operands(document: Document, begun: str, values: list[str]) -> list[list[dict[str, Any]]]:
+    """Names and numbers for the letters of a form: `a`, `kk`, `n`."""
+    if not values:
+        return []
+    labels = {label_of(text) for _, text in document.numbered()}
+    found = names(document, begun)
+    of_labels = [{**item, "kind": FUNCTION} for item in found if item["label"].upper() in labels]
+    constants = [item for item in found if item["label"].upper() not in labels]
+    if values == ["n"]:
+        return [constants, [{"label": str(number), "kind": VALUE} for number in range(1, MOST_ROWS + 1)]]
+    return [of_labels, constants] if "a" in values else [constants, of_labels]
+
+
+def registers(begun: str = "") -> list[dict[str, Any]]:
+    """The registers; also where they are begun as R3."""
+    letter = "R" if begun[:1] in ("r", "R") else "V"
+    return [
+        {"label": name, "kind": VARIABLE, "detail": "register", "filterText": letter + name[1:]}
+        for name in REGISTERS
+    ]
+
+
+def names(document: Document, begun: str) -> list[dict[str, Any]]:
+    """The names of the source that begin with some letters, with their values where the program knows them."""
     try:
-        values = {name: in_all_bases(symbol.value) for name, symbol in document.symbols.items()}
+        symbols = document.symbols
     except (OverLimits, ChipbenchError):
-        values = {}
+        symbols = {}
+    wanted = begun.upper()
     spelt: dict[str, str] = {}
-    for number in range(document.line_count):
-        defined = document.read(number).defined
-        if defined is not None and defined.upper not in RESERVED:
+    for _, text in document.numbered():
+        defined = read_line(text).defined
+        if defined is not None and defined.upper.startswith(wanted) and defined.upper not in RESERVED:
             spelt.setdefault(defined.upper, defined.text)
+    values = {name: in_all_bases(symbols[name].value) for name in spelt if name in symbols}
     return [
         {"label": text, "kind": CONSTANT, "detail": values.get(name, ""), "is_reserved": False} for name, text in spelt.items()
     ]

@@ -2,7 +2,7 @@
 
 from __future__ import annotations
 
-from collections.abc import Callable, Sequence
+from collections.abc import Callable, Iterator, Sequence
 from typing import Any, AnyStr
 
 from chipbench import Bench, ChipbenchError, ListingLine, Symbol, join_lines, read_listing_line, to_bytes
@@ -73,6 +73,11 @@ def line_edits(old: Sequence[bytes], new: Sequence[bytes]) -> list[bytes]:
     return edits
 
 
+def ended(line: str) -> bytes:
+    """The bytes of a line that an LF ends: without the CR before that."""
+    return to_bytes(line[:-1] if line.endswith("\r") else line)
+
+
 class Session:
     """One `chipbench debug` that follows the lines of a document."""
 
@@ -118,6 +123,8 @@ class Document:
         self.session = Session(open_bench)
         self.edition = 0
         self._lines: list[str] = []
+        # the bytes of each line without its end, as if an LF ended it
+        self._encoded: list[bytes] = []
         self._known: dict[str, tuple[int, Any]] = {}
         self.set_text(text)
 
@@ -125,6 +132,7 @@ class Document:
 
     def set_text(self, text: str) -> None:
         self._lines = text.split("\n")
+        self._encoded = list(map(ended, self._lines))
         self.edition += 1
 
     @property
@@ -144,6 +152,12 @@ class Document:
         is_ended = number + 1 < len(self._lines)
         return line[:-1] if is_ended and line.endswith("\r") else line
 
+    def numbered(self) -> Iterator[tuple[int, str]]:
+        """The lines without their ends, each with its number."""
+        last = len(self._lines) - 1
+        for number, line in enumerate(self._lines):
+            yield number, line[:-1] if number < last and line.endswith("\r") else line
+
     def end_of_line(self, number: int) -> str:
         return "\r\n" if self._lines[number].endswith("\r") else "\n"
 
@@ -158,16 +172,18 @@ class Document:
 
     @property
     def source(self) -> list[bytes]:
-        return [to_bytes(line) for line in self.lines]
+        """The lines of the source as bytes."""
+        last = self._lines[-1]
+        return [*self._encoded[:-1], to_bytes(last)] if last else self._encoded[:-1]
 
     def change(self, changes: list[dict[str, Any]]) -> None:
         """Makes changes in their order: all or none of them."""
-        before = list(self._lines)
+        before = list(self._lines), list(self._encoded)
         try:
             for change in changes:
                 self._change(change)
         except Exception:
-            self._lines = before
+            self._lines, self._encoded = before
             raise
 
     def _change(self, change: dict[str, Any]) -> None:
@@ -182,8 +198,9 @@ class Document:
         last, end = self._place(change["range"]["end"])
         if (last, end) < (first, start):
             first, start, last, end = last, end, first, start
-        made = self._lines[first][:start] + text + self._lines[last][end:]
-        self._lines[first : last + 1] = made.split("\n")
+        made = (self._lines[first][:start] + text + self._lines[last][end:]).split("\n")
+        self._lines[first : last + 1] = made
+        self._encoded[first : last + 1] = map(ended, made)
         self.edition += 1
 
     def _place(self, position: dict[str, int]) -> tuple[int, int]:

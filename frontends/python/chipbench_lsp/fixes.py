@@ -7,15 +7,23 @@ import re
 from collections.abc import Iterable, Iterator
 from typing import Any
 
-from chipbench import Bench, ChipbenchError, to_bytes
+from chipbench import Bench, ChipbenchError, Fault, check, join_lines, to_bytes
 
+from .diagnostics import Places
 from .document import LINE_BYTES, Document, OverLimits
 from .language import Line, Token
+from .positions import byte_to_place
 from .tables import DIRECTIVES, MNEMONICS, RESERVED
 
 CLOSE = 0.6
 MOST_CLOSE = 3
 C_NUMBER = re.compile(r"0[xX]([0-9A-Fa-f]+)")
+# what the help below a fault says
+WRITTEN = re.compile(r"is written ([A-Z]+) here$")
+BEGINS = re.compile(r"number begins with `.`: (\S+)$")
+AS_IN = re.compile(r"as in (LD [^`]*)$")
+FULL_STOP = "no full stop stands before"
+NUMBER_AT = re.compile(r"[$%#&@]*[0-9A-Za-z_.]+")
 SUFFIXED_NUMBER = re.compile(r"([0-9][0-9A-Fa-f]*)[hH]")
 
 Fix = tuple[str, str]
@@ -31,8 +39,34 @@ def close_words(word: str, known: Iterable[str]) -> list[str]:
     return [other.lower() for other in found] if word == word.lower() else found
 
 
-def candidates(line: Line, names: Iterable[str]) -> Iterator[Fix]:
-    """What may be meant.
+def of_help(line: Line, fault: Fault) -> Iterator[Fix]:
+    """What the help below a fault says to write.
+
+    >>> from .language import read_line
+    >>> fault = Fault(1, "F1", start=7, end=10, help="help: a hexadecimal number begins with `#`: #F0")
+    >>> list(of_help(read_line("LD V0, $F0"), fault))
+    [('Write #F0', 'LD V0, #F0')]
+    """
+    content = to_bytes(line.text)
+    start = byte_to_place(line.text, content, fault.start or 0)
+    for text in fault.help.split("\n"):
+        word, number, whole = (form.search(text) for form in (WRITTEN, BEGINS, AS_IN))
+        if word is not None:
+            end = byte_to_place(line.text, content, fault.end or 0)
+            written = word[1].lower() if line.text[start:end].islower() else word[1]
+            yield f"Write {written}", line.text[:start] + written + line.text[end:]
+        elif number is not None:
+            found = NUMBER_AT.match(line.text, start)
+            if found is not None:
+                yield f"Write {number[1]}", line.text[:start] + number[1] + line.text[found.end() :]
+        elif FULL_STOP in text and line.text[start : start + 1] == ".":
+            yield "Remove the full stop", line.text[:start] + line.text[start + 1 :]
+        elif whole is not None:
+            yield f"Write {whole[1]}", line.text[:start] + whole[1] + line.text[line.code_end :]
+
+
+def candidates(line: Line, names: Iterable[str], fault: Fault | None = None) -> Iterator[Fix]:
+    """What may be meant, also by the help below a fault.
 
     >>> from .language import read_line
     >>> [fix for _, fix in candidates(read_line("LD V0, 0x1f"), [])]
@@ -41,6 +75,8 @@ def candidates(line: Line, names: Iterable[str]) -> Iterator[Fix]:
     'loop:'
     """
     yield from numbers(line)
+    if fault is not None:
+        yield from of_help(line, fault)
     yield from signs(line)
     yield from commas(line)
     yield from words(line, names)
@@ -106,19 +142,32 @@ def fixes_line(bench: Bench, number: int, text: str) -> bool:
     return made == b"ok\n" and not any(row.startswith(b"%d " % (number + 1)) for row in faults.split(b"\n"))
 
 
-def fixes(document: Document, number: int) -> list[dict[str, Any]]:
+def fault_of(document: Document, places: Places, bench: Bench, number: int) -> Fault | None:
+    """The fault of a line with its place and help, which `check` is asked for where it hasn't said them yet."""
+    code = next(code for line, code in document.faults if line == number)
+    known = places.of(document.line(number), code)
+    if known is None:
+        places.learn(document.lines, check(join_lines(document.source), bench.program))
+        known = places.of(document.line(number), code)
+    return known
+
+
+def fixes(document: Document, places: Places, number: int) -> list[dict[str, Any]]:
     """The fixes of a line, as actions of the editor; the first one is the preferred one."""
     try:
         if all(line != number for line, _ in document.faults):
             return []
         bench, names = document.bench(), list(document.symbols)
+        known = fault_of(document, places, bench, number)
     except (OverLimits, ChipbenchError):
         return []
     line = document.read(number)
     if "\r" in line.text:
         return []
     found: list[dict[str, Any]] = []
-    titles = {text: title for title, text in candidates(line, names)}
+    titles: dict[str, str] = {}
+    for title, text in candidates(line, names, known):
+        titles.setdefault(text, title)
     for text, title in titles.items():
         if fixes_line(bench, number, text):
             edit = {"range": document.columns.range(number, line.text, 0, len(line.text)), "newText": text}

@@ -13,6 +13,7 @@ from .properties import WORDS
 from .tables import DIRECTIVES, PARTS, REGISTERS, Instruction, row_of_word, rows_of
 
 MOST_BYTES = 32
+MOST_COMMENTS = 20
 PROPERTY_WORDS = {word.upper(): f"`{word}`: {text}" for word, text in WORDS.items()}
 
 
@@ -115,5 +116,18 @@ def name_text(document: Document, name: str) -> str:
         return text + ": undefined"
     if found is not None:
         number, _ = found
-        text += f", line {number + 1}\n\n```chip8\n{document.line(number).strip()}\n```"
+        shown = [*comments_above(document, number), document.line(number).strip()]
+        text += f", line {number + 1}\n\n```chip8\n{chr(10).join(shown)}\n```"
     return text
+
+
+def comments_above(document: Document, number: int) -> list[str]:
+    """The comments directly above a line, at most so many; a property is none."""
+    found: list[str] = []
+    while number > 0 and len(found) < MOST_COMMENTS:
+        number -= 1
+        line = document.read(number)
+        if line.tokens or line.stated or line.comment is None:
+            break
+        found.insert(0, line.text.strip())
+    return found

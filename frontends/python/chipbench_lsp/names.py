@@ -2,17 +2,21 @@
 
 from __future__ import annotations
 
-from collections.abc import Iterator
+import functools
+from collections.abc import Iterable, Iterator
 from typing import Any
 
 from chipbench import Bench, ChipbenchError, Refused, check, join_lines, to_bytes
 
 from .document import Document, OpenBench, OverLimits, over_limits
-from .language import PROPERTY_WORDS, Token
+from .language import PROPERTY_WORDS, Token, read_line
+from .positions import Columns, escaped
 from .tables import name_fault
-from .wire import REQUEST_FAILED, Failed
+from .wire import REQUEST_FAILED, Encoded, Failed
 
 CONSTANT, FUNCTION = 14, 12
+# The most names of an answer about all documents.
+MOST_SYMBOLS = 1000
 
 
 def name_at(document: Document, number: int, place: int) -> Token | None:
@@ -24,10 +28,10 @@ def name_at(document: Document, number: int, place: int) -> Token | None:
 
 def uses(document: Document, name: str) -> Iterator[tuple[int, Token]]:
     """Each place of a name in the document, in upper case: definitions, uses, and mentions in lines that aren't active."""
-    for number in range(document.line_count):
+    for number, text in document.numbered():
         # a line that holds the name holds it as a text
-        if name in document.line(number).upper():
-            yield from ((number, token) for token in document.read(number).names() if token.upper == name)
+        if name in text.upper():
+            yield from ((number, token) for token in read_line(text).names() if token.upper == name)
 
 
 def definitions(document: Document, name: str) -> list[tuple[int, Token]]:
@@ -139,20 +143,37 @@ def check_same(document: Document, lines: list[str], open_bench: OpenBench) -> N
         raise Failed(REQUEST_FAILED, "the changed source assembles to something else")
 
 
-def symbols(document: Document) -> list[dict[str, Any]]:
-    """The names that the lines define, each up to the line before the next label."""
-    found = []
-    for number in range(document.line_count):
-        line = document.read(number)
-        if line.defined is None:
-            continue
-        span = document.columns.range(number, line.text, line.defined.start, line.defined.end)
-        is_label = line.form == "label"
-        found.append({
-            "name": line.defined.text,
-            "kind": FUNCTION if is_label else CONSTANT,
-            "detail": "" if is_label else line.text[line.defined.end : line.code_end].strip(": \t"),
-            "range": document.columns.range(number, line.text, 0, len(line.text)),
-            "selectionRange": span,
-        })
-    return found
+def workspace_symbols(documents: Iterable[Document], query: str) -> list[dict[str, Any]]:
+    """The names of the open documents that have some letters in them."""
+    found: list[dict[str, Any]] = []
+    for document in documents:
+        for number, text in document.numbered():
+            line = read_line(text)
+            if line.defined is not None and query.upper() in line.defined.upper:
+                kind = FUNCTION if line.form == "label" else CONSTANT
+                found.append({"name": line.defined.text, "kind": kind, "location": location(document, number, line.defined)})
+    return found[:MOST_SYMBOLS]
+
+
+@functools.lru_cache(maxsize=20_000)
+def symbol(text: str, unit: str) -> str:
+    """The name that a line defines as JSON, with %d in the place of the line's number; empty where it defines none."""
+    line = read_line(text)
+    if line.defined is None:
+        return ""
+    is_label = line.form == "label"
+    columns = Columns(unit)
+    made = {
+        "name": escaped(line.defined.text),
+        "kind": FUNCTION if is_label else CONSTANT,
+        "detail": escaped("" if is_label else text[line.defined.end : line.code_end].strip(": \t")),
+        "range": columns.range_text(text, 0, len(text)),
+        "selectionRange": columns.range_text(text, line.defined.start, line.defined.end),
+    }
+    return "{" + ",".join(f'"{name}":{part}' for name, part in made.items()) + "}"
+
+
+def symbols(document: Document) -> Encoded:
+    """The names that the lines define."""
+    rows = ((number, symbol(text, document.columns.unit)) for number, text in document.numbered())
+    return Encoded(text % (number, number, number, number) for number, text in rows if text)

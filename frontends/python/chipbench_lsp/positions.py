@@ -2,6 +2,7 @@
 
 from __future__ import annotations
 
+import json
 from typing import Any
 
 UNITS = ("utf-16", "utf-8", "utf-32")
@@ -44,9 +45,23 @@ class Columns:
     def position(self, number: int, line: str, place: int) -> dict[str, int]:
         return {"line": number, "character": self.width(line[:place])}
 
+    def range_text(self, line: str, start: int, end: int) -> str:
+        """The range of a part of one line as JSON, with %d in the place of both its line numbers.
+
+        >>> Columns().range_text("CLS", 0, 3)
+        '{"start":{"line":%d,"character":0},"end":{"line":%d,"character":3}}'
+        """
+        places = (f'{{"line":%d,"character":{self.width(line[:place])}}}' for place in (start, end))
+        return '{"start":%s,"end":%s}' % tuple(places)
+
     def range(self, number: int, line: str, start: int, end: int) -> Range:
         """The range of a part of one line; lines are counted from 0."""
         return {"start": self.position(number, line, start), "end": self.position(number, line, end)}
+
+
+def escaped(value: Any) -> str:
+    """A value as JSON for a text that is formatted by %."""
+    return json.dumps(value, separators=(",", ":")).replace("%", "%%")
 
 
 def choose_unit(capabilities: Any) -> str:

@@ -1,17 +1,21 @@
-"""Properties that a source states of its game, in lines that begin with `;!`: a lens for each with its last answer, the words that may
-stand in them, and `prove`, which answers one."""
+"""Properties that a source states of its game, in lines that begin with `;!`: a lens for each with its last answer, the words
+that may stand in them, and `prove`, which answers one."""
 
 from __future__ import annotations
 
 import json
+import re
 import subprocess
+import tempfile
 import threading
+from collections.abc import Callable, Iterable
 from typing import Any
 
 from .document import Document
 from .language import PROPERTY
+from .progress import Work
 from .tables import REGISTERS
-from .wire import REQUEST_CANCELLED, REQUEST_FAILED, Failed
+from .wire import REQUEST_FAILED, Encoded, Failed, encoded
 
 COMMAND = "chipbench.prove"
 # the words of a property, and what each says
@@ -33,6 +37,8 @@ WORDS = {
     "PIXEL": "1 where this pixel is lit: PIXEL(column, row)",
 }
 OPTIONS = {"rate": "--rate", "seed": "--seed", "profile": "--profile", "quirks": "--quirks"}
+# a line that says how far a search is
+PROGRESS = re.compile(r"chipbench: (step [0-9]+, .*)\n")
 # how often it is looked whether a search was cancelled
 LOOK_SECONDS = 0.1
 
@@ -59,15 +65,14 @@ class Answers:
         return answer if answered == edition else f"{answer} (before the last edit)"
 
 
-def lenses(document: Document, answers: Answers) -> list[dict[str, Any]]:
+def lenses(document: Document, answers: Answers) -> Encoded:
     """A lens above each property."""
-    found = []
-    for number in range(document.line_count):
-        line = document.line(number)
-        if is_property(line):
-            span = document.columns.range(number, line, 0, len(line))
-            command = {"title": answers.title(text_of(line), document.edition), "command": COMMAND, "arguments": [document.uri, number]}
-            found.append({"range": span, "command": command})
+    found = Encoded()
+    for number, line in document.numbered():
+        if ";!" in line and is_property(line):
+            title = answers.title(text_of(line), document.edition)
+            command = {"title": title, "command": COMMAND, "arguments": [document.uri, number]}
+            found.append(encoded({"range": document.columns.range(number, line, 0, len(line)), "command": command}))
     return found
 
 
@@ -87,26 +92,48 @@ def options_of(settings: dict[str, Any]) -> list[str]:
 
 
 def prove(
-    program: str, source: bytes, settings: dict[str, Any], number: int, cancelled: threading.Event
+    program: str, source: bytes, settings: dict[str, Any], number: int, work: Work, report: Callable[[str], None]
 ) -> dict[str, Any]:
-    """The answer to the property of a line, counted from 0."""
-    command = [program, "prove", "--json", "--only", str(number + 1), *options_of(settings), "-"]
-    with subprocess.Popen(command, stdin=subprocess.PIPE, stdout=subprocess.PIPE, stderr=subprocess.PIPE) as process:
-        given: bytes | None = source
-        while True:
-            try:
-                output, errors = process.communicate(given, timeout=LOOK_SECONDS)
-                break
-            except subprocess.TimeoutExpired:
-                given = None
-            if cancelled.is_set():
-                process.kill()
-                raise Failed(REQUEST_CANCELLED, "cancelled")
+    """The answer to the property of a line, counted from 0. `report` is told how far the search is."""
+    command = [program, "prove", "--json", "--progress", "--only", str(number + 1), *options_of(settings), "-"]
+    with tempfile.TemporaryFile() as given:
+        given.write(source)
+        given.seek(0)
+        with subprocess.Popen(command, stdin=given, stdout=subprocess.PIPE, stderr=subprocess.PIPE) as process:
+            output, errors = watched(process, work, report)
     told = [json.loads(line) for line in output.decode().splitlines() if line.startswith("{")]
     for answer in told:
         if answer.get("line") == number + 1:
             return {**answer, "text": shown(answer)}
-    raise Failed(REQUEST_FAILED, errors.decode("utf-8", "replace").strip() or "the source has faults")
+    raise Failed(REQUEST_FAILED, errors.strip() or "the source has faults")
+
+
+def watched(process: subprocess.Popen[bytes], work: Work, report: Callable[[str], None]) -> tuple[bytes, str]:
+    """What a search prints, and its errors. It is killed where its work is cancelled."""
+    assert process.stdout is not None and process.stderr is not None
+    errors: list[str] = []
+
+    def read_errors(lines: Iterable[bytes]) -> None:
+        for line in lines:
+            found = PROGRESS.fullmatch(line.decode("utf-8", "replace"))
+            if found is None:
+                errors.append(line.decode("utf-8", "replace"))
+            else:
+                report(found[1])
+
+    output: list[bytes] = []
+    threads = [
+        threading.Thread(target=read_errors, args=(process.stderr,)),
+        threading.Thread(target=lambda lines: output.append(lines.read()), args=(process.stdout,)),
+    ]
+    for thread in threads:
+        thread.start()
+    while any(thread.is_alive() for thread in threads):
+        threads[-1].join(LOOK_SECONDS)
+        if work.is_set():
+            process.kill()
+            raise work.failure()
+    return b"".join(output), "".join(errors)
 
 
 def shown(answer: dict[str, Any]) -> str:

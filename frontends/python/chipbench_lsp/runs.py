@@ -2,14 +2,17 @@
 
 from __future__ import annotations
 
-import threading
+import functools
 from typing import Any
 
 from chipbench import BATCH, Bench, ChipbenchError, ListingLine, State
 
 from .document import Document, OverLimits
+from .language import read_line
+from .positions import Columns, escaped
+from .progress import Work
 from .tables import STOPS
-from .wire import REQUEST_CANCELLED, REQUEST_FAILED, Failed
+from .wire import REQUEST_FAILED, Encoded, Failed
 
 COMMAND = "chipbench.runTo"
 TITLE = "run to here"
@@ -24,15 +27,20 @@ def is_code(row: ListingLine | None) -> bool:
     return row is not None and row.address is not None and bool(row.code) and row.value is None
 
 
-def lenses(document: Document) -> list[dict[str, Any]]:
+@functools.lru_cache(maxsize=20_000)
+def lens(text: str, unit: str, uri: str) -> str:
+    """The lens of a line as JSON, with %d in the place of its number; empty where it is no label of an instruction."""
+    line = read_line(text)
+    if line.form != "label" or (line.head is not None and line.mnemonic is None):
+        return ""
+    place = Columns(unit).range_text(text, 0, len(text))
+    return f'{{"range":{place},"command":{{"title":"{TITLE}","command":"{COMMAND}","arguments":[{escaped(uri)},%d]}}}}'
+
+
+def lenses(document: Document) -> Encoded:
     """A lens above each label of an instruction."""
-    found = []
-    for number in range(document.line_count):
-        line = document.read(number)
-        if line.form == "label" and (line.head is None or line.mnemonic is not None):
-            span = document.columns.range(number, line.text, 0, len(line.text))
-            found.append({"range": span, "command": command(document, number)})
-    return found
+    rows = ((number, lens(text, document.columns.unit, document.uri)) for number, text in document.numbered())
+    return Encoded(text % (number, number, number) for number, text in rows if text)
 
 
 def has_run(document: Document) -> bool:
@@ -58,9 +66,9 @@ def address_of(document: Document, number: int) -> int:
     return row.address
 
 
-def run_to(bench: Bench, address: int, cancelled: threading.Event) -> dict[str, Any]:
+def run_to(bench: Bench, address: int, work: Work) -> dict[str, Any]:
     """The registers and the screen at the first step with pc at an address, or why there is none."""
-    step, last = first_step(bench, address, cancelled)
+    step, last = first_step(bench, address, work)
     if step is None:
         text = f"pc doesn't reach #{address:03X} in the first {last.step} steps"
         if last.stopped is not None:
@@ -75,12 +83,12 @@ def because(state: State) -> str:
     return f"{state.stopped}, {STOPS.get(state.stopped or '', '').replace('`', '')}"
 
 
-def first_step(bench: Bench, address: int, cancelled: threading.Event) -> tuple[int | None, State]:
+def first_step(bench: Bench, address: int, work: Work) -> tuple[int | None, State]:
     """The first step at an address, and the last state that was looked at."""
     state = bench.at(0)
     for start in range(0, LAST_STEP + 1, BATCH):
-        if cancelled.is_set():
-            raise Failed(REQUEST_CANCELLED, "cancelled")
+        if work.is_set():
+            raise work.failure()
         for state in bench.steps(start, min(start + BATCH, LAST_STEP + 1)):
             if state.pc == address:
                 return state.step, state

@@ -18,9 +18,10 @@ from typing import Any, BinaryIO, NoReturn
 import chipbench
 from chipbench import Bench, ChipbenchError, Fault
 
-from . import completion, diagnostics, fixes, hover, layout, names, properties, runs
+from . import calls, completion, diagnostics, fixes, hover, layout, names, properties, runs, signatures, tokens
 from .document import Document, OverLimits
 from .positions import Columns, choose_unit
+from .progress import Progress, Work
 from .wire import (
     INTERNAL_ERROR,
     INVALID_PARAMS,
@@ -31,6 +32,7 @@ from .wire import (
     REQUEST_CANCELLED,
     REQUEST_FAILED,
     BadMessage,
+    Encoded,
     Failed,
     Writer,
     read_message,
@@ -84,7 +86,8 @@ class Server:
         self.places: dict[str, diagnostics.Places] = {}
         self.answers: dict[str, properties.Answers] = {}
         self._refreshes = False
-        self._shown: dict[str, list[Any]] = {}
+        self._has_progress = False
+        self._shown: dict[str, diagnostics.Shown] = {}
         self._unshown: set[str] = set()
         self._unchecked: dict[str, float] = {}
         self._is_checking = False
@@ -96,7 +99,7 @@ class Server:
         self._lock = threading.Lock()
         self._pending: set[Any] = set()
         self._cancelled: set[Any] = set()
-        self._running: dict[Any, threading.Event] = {}
+        self._running: dict[Any, Work] = {}
 
     # -- the loop
 
@@ -138,7 +141,7 @@ class Server:
             if not isinstance(request, (int, str)):
                 return
             if request in self._running:
-                self._running[request].set()
+                self._running[request].cancel()
             elif request in self._pending:
                 self._cancelled.add(request)
 
@@ -183,6 +186,8 @@ class Server:
 
     def _take_request(self, message: Message) -> None:
         request, method = message["id"], message["method"]
+        # what was typed is shown before what the editor asks about it
+        self._show_changed()
         with self._lock:
             is_cancelled = request in self._cancelled
             self._pending.discard(request)
@@ -215,10 +220,13 @@ class Server:
             return None
         if method == "workspace/executeCommand":
             return self._execute(params, request)
+        if method == "workspace/symbol":
+            return names.workspace_symbols(self.documents.values(), str(params["query"]))
         handler = REQUESTS.get(method)
         if handler is None:
             raise Failed(METHOD_NOT_FOUND, f"no such request: {method}")
-        document = self.documents.get(params["textDocument"]["uri"])
+        named = params["item"] if method.startswith("callHierarchy/") else params["textDocument"]
+        document = self.documents.get(named["uri"])
         if document is None:
             raise Failed(INVALID_PARAMS, "the document isn't open")
         return handler(self, document, params)
@@ -250,6 +258,7 @@ class Server:
         item = dig(capabilities, "textDocument", "completion", "completionItem")
         self.has_snippets = bool(dig(item, "snippetSupport"))
         self._refreshes = bool(dig(capabilities, "workspace", "codeLens", "refreshSupport"))
+        self._has_progress = bool(dig(capabilities, "window", "workDoneProgress"))
         settings = given.get("initializationOptions")
         self.shows_runs = bool(dig(settings, "showsRuns"))
         self._set_program(settings)
@@ -271,18 +280,22 @@ class Server:
             "textDocumentSync": {"openClose": True, "change": 2, "save": True},
             "hoverProvider": True,
             "completionProvider": {"triggerCharacters": []},
+            "signatureHelpProvider": {"triggerCharacters": [" ", ","]},
             "definitionProvider": True,
             "referencesProvider": True,
             "documentHighlightProvider": True,
             "renameProvider": {"prepareProvider": True},
             "documentSymbolProvider": True,
+            "workspaceSymbolProvider": True,
+            "callHierarchyProvider": True,
+            "semanticTokensProvider": {"legend": tokens.LEGEND, "full": True, "range": True},
             "inlayHintProvider": True,
             "foldingRangeProvider": True,
             "documentFormattingProvider": True,
             "documentRangeFormattingProvider": True,
             "codeLensProvider": {},
             "codeActionProvider": {"codeActionKinds": ["quickfix", "source"]},
-            "executeCommandProvider": {"commands": [runs.COMMAND, properties.COMMAND]},
+            "executeCommandProvider": {"commands": [runs.COMMAND, properties.COMMAND], "workDoneProgress": True},
         }
 
     def open_bench(self, source: bytes) -> Bench:
@@ -291,6 +304,10 @@ class Server:
         return Bench(source, program=self.program, **self.options)
 
     # -- documents
+
+    def initialized(self, params: Any) -> None:
+        if self.program is None:
+            self.say(WARNING, "no program chipbench was found, so faults are unknown: install chipbench, or name the program")
 
     def did_open(self, params: Any) -> None:
         item = params["textDocument"]
@@ -310,6 +327,9 @@ class Server:
         document = self.documents[uri]
         document.change(params["contentChanges"])
         document.version = params["textDocument"].get("version")
+        with self._lock:
+            for work in self._running.values():
+                work.edited(uri)
         self._changed(uri)
 
     def did_save(self, params: Any) -> None:
@@ -356,7 +376,7 @@ class Server:
         found = diagnostics.diagnostics(document, self.places[uri], self.program)
         # the same faults are published again for a new version
         self._shown[uri] = found
-        params: dict[str, Any] = {"uri": uri, "diagnostics": found}
+        params: dict[str, Any] = {"uri": uri, "diagnostics": found.found}
         if isinstance(document.version, int):
             params["version"] = document.version
         self.writer.notify("textDocument/publishDiagnostics", params)
@@ -371,7 +391,7 @@ class Server:
         document = self.documents[due]
         shown = self._shown.get(due)
         program = self.program
-        if not self._has_check or program is None or (shown and shown[0]["code"] in ("O1", "O2", "program")):
+        if not self._has_check or program is None or (shown and shown.code in ("O1", "O2", "program")):
             return
         uri, edition, lines, source = due, document.edition, document.lines, document.source
         options = {name: self.options.get(name) for name in CHECK_OPTIONS}
@@ -391,8 +411,12 @@ class Server:
         if document is None:
             return
         self.places[checked.uri].learn(checked.lines, checked.faults)
-        if document.edition == checked.edition and (checked.faults or self._shown.get(checked.uri)):
+        if document.edition == checked.edition and (checked.faults or self._has_shown(checked.uri)):
             self._show(checked.uri)
+
+    def _has_shown(self, uri: str) -> bool:
+        shown = self._shown.get(uri)
+        return shown is not None and shown.code is not None
 
     # -- run to here, and prove
 
@@ -403,38 +427,62 @@ class Server:
         document = self.documents.get(uri)
         if document is None or not isinstance(number, int):
             raise Failed(INVALID_PARAMS, "the command needs an open document and a line")
-        source, cancelled = chipbench.join_lines(document.source), threading.Event()
+        source = chipbench.join_lines(document.source)
         if params["command"] == runs.COMMAND:
-            work, given = self._run_to, (runs.address_of(document, number),)
-        else:
-            line = document.line(number) if 0 <= number < document.line_count else ""
-            if not properties.is_property(line):
-                raise Failed(REQUEST_FAILED, "the line states no property")
-            work, given = self._prove, (number, uri, properties.text_of(line), document.edition)
-        with self._lock:
-            self._running[request] = cancelled
-        threading.Thread(target=work, args=(request, source, cancelled, *given), daemon=True).start()
+            address, work = runs.address_of(document, number), Work()
+            self._begin(request, work, lambda: self._run_to(source, work, address))
+            return LATER
+        line = document.line(number) if 0 <= number < document.line_count else ""
+        if not properties.is_property(line):
+            raise Failed(REQUEST_FAILED, "the line states no property")
+        text, edition, work = properties.text_of(line), document.edition, Work(uri)
+        progress = self._progress(work, params, request, f"prove {text}")
+        self._begin(request, work, lambda: self._prove(source, work, progress, number, edition, text))
         return LATER
 
-    def _prove(
-        self, request: Any, source: bytes, cancelled: threading.Event, number: int, uri: str, text: str, edition: int
-    ) -> None:
-        try:
-            if self.program is None:
-                raise ChipbenchError("no program chipbench was found")
-            result = properties.prove(self.program, source, self.options, number, cancelled)
-        except Failed as failed:
-            self.writer.fail(request, failed.code, failed.text)
-        except Exception as error:
-            self.writer.fail(request, REQUEST_FAILED, str(error))
-        else:
-            self._queue.put(lambda: self._answered(uri, text, edition, result["text"]))
-            if not self.shows_runs:
-                self.say(INFO, f"{text}: {result['text']}")
-            self.writer.answer(request, result)
-        finally:
-            with self._lock:
-                self._running.pop(request, None)
+    def _begin(self, request: Any, work: Work, carry_out: Callable[[], Any]) -> None:
+        """Carries out a request in a thread of its own, and answers it."""
+        with self._lock:
+            self._running[request] = work
+
+        def run() -> None:
+            try:
+                self.writer.answer(request, carry_out())
+            except Failed as failed:
+                self.writer.fail(request, failed.code, failed.text)
+            except Exception as error:
+                self.writer.fail(request, REQUEST_FAILED, str(error))
+            finally:
+                with self._lock:
+                    self._running.pop(request, None)
+
+        threading.Thread(target=run, daemon=True).start()
+
+    def _progress(self, work: Work, params: Any, request: Any, title: str) -> Progress:
+        """The progress of a request: by the token of the client, or by one that the client is told."""
+        work.token = params.get("workDoneToken")
+        if work.token is None and self._has_progress:
+            work.token = f"request {request}"
+            params = {"token": work.token}
+            self.writer.write({"id": f"progress {request}", "method": "window/workDoneProgress/create", "params": params})
+        return Progress(self.writer, work.token, title)
+
+    def cancel_progress(self, params: Any) -> None:
+        with self._lock:
+            for work in self._running.values():
+                if work.token is not None and work.token == params["token"]:
+                    work.cancel()
+
+    def _prove(self, source: bytes, work: Work, progress: Progress, number: int, edition: int, text: str) -> Any:
+        if self.program is None:
+            raise ChipbenchError("no program chipbench was found")
+        with progress:
+            result = properties.prove(self.program, source, self.options, number, work, progress.report)
+        uri = work.uri or ""
+        self._queue.put(lambda: self._answered(uri, text, edition, result["text"]))
+        if not self.shows_runs:
+            self.say(INFO, f"{text}: {result['text']}")
+        return result
 
     def _answered(self, uri: str, text: str, edition: int, answer: str) -> None:
         """Keeps an answer, and has the client ask for the lenses again."""
@@ -444,21 +492,12 @@ class Server:
         if self._refreshes:
             self.writer.write({"id": f"lenses of edition {edition}", "method": "workspace/codeLens/refresh"})
 
-    def _run_to(self, request: Any, source: bytes, cancelled: threading.Event, address: int) -> None:
-        try:
-            with self.open_bench(source) as bench:
-                result = runs.run_to(bench, address, cancelled)
-        except Failed as failed:
-            self.writer.fail(request, failed.code, failed.text)
-        except Exception as error:
-            self.writer.fail(request, REQUEST_FAILED, str(error))
-        else:
-            if not self.shows_runs:
-                self.say(INFO, result["text"])
-            self.writer.answer(request, result)
-        finally:
-            with self._lock:
-                self._running.pop(request, None)
+    def _run_to(self, source: bytes, work: Work, address: int) -> Any:
+        with self.open_bench(source) as bench:
+            result = runs.run_to(bench, address, work)
+        if not self.shows_runs:
+            self.say(INFO, result["text"])
+        return result
 
 
 LATER = object()
@@ -501,14 +540,20 @@ REQUESTS: dict[str, Handler] = {
     "textDocument/prepareRename": placed(names.prepare_rename),
     "textDocument/documentSymbol": whole(names.symbols),
     "textDocument/foldingRange": whole(layout.folds),
-    "textDocument/codeLens": lambda server, document, params: [
-        *runs.lenses(document), *properties.lenses(document, server.answers[document.uri])
-    ],
+    "textDocument/codeLens": lambda server, document, params: Encoded(
+        [*runs.lenses(document), *properties.lenses(document, server.answers[document.uri])]
+    ),
     "textDocument/codeAction": lambda server, document, params: [
-        *fixes.fixes(document, params["range"]["start"]["line"]),
+        *fixes.fixes(document, server.places[document.uri], params["range"]["start"]["line"]),
         *runs.actions(document, params["range"]["start"]["line"]),
     ],
     "textDocument/inlayHint": lambda server, document, params: layout.hints(document, *lines_of(params)),
+    "textDocument/signatureHelp": placed(signatures.signature_help),
+    "textDocument/prepareCallHierarchy": placed(calls.prepare),
+    "callHierarchy/incomingCalls": lambda server, document, params: calls.incoming(document, str(params["item"]["name"])),
+    "callHierarchy/outgoingCalls": lambda server, document, params: calls.outgoing(document, str(params["item"]["name"])),
+    "textDocument/semanticTokens/full": lambda server, document, params: tokens.tokens(document, 0, document.line_count),
+    "textDocument/semanticTokens/range": lambda server, document, params: tokens.tokens(document, *lines_of(params)),
     "textDocument/formatting": lambda server, document, params: layout.format_lines(
         document, 0, document.line_count, server.open_bench
     ),
@@ -531,6 +576,8 @@ NOTIFICATIONS: dict[str, Callable[[Server, Any], None]] = {
     "textDocument/didSave": Server.did_save,
     "textDocument/didClose": Server.did_close,
     "workspace/didChangeConfiguration": Server.did_change_settings,
+    "window/workDoneProgress/cancel": Server.cancel_progress,
+    "initialized": Server.initialized,
 }
 
 

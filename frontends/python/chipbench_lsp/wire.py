@@ -13,11 +13,29 @@ INVALID_PARAMS = -32602
 INTERNAL_ERROR = -32603
 NOT_INITIALIZED = -32002
 REQUEST_CANCELLED = -32800
+CONTENT_MODIFIED = -32801
 REQUEST_FAILED = -32803
 
 HEADER = b"content-length:"
 LONGEST_HEADER = 10_000
 LONGEST_MESSAGE = 1 << 28
+
+
+class Encoded(list[str]):
+    """A list whose items are JSON already, so that what stays the same from one answer to the next is encoded once."""
+
+
+def encoded(value: Any) -> str:
+    """A value as JSON. A lone surrogate can't be written but as an escape, so that the text is ASCII.
+
+    >>> encoded({"found": Encoded(['{"line":1}', '{"line":2}'])})
+    '{"found":[{"line":1},{"line":2}]}'
+    """
+    if isinstance(value, Encoded):
+        return f"[{','.join(value)}]"
+    if isinstance(value, dict):
+        return "{" + ",".join(f"{json.dumps(name)}:{encoded(part)}" for name, part in value.items()) + "}"
+    return json.dumps(value, separators=(",", ":"))
 
 
 class Failed(Exception):
@@ -76,8 +94,7 @@ class Writer:
         self._lock = threading.Lock()
 
     def write(self, message: dict[str, Any]) -> None:
-        # a lone surrogate can't be written but as an escape, so that the text is ASCII
-        body = json.dumps({"jsonrpc": "2.0", **message}, separators=(",", ":")).encode("ascii")
+        body = encoded({"jsonrpc": "2.0", **message}).encode("ascii")
         with self._lock:
             self._stream.write(b"Content-Length: %d\r\n\r\n" % len(body) + body)
             self._stream.flush()

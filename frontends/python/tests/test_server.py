@@ -212,7 +212,7 @@ class Features(Served):
 
     def test_completion_of_operands(self) -> None:
         client = self.opened(GAME + "        JP \n        LD V\n        ALIGN \n        OPTION C\n; a comm\n        DB 'a\n        DB #a\n")
-        self.assertEqual(self.labels(client, 7, 11), ["STEP", "START", "LOOP", "V0"])
+        self.assertEqual(self.labels(client, 7, 11), ["START", "LOOP", "STEP", "V0"])
         self.assertEqual(self.labels(client, 8, 12), [f"V{digit:X}" for digit in range(16)])
         self.assertEqual(self.labels(client, 9, 14), ["ON", "OFF"])
         self.assertEqual(self.labels(client, 10, 16), ["CHIP8", "CHIP48"])
@@ -425,7 +425,7 @@ class WarningsMove(unittest.TestCase):
         places = diagnostics.Places()
         places.learn(["a", "b", "c"], [Fault(number, "W2") for number in (1, 2, 3)])
         for lines, wanted in rows:
-            self.assertEqual([number for number, _ in places.warnings(lines)], wanted, lines)
+            self.assertEqual([number for number, _, _ in places.warnings(lines, "utf-16")], wanted, lines)
 
 
 class Protocol(Served):

@@ -10,7 +10,7 @@ from typing import Any
 
 sys.path.insert(0, str(Path(__file__).resolve().parent))
 
-from client import URI  # noqa: E402
+from client import SECONDS, URI, span  # noqa: E402
 from programs import NeedsWords  # noqa: E402
 from test_server import Served, applied  # noqa: E402
 
@@ -25,6 +25,16 @@ LOOP:   ADD V0, STEP
 ;! ever at (HALT)
 HALT:   JP HALT
 BALL:   DB 1, 2
+"""
+# three counters that a player moves as he likes: a search of all their values is long
+LONG = """;! always V0 <= 254 or V1 <= 254 or V2 <= 254
+LOOP: LD V3, K
+ADD V0, V3
+SKP V3
+ADD V1, 1
+SE V0, 7
+ADD V2, 3
+JP LOOP
 """
 
 
@@ -73,6 +83,39 @@ class Properties(Served, NeedsWords):
         for line, column, said in ((1, 17, "**STEP** = 3"), (4, 28, "**LOOP** = 514"), (1, 4, "holds before each step"),
                                    (1, 11, "register V0"), (1, 24, "17 = #11"), (7, 4, "some player comes")):
             self.assertIn(said, client.at("hover", line, column)["contents"]["value"])
+
+    def test_a_proof_says_how_far_it_is_and_ends_with_an_edit(self) -> None:
+        client = self.opened(LONG, capabilities={"window": {"workDoneProgress": True}})
+        for ending in ("edit", "cancel", "request"):
+            request = client.begin("workspace/executeCommand", {"command": "chipbench.prove", "arguments": [URI, 0]})
+            token = self.told(client, "window/workDoneProgress/create")["token"]
+            self.assertEqual(self.told(client, "$/progress")["value"]["kind"], "begin")
+            # the search says something each 250,000 states
+            self.assertRegex(self.told(client, "$/progress")["value"]["message"], "^step [0-9]+, [0-9]+ states")
+            if ending == "edit":
+                client.change({"range": span((1, 0), (1, 0)), "text": " "})
+            elif ending == "cancel":
+                client.tell("window/workDoneProgress/cancel", {"token": token})
+            else:
+                client.tell("$/cancelRequest", {"id": request})
+            self.assertEqual(client.next_answer()["error"]["code"], -32801 if ending == "edit" else -32800)
+            while (value := self.told(client, "$/progress")["value"])["kind"] != "end":
+                self.assertEqual(value["kind"], "report")
+
+    def test_the_token_of_a_client(self) -> None:
+        client = self.opened(GAME)
+        command = {"command": "chipbench.prove", "arguments": [URI, 1], "workDoneToken": 7}
+        self.assertEqual(client.ask("workspace/executeCommand", command)["text"], "never broken")
+        values = [self.told(client, "$/progress") for _ in range(2)]
+        self.assertEqual([(one["token"], one["value"]["kind"]) for one in values], [(7, "begin"), (7, "end")])
+        self.assertEqual(values[0]["value"]["title"], "prove always V0 <= STEP + 17")
+
+    def told(self, client: Any, method: str) -> Any:
+        """The parameters of the next message of a method."""
+        while True:
+            message = client.told.get(timeout=SECONDS)
+            if message["method"] == method:
+                return message["params"]
 
 
 if __name__ == "__main__":
