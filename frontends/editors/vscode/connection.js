@@ -4,6 +4,7 @@
 const { spawn } = require('child_process');
 
 const REQUEST_CANCELLED = -32800;
+const CONTENT_MODIFIED = -32801;
 
 /** The bytes that came and aren't a whole message yet. */
 class Messages {
@@ -92,7 +93,7 @@ class Connection {
     this.#send({ method, params });
   }
 
-  /** Asks, and answers with the result; with null where the editor has cancelled it by its token. */
+  /** Asks, and answers with the result; with null where the editor has cancelled it by its token, or an edit has ended it. */
   ask(method, params, token) {
     if (this.#isOver) return Promise.reject(new Error('the language server has ended'));
     this.#last += 1;
@@ -103,7 +104,7 @@ class Connection {
       this.#send({ id, method, params });
     })
       .catch((error) => {
-        if (error.code === REQUEST_CANCELLED) return null;
+        if (error.code === REQUEST_CANCELLED || error.code === CONTENT_MODIFIED) return null;
         throw error;
       })
       .finally(() => cancel?.dispose());

@@ -32,6 +32,7 @@ function completion(item) {
   made.detail = item.detail;
   made.documentation = item.documentation && markdown(item.documentation);
   made.filterText = item.filterText;
+  made.sortText = item.sortText;
   made.insertText = item.insertTextFormat === 2 ? new vscode.SnippetString(item.textEdit.newText) : item.textEdit.newText;
   made.range = range(item.textEdit.range);
   return made;
@@ -39,6 +40,40 @@ function completion(item) {
 
 function symbol(found) {
   return new vscode.DocumentSymbol(found.name, found.detail, found.kind - 1, range(found.range), range(found.selectionRange));
+}
+
+function symbolInformation(found) {
+  return new vscode.SymbolInformation(found.name, found.kind - 1, '', place(found.location));
+}
+
+function signatureHelp(found) {
+  if (!found) return found;
+  const made = new vscode.SignatureHelp();
+  made.signatures = found.signatures.map((one) => {
+    const form = new vscode.SignatureInformation(one.label, markdown(one.documentation));
+    form.parameters = one.parameters.map((parameter) => new vscode.ParameterInformation(parameter.label));
+    return form;
+  });
+  made.activeSignature = found.activeSignature;
+  made.activeParameter = found.activeParameter;
+  return made;
+}
+
+function semanticTokens(found) {
+  return found && new vscode.SemanticTokens(new Uint32Array(found.data));
+}
+
+function callItem(found) {
+  const uri = vscode.Uri.parse(found.uri);
+  return new vscode.CallHierarchyItem(found.kind - 1, found.name, found.detail, uri, range(found.range), range(found.selectionRange));
+}
+
+function incomingCall(found) {
+  return new vscode.CallHierarchyIncomingCall(callItem(found.from), found.fromRanges.map(range));
+}
+
+function outgoingCall(found) {
+  return new vscode.CallHierarchyOutgoingCall(callItem(found.to), found.fromRanges.map(range));
 }
 
 function hint(found) {
@@ -77,6 +112,7 @@ function workspaceEdit(found) {
 
 module.exports = {
   action,
+  callItem,
   completion,
   diagnostic,
   edit,
@@ -84,11 +120,16 @@ module.exports = {
   highlight,
   hint,
   hover,
+  incomingCall,
   lens,
   list,
+  outgoingCall,
   place,
   range,
+  semanticTokens,
+  signatureHelp,
   symbol,
+  symbolInformation,
   toPosition,
   toRange,
   workspaceEdit,

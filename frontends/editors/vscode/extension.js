@@ -26,10 +26,12 @@ class Server {
   #output;
   #diagnostics;
   #folder;
+  #onReady;
 
-  /** `folder` is that of the extension. */
-  constructor(output, diagnostics, folder) {
+  /** `folder` is that of the extension; `onReady(capabilities)` is called once, when a server can be asked. */
+  constructor(output, diagnostics, folder, onReady) {
     this.#folder = folder;
+    this.#onReady = onReady;
     this.#output = output;
     this.#diagnostics = diagnostics;
   }
@@ -51,10 +53,12 @@ class Server {
     const options = { ...this.#options(settings), program: settings.get('program') || undefined, showsRuns: true };
     const snippets = { textDocument: { completion: { completionItem: { snippetSupport: true } } } };
     const params = { processId: process.pid, rootUri: null, capabilities: snippets, initializationOptions: options };
-    this.#ready = connection.ask('initialize', params).then(() => {
+    this.#ready = connection.ask('initialize', params).then(({ capabilities }) => {
       connection.tell('initialized', {});
       this.#isReady = true;
       for (const document of vscode.workspace.textDocuments) this.#open(connection, document);
+      this.#onReady?.(capabilities);
+      this.#onReady = undefined;
     });
     this.#ready.catch(() => {});
   }
@@ -199,6 +203,38 @@ function rangeProviders(ask) {
   };
 }
 
+/** Registers what needs more than a selector and a provider. `capabilities` are those of the server. */
+function registerOthers(server, selector, { semanticTokensProvider, signatureHelpProvider }) {
+  const { languages } = vscode;
+  const tokens = {
+    provideDocumentSemanticTokens: async (document, token) =>
+      convert.semanticTokens(await server.ask('textDocument/semanticTokens/full', documentOf(document), token)),
+  };
+  const signatures = {
+    provideSignatureHelp: async (document, position, token) =>
+      convert.signatureHelp(await server.ask('textDocument/signatureHelp', placeOf(document, position), token)),
+  };
+  const symbols = {
+    provideWorkspaceSymbols: async (query, token) =>
+      convert.list(await server.ask('workspace/symbol', { query }, token), convert.symbolInformation),
+  };
+  const asked = ({ name, uri }) => ({ item: { name, uri: uri.toString() } });
+  const calls = {
+    prepareCallHierarchy: async (document, position, token) =>
+      convert.list(await server.ask('textDocument/prepareCallHierarchy', placeOf(document, position), token), convert.callItem),
+    provideCallHierarchyIncomingCalls: async (item, token) =>
+      convert.list(await server.ask('callHierarchy/incomingCalls', asked(item), token), convert.incomingCall),
+    provideCallHierarchyOutgoingCalls: async (item, token) =>
+      convert.list(await server.ask('callHierarchy/outgoingCalls', asked(item), token), convert.outgoingCall),
+  };
+  return [
+    languages.registerDocumentSemanticTokensProvider(selector, tokens, semanticTokensProvider.legend),
+    languages.registerSignatureHelpProvider(selector, signatures, ...signatureHelpProvider.triggerCharacters),
+    languages.registerWorkspaceSymbolProvider(symbols),
+    languages.registerCallHierarchyProvider(selector, calls),
+  ];
+}
+
 function providers(server, onDidChangeCodeLenses) {
   const ask = (method, params, token) => server.ask(`textDocument/${method}`, params, token);
   return { ...placeProviders(ask), ...documentProviders(ask, onDidChangeCodeLenses), ...rangeProviders(ask) };
@@ -241,8 +277,10 @@ function activate(context) {
   const pages = [];
   const output = vscode.window.createOutputChannel('chipbench');
   const diagnostics = vscode.languages.createDiagnosticCollection('chipbench');
-  const server = new Server(output, diagnostics, folder);
   const selector = { language: LANGUAGE };
+  const server = new Server(output, diagnostics, folder, (capabilities) => {
+    context.subscriptions.push(...registerOthers(server, selector, { ...capabilities }));
+  });
   const answered = new vscode.EventEmitter();
   const shown = (work) => async (...args) => {
     try {

@@ -77,6 +77,9 @@ class Client:
     def next_answer(self) -> dict[str, Any]:
         return self._answers.get(timeout=SECONDS)
 
+    def next_answer_before(self, seconds: float) -> dict[str, Any]:
+        return self._answers.get(timeout=max(seconds, 0.0))
+
     def answer(self, method: str, params: Any) -> dict[str, Any]:
         """The whole answer to a request."""
         request = self.begin(method, params)

@@ -60,6 +60,9 @@ class Debugger:
     def next_answer(self) -> Message:
         return self._answers.get(timeout=SECONDS)
 
+    def next_answer_before(self, seconds: float) -> Message:
+        return self._answers.get(timeout=max(seconds, 0.0))
+
     def answer(self, command: Any, arguments: Any = None) -> Message:
         request = self.begin(command, arguments)
         answer = self.next_answer()

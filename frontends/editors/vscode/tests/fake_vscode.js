@@ -113,7 +113,7 @@ function makeEditor(settings) {
     return { dispose() {} };
   };
   const kinds = `Hover Definition DocumentHighlight CompletionItem Reference Rename DocumentSymbol FoldingRange CodeLens CodeActions
-    InlayHints DocumentFormattingEdit DocumentRangeFormattingEdit`.split(/\s+/);
+    InlayHints DocumentFormattingEdit DocumentRangeFormattingEdit DocumentSemanticTokens SignatureHelp CallHierarchy`.split(/\s+/);
   const languages = {
     createDiagnosticCollection: () => ({
       set: (uri, found) => {
@@ -125,6 +125,7 @@ function makeEditor(settings) {
     }),
   };
   for (const kind of kinds) languages[`register${kind}Provider`] = register(kind);
+  languages.registerWorkspaceSymbolProvider = (provider) => register('WorkspaceSymbol')(null, provider);
 
   editor.vscode = {
     Position,
@@ -141,6 +142,14 @@ function makeEditor(settings) {
     CompletionItem: record('label', 'kind'),
     DocumentSymbol: record('name', 'detail', 'kind', 'range', 'selectionRange'),
     InlayHint: record('position', 'label'),
+    SemanticTokens: record('data'),
+    SignatureHelp: record(),
+    SignatureInformation: record('label', 'documentation'),
+    ParameterInformation: record('label'),
+    SymbolInformation: record('name', 'kind', 'containerName', 'location'),
+    CallHierarchyItem: record('kind', 'name', 'detail', 'uri', 'range', 'selectionRange'),
+    CallHierarchyIncomingCall: record('from', 'fromRanges'),
+    CallHierarchyOutgoingCall: record('to', 'fromRanges'),
     FoldingRange: record('start', 'end', 'kind'),
     FoldingRangeKind: { Comment: 1, Region: 3 },
     CodeLens: record('range', 'command'),

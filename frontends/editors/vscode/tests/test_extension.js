@@ -87,6 +87,21 @@ test('what the providers answer', options, async () => {
   assert.strictEqual(action.command.command, 'chipbench.runTo');
 });
 
+test('colours, signatures, calls, and the names of all documents', options, async () => {
+  const { editor, document } = await opened('A: CALL HIT\nRET\nHIT: LD V0, 5\nRET\n');
+  const { providers } = editor;
+  const tokens = await providers.DocumentSemanticTokens.provideDocumentSemanticTokens(document);
+  assert.deepStrictEqual([...tokens.data.slice(0, 5)], [0, 0, 1, 6, 1]);
+  const help = await providers.SignatureHelp.provideSignatureHelp(document, new Position(2, 12));
+  assert.deepStrictEqual([help.signatures[0].label, help.activeParameter], ['LD Vx, kk', 1]);
+  const [symbol] = await providers.WorkspaceSymbol.provideWorkspaceSymbols('hi');
+  assert.deepStrictEqual([symbol.name, symbol.location.range.start.line], ['HIT', 2]);
+  const [item] = await providers.CallHierarchy.prepareCallHierarchy(document, new Position(0, 8));
+  const [call] = await providers.CallHierarchy.provideCallHierarchyIncomingCalls(item);
+  assert.deepStrictEqual([call.from.name, call.fromRanges[0].start.line], ['the program', 0]);
+  assert.deepStrictEqual(await providers.CallHierarchy.provideCallHierarchyOutgoingCalls(item), []);
+});
+
 test('completion with fields', options, async () => {
   const { editor, document } = await opened('DR\n');
   const [item] = await editor.providers.CompletionItem.provideCompletionItems(document, new Position(0, 2));
