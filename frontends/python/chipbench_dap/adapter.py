@@ -82,6 +82,7 @@ class Adapter:
         self._lock = threading.Lock()
         self._cancelled: set[int] = set()
         self._is_ending = threading.Event()
+        self._was_asked_to_end = False
         self.client = Client()
         self.is_initialized = False
         self._is_ended = False
@@ -110,7 +111,7 @@ class Adapter:
         finally:
             if self._run is not None:
                 self._run.close()
-        return 0 if self._is_ending.is_set() else 1
+        return 0 if self._was_asked_to_end else 1
 
     def _read(self) -> None:
         while True:
@@ -133,7 +134,7 @@ class Adapter:
         if command == "cancel":
             found = message.get("arguments")
             request = found.get("requestId") if isinstance(found, dict) else None
-            if is_a(request, int):
+            if isinstance(request, int) and is_a(request, int):
                 with self._lock:
                     self._cancelled.add(request)
         elif command in ("disconnect", "terminate"):
@@ -327,7 +328,7 @@ class Adapter:
         except StopIteration as stop:
             self._end_move()
             self._arrive(move, stop.value)
-        except (ChipbenchError, Mistake) as error:
+        except Exception as error:
             self._end_move()
             self.output(f"{self._sentence(error)}\n", "stderr")
             self.stopped("pause", "the search has failed")
@@ -422,14 +423,20 @@ class Adapter:
             body["hitBreakpointIds"] = numbers
         self.writer.event("stopped", body)
 
+    def ended(self) -> None:
+        """Ends the session as the client has asked."""
+        self._was_asked_to_end = True
+        # what is asked after this is answered
+        self._is_ending.clear()
+        self.terminated()
+
     def terminated(self) -> None:
         self._end_move()
         self.writer.event("terminated")
 
     def disconnect(self) -> None:
         self._end_move()
-        self._is_ended = True
-        self._is_ending.set()
+        self._is_ended = self._was_asked_to_end = True
 
     # -- edits
 
@@ -439,8 +446,8 @@ class Adapter:
         old = list(run.game.bench.lines)
         try:
             told = run.take_edit()
-        except (ChipbenchError, FileError, Mistake) as error:
-            self.output(f"{error}\n", "stderr")
+        except Exception as error:
+            self.output(f"the file isn't taken: {error}\n", "stderr")
             return
         if told is None:
             return

@@ -60,9 +60,9 @@ class Breakpoints:
     def wanted(self) -> list[Wanted]:
         return [point.wanted for point in self if point.wanted is not None]
 
-    def set(self, kind: str, given: list[Arguments], place: Callable[[Arguments], int | str]) -> list[Breakpoint]:
+    def replace(self, kind: str, given: list[Arguments], place: Callable[[Arguments], int | str]) -> list[Breakpoint]:
         """Puts these breakpoints in the place of all of a kind. Those that were there keep their numbers."""
-        made = []
+        made: list[Breakpoint] = []
         for one in given:
             point = Breakpoint(
                 0, kind, place(one), optional(one, "condition", str) or "", optional(one, "hitCondition", str) or "",

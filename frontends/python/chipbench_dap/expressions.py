@@ -21,6 +21,8 @@ LAST_ADDRESS = 4095
 MOST_SHIFT = 31
 #: How deep parentheses may be, as in a property.
 MOST_DEPTH = 16
+#: The most characters of a text that is read.
+LONGEST = 500
 REGISTERS = (*(f"V{digit:X}" for digit in range(16)), "I", "PC", "DT", "ST")
 ITEMS = (*REGISTERS, "DEPTH", "HIGH", "KEYS", "DRAWS", "STEP")
 TOKEN = re.compile(
@@ -131,6 +133,8 @@ class Reader:
     """Reads one text, by the names of a source."""
 
     def __init__(self, text: str, symbols: Mapping[str, Symbol]) -> None:
+        if len(text) > LONGEST:
+            raise Mistake(f"'{text.strip()[:40]}..' is longer than {LONGEST} characters")
         self._text = text
         self._symbols = symbols
         self._tokens = self._scan(text)

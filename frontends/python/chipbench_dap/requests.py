@@ -15,7 +15,7 @@ from .breakpoints import Breakpoint, instruction_place, reference
 from .expressions import Reader, known_words, read_subject
 from .run import MEMORY_BYTES, Run
 from .search import StateView
-from .variables import FIRST_NAME, bytes_of_name, number_text
+from .variables import FIRST_NAME, SCREEN, bytes_of_name, number_text
 from .wire import Arguments, Refusal, objects, optional, required
 from .words import FORMS, Words
 
@@ -88,7 +88,7 @@ def restart(adapter: Adapter, arguments: Any) -> None:
 
 
 def terminate(adapter: Adapter, arguments: Any) -> None:
-    adapter.later(adapter.terminated)
+    adapter.later(adapter.ended)
 
 
 def disconnect(adapter: Adapter, arguments: Any) -> None:
@@ -115,6 +115,14 @@ def breakpoints(adapter: Adapter, points: list[Breakpoint]) -> Arguments:
     return {"breakpoints": [adapter.breakpoint(point) for point in points]}
 
 
+def function_name(one: Arguments) -> str:
+    return str(required(one, "name", str))
+
+
+def data_id(one: Arguments) -> str:
+    return str(required(one, "dataId", str))
+
+
 def set_breakpoints(adapter: Adapter, arguments: Any) -> Arguments:
     source = required(arguments, "source", dict)
     given = objects(arguments, "breakpoints")
@@ -124,17 +132,17 @@ def set_breakpoints(adapter: Adapter, arguments: Any) -> Arguments:
     if not is_ours(adapter, source):
         message = "this is not the source that is debugged"
         return {"breakpoints": [{"verified": False, "message": message} for _ in lines]}
-    return breakpoints(adapter, adapter.all_points().set("line", given, lambda one: adapter.line_in(one["line"])))
+    return breakpoints(adapter, adapter.all_points().replace("line", given, lambda one: adapter.line_in(one["line"])))
 
 
 def set_function_breakpoints(adapter: Adapter, arguments: Any) -> Arguments:
     given = objects(arguments, "breakpoints", is_needed=True)
-    return breakpoints(adapter, adapter.all_points().set("function", given, lambda one: required(one, "name", str)))
+    return breakpoints(adapter, adapter.all_points().replace("function", given, function_name))
 
 
 def set_instruction_breakpoints(adapter: Adapter, arguments: Any) -> Arguments:
     given = objects(arguments, "breakpoints", is_needed=True)
-    return breakpoints(adapter, adapter.all_points().set("instruction", given, instruction_place))
+    return breakpoints(adapter, adapter.all_points().replace("instruction", given, instruction_place))
 
 
 def set_data_breakpoints(adapter: Adapter, arguments: Any) -> Arguments:
@@ -142,7 +150,7 @@ def set_data_breakpoints(adapter: Adapter, arguments: Any) -> Arguments:
     for one in given:
         if optional(one, "accessType", str) not in (None, "write"):
             raise Refusal("a data breakpoint stops at changes: its accessType is write")
-    return breakpoints(adapter, adapter.all_points().set("data", given, lambda one: required(one, "dataId", str)))
+    return breakpoints(adapter, adapter.all_points().replace("data", given, data_id))
 
 
 def set_exception_breakpoints(adapter: Adapter, arguments: Any) -> Arguments:
@@ -162,6 +170,8 @@ def data_breakpoint_info(adapter: Adapter, arguments: Any) -> Arguments:
     symbols = adapter.run.layout().symbols
     if container >= FIRST_NAME and container - FIRST_NAME < len(symbols) and re.fullmatch(r"\[[0-9]+\]", name):
         name = f"[{list(symbols)[container - FIRST_NAME]} + {name[1:-1]}]"
+    if container == SCREEN:
+        return {"dataId": None, "description": "a row of the screen: PIXEL(column, row) names one pixel"}
     try:
         subject = read_subject(name, symbols)
     except Mistake as mistake:
@@ -240,9 +250,10 @@ def evaluate(adapter: Adapter, arguments: Any) -> Arguments:
     if context == "repl":
         answered = Words(adapter.run, adapter.drain).answer(text)
         if answered is not None:
-            if answered[1]:
-                adapter.later(lambda: adapter.stopped("goto", answered[0]))
-            return {"result": answered[0], "variablesReference": 0}
+            result, is_elsewhere = answered
+            if is_elsewhere:
+                adapter.later(lambda: adapter.stopped("goto", result))
+            return {"result": result, "variablesReference": 0}
     try:
         return evaluated(adapter.run, text.strip(), is_hexadecimal(arguments))
     except Mistake as mistake:

@@ -8,7 +8,7 @@ from dataclasses import dataclass
 from pathlib import Path
 
 import chipbench
-from chipbench import ListingLine, Refused, State, Symbol, split_lines
+from chipbench import ListingLine, Refused, State, Symbol
 from chipbench_files import read_file, shown
 from chipbench_shell import views
 from chipbench_shell.base import Commands, Snapshot
@@ -192,12 +192,12 @@ class Run(Commands):
         faults = self.faults_of(content) if len(content) <= LONGEST_SOURCE else []
         if faults:
             return f"{faults[0]}\n{name} has faults: the run keeps the lines from before this edit\n"
-        return self.changed(lambda: self._take(content), name)
+        written = content
 
-    def _take(self, content: bytes) -> str:
-        old = split_lines(content)
-        count = self.game.take(content)
-        return f"changed: {counted(count, 'line')}" if old else "is empty now"
+        def take() -> str:
+            return f"changed: {counted(self.game.take(written), 'line')}"
+
+        return self.changed(take, name)
 
     def changed(self, edit: Callable[[], str], subject: str) -> str:
         """Makes an edit, and says what differs at the step where one is."""

@@ -16,6 +16,8 @@ from .search import StateView
 SHOWN_BYTES = 8
 #: The references of the bytes of a name begin here.
 FIRST_NAME = 100
+#: The reference of the screen.
+SCREEN = 5
 READ_ONLY = {"attributes": ["readOnly"]}
 
 Variable = dict[str, Any]
@@ -60,7 +62,7 @@ class Variables:
 
     def scopes(self) -> list[dict[str, Any]]:
         return [
-            {"name": name, "presentationHint": hint, "variablesReference": number, "expensive": name == "Screen"}
+            {"name": name, "presentationHint": hint, "variablesReference": number, "expensive": number == SCREEN}
             for number, (name, hint, _) in enumerate(self._scopes, 1)
         ]
 

@@ -23,7 +23,9 @@ class Refusal(Exception):
 
 
 def is_a(value: Any, kind: type) -> bool:
-    return isinstance(value, kind) and (kind is not int or (not isinstance(value, bool) and abs(value) <= MOST))
+    if kind is int:
+        return isinstance(value, int) and not isinstance(value, bool) and abs(value) <= MOST
+    return isinstance(value, kind)
 
 
 def optional(arguments: Any, name: str, kind: type) -> Any:

@@ -18,7 +18,7 @@ from typing import Any
 
 TYPES = Path(__file__).resolve().parent / "protocol.json"
 TOKEN = re.compile(r"'[^']*'|[A-Za-z_]\w*|\[\]|[{}\[\]()|;:?=]")
-PLAIN = {"string": str, "number": (int, float), "boolean": bool}
+PLAIN: dict[str, Any] = {"string": str, "number": (int, float), "boolean": bool}
 
 
 # -- the types as TypeScript has them
@@ -29,7 +29,7 @@ class Reader:
 
     def __init__(self, text: str) -> None:
         plain = re.sub(r"//.*", "", re.sub(r"/\*.*?\*/", "", text, flags=re.S))
-        self._tokens = TOKEN.findall(plain[plain.index("{") :])
+        self._tokens: list[str] = TOKEN.findall(plain[plain.index("{") :])
         self._place = 1
 
     def _next(self) -> str:

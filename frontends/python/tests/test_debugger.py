@@ -249,6 +249,7 @@ class Breakpoints(Debugged):
         info = debugger.ask("dataBreakpointInfo", {"name": "[1]", "variablesReference": score["variablesReference"]})
         self.assertEqual((info["dataId"], info["accessTypes"]), ("[SCORE + 1]", ["write"]))
         self.assertIsNone(debugger.ask("dataBreakpointInfo", {"name": "machine"})["dataId"])
+        self.assertIsNone(debugger.ask("dataBreakpointInfo", {"name": "05", "variablesReference": 5})["dataId"])
 
     def test_log_points_say_what_they_have_to(self) -> None:
         debugger = self.launched()
@@ -426,7 +427,8 @@ class Shown(Debugged):
         debugger = self.launched()
         for text, said in (
             ("V3 +", "expected a number"), ("NONE", "no name NONE"), ("[5000]", "no value"), ("V3 = ", "expected"),
-            ("(" * 200, "parentheses"), ("V3 ? 1", "can't stand there"), (" ", "no expression"), ("(1 / 0)", "no value"),
+            ("(" * 200, "parentheses"), ("1+" * 5000 + "1", "longer than"), ("V3 ? 1", "can't stand there"),
+            (" ", "no expression"), ("(1 / 0)", "no value"),
         ):
             self.assertIn(said, debugger.refused("evaluate", {"expression": text}), text)
 
@@ -539,7 +541,8 @@ class Sessions(Debugged):
         debugger.ask("initialize", {"adapterID": "chipbench"})
         for arguments, said in (
             ({}, "give one of"), ({"source": path, "image": path}, "give one of"), ({"source": 5}, "source has to be a text"),
-            ({"source": path, "rate": "ten"}, "rate has to be a number"), ({"source": path, "rate": True}, "rate has to be a number"),
+            ({"source": path, "rate": "ten"}, "rate has to be a number"),
+            ({"source": path, "rate": True}, "rate has to be a number"),
             ({"source": path, "seed": -1}, "seed has to be"), ({"source": path, "tape": "xyz"}, "tape has to be"),
             ({"source": path, "seed": 1, "tape": "00"}, "not both"), ({"source": "/none/x.asm"}, "there is no file"),
             ({"source": str(self.folder)}, "is not a file"), ({"source": faulty}, "faulty.asm:2:1: F3: unknown word"),
@@ -582,6 +585,8 @@ class Sessions(Debugged):
         self.assertIn("use launch", debugger.refused("attach", {}))
         debugger.ask("terminate")
         debugger.event("terminated")
+        debugger.ask("launch", {"source": str(self.file("score.asm", SCORE))})
+        self.assertIn("step 26", debugger.value("find STEP = 26", "repl"))
         self.assertEqual(debugger.close(), 0)
 
     def test_the_end_of_the_input_ends_it(self) -> None:
@@ -594,12 +599,14 @@ class Sessions(Debugged):
         """The arguments of each request that has some."""
         source, thread = {"path": debugger.path()}, {"threadId": 1}
         return {
-            "setBreakpoints": {"source": source, "lines": [9], "breakpoints": [{"line": 9, "column": 1}], "sourceModified": False},
+            "setBreakpoints": {"source": source, "lines": [9], "breakpoints": [{"line": 9, "column": 1}],
+                               "sourceModified": False},
             "setFunctionBreakpoints": {"breakpoints": [{"name": "HIT"}]}, "setExceptionBreakpoints": {"filters": ["stops"]},
             "dataBreakpointInfo": {"name": "V3", "variablesReference": 1},
             "setDataBreakpoints": {"breakpoints": [{"dataId": "V3", "accessType": "write"}]},
             "setInstructionBreakpoints": {"breakpoints": [{"instructionReference": "0x0200"}]},
-            "breakpointLocations": {"source": source, "line": 1, "endLine": 20}, "continue": {"threadId": 1, "singleThread": False},
+            "breakpointLocations": {"source": source, "line": 1, "endLine": 20},
+            "continue": {"threadId": 1, "singleThread": False},
             "next": {"threadId": 1, "granularity": "line"}, "stepIn": {"threadId": 1, "targetId": 0}, "stepOut": thread,
             "stepBack": {"threadId": 1, "granularity": "instruction"}, "reverseContinue": thread, "restartFrame": {"frameId": 1},
             "gotoTargets": {"source": source, "line": 9, "column": 1}, "goto": {"threadId": 1, "targetId": 0},
@@ -616,8 +623,8 @@ class Sessions(Debugged):
         debugger = self.launched()
         given = self.arguments(debugger)
         # what comes at another time, what a state doesn't have, and what isn't offered
-        refused = {"initialize", "launch", "attach", "configurationDone", "pause", "exceptionInfo", "setVariable", "setExpression",
-                   "writeMemory", "terminateThreads", "modules", "stepInTargets"}
+        refused = {"initialize", "launch", "attach", "configurationDone", "pause", "exceptionInfo", "setVariable",
+                   "setExpression", "writeMemory", "terminateThreads", "modules", "stepInTargets"}
         moves = {"continue", "next", "stepIn", "stepOut", "stepBack", "reverseContinue", "restartFrame", "goto", "restart"}
         for command in [*given, *sorted(refused), "disconnect"]:
             answer = debugger.answer(command, given.get(command, {"threadId": 1}))
@@ -668,7 +675,7 @@ class Malformed(Debugged):
         for content in (b"Content-Length: 3\r\n\r\n{]}", b"Content-Length: x\r\n\r\n", b"\r\n\r\nnonsense\r\n",
                         b"Content-Length: 2\r\n\r\n[]", b"Content-Length: 4\r\n\r\nnull", b"Content-Length: 2\r\n\r\n{}"):
             debugger.send_bytes(content)
-        plain = {"type": "request", "command": "threads"}
+        plain: dict[str, Any] = {"type": "request", "command": "threads"}
         for message in ({"seq": "x", **plain}, {"seq": 1 << 70, **plain}, plain, {"seq": 7, "type": "response"},
                         {"seq": 8, "type": "event", "event": []}):
             debugger.send(message)

@@ -46,7 +46,7 @@ class Typing(Served):
         """What is offered at the end of a line, in the order in which an editor shows it."""
         client.edit((14, 0), (14, 999), text)
         items = client.at("completion", 14, len(text))
-        return [item["label"] for item in sorted(items, key=lambda item: item.get("sortText", item["label"]))]
+        return [str(item["label"]) for item in sorted(items, key=lambda item: str(item.get("sortText", item["label"])))]
 
     def test_operands_are_offered_by_their_kind(self) -> None:
         client = self.opened(GAME)
@@ -158,7 +158,7 @@ class Effort(Served):
         self.addCleanup(opened.close)
         places = diagnostics.Places()
         places.learn(opened.lines, check(text, self.program))
-        makers = (diagnostics.placed_diagnostic, names.symbol, runs.lens, tokens.numbers, language.read_line)
+        makers: tuple[Any, ...] = (diagnostics.placed_diagnostic, names.symbol, runs.lens, tokens.numbers, language.read_line)
         made: list[list[int]] = []
         for change in ("", "x"):
             opened.change([{"range": span((2000, 3), (2000, 3)), "text": change}])
