@@ -108,7 +108,12 @@ class Server:
         threading.Thread(target=self._read, daemon=True).start()
         try:
             while self._state != "ended":
-                self._turn()
+                try:
+                    self._turn()
+                except BrokenPipeError:
+                    raise
+                except Exception as error:
+                    self.say(WARNING, f"an unexpected error: {error!r}")
         except BrokenPipeError:
             return 1
         finally:
@@ -301,7 +306,11 @@ class Server:
     def open_bench(self, source: bytes) -> Bench:
         if self.program is None:
             raise ChipbenchError("no program chipbench was found; name it by --program or by the setting chipbench.program")
-        return Bench(source, program=self.program, **self.options)
+        try:
+            return Bench(source, program=self.program, **self.options)
+        except ValueError as error:
+            # a setting that no argument can be, such as one with a lone surrogate
+            raise ChipbenchError(f"the settings can't be given to the program: {error}") from None
 
     # -- documents
 

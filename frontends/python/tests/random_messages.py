@@ -129,7 +129,7 @@ def talk_to_server(found: str, count: int, chance: Chance) -> str:
         client.tell("textDocument/didOpen", {"textDocument": {"uri": URI, "version": 1, "text": "CLS\n"}})
         return ending("the server", client.close(), client.process)
     except (queue.Empty, AssertionError, OSError) as error:
-        return f"the server: {error!r}, {len(waiting)} requests aren't answered, status {client.process.poll()}"
+        return stuck("the server", error, len(waiting), client.process)
     finally:
         client.kill()
 
@@ -139,6 +139,14 @@ def take_answers(take: Callable[[float], dict[str, Any]], waiting: set[Any], nam
     deadline = time.monotonic() + SECONDS
     while waiting:
         waiting.discard(take(deadline - time.monotonic()).get(name))
+
+
+def stuck(name: str, error: Exception, count: int, process: subprocess.Popen[bytes]) -> str:
+    """What is said of a program that doesn't answer any more."""
+    status = process.poll()
+    assert process.stderr is not None
+    errors = process.stderr.read().decode("utf-8", "replace")[-2000:] if status is not None else ""
+    return f"{name}: {error!r}, {count} requests aren't answered, status {status}: {errors}"
 
 
 def ending(name: str, status: int, process: subprocess.Popen[bytes]) -> str:
@@ -198,7 +206,7 @@ def talk_to_adapter(found: str, count: int, chance: Chance) -> str:
                         return f"the adapter: {faults[0]}"
             return ending("the adapter", debugger.close(), debugger.process)
         except (queue.Empty, AssertionError, OSError) as error:
-            return f"the adapter: {error!r}, {len(waiting)} requests aren't answered, status {debugger.process.poll()}"
+            return stuck("the adapter", error, len(waiting), debugger.process)
         finally:
             debugger.kill()
 

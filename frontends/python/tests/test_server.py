@@ -569,6 +569,13 @@ def kill_children(process: int) -> None:
 
 
 class Settings(Served):
+    def test_a_setting_that_no_argument_can_be(self) -> None:
+        for profile in ("\udfff", "a\0b"):
+            client = self.opened("CLS", options={"profile": profile})
+            self.assertIn("settings can't be given", self.first[0]["message"])
+            client.tell("workspace/didChangeConfiguration", {"settings": {"chipbench": {"profile": "vip"}}})
+            self.assertEqual(client.shown(), [])
+
     def test_settings_that_the_program_refuses(self) -> None:
         client = self.opened(options={"rate": 0, "every": [1], "tape": "xyz", "seed": None})
         self.assertIn("the faults are unknown", self.first[0]["message"])
