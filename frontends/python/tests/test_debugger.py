@@ -167,7 +167,8 @@ class Tasks(Debugged):
         debugger = self.launched()
         debugger.value("goto 93", "repl")
         path = self.file("score.asm", SCORE.replace("JP SCORE", "JP LOOP "))
-        self.assertIn("score.asm changed: 1 line; the state at step 93 differs in", debugger.output())
+        # docs/DEBUGGER.md has this line
+        self.assertEqual(debugger.output(), "score.asm changed: 1 line; the state at step 93 differs in PC, the stop\n")
         self.assertEqual(debugger.step(), 93)
         self.assertEqual(debugger.answer("exceptionInfo", {"threadId": 1})["success"], False)
         path.write_text(SCORE, encoding="utf-8")
