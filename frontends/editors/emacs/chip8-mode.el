@@ -5,7 +5,8 @@
 
 ;;; Commentary:
 
-;; A mode for sources of chipbench: colours, columns, the language server by eglot, and the debug adapter by dape.
+;; A mode for sources of chipbench: colours, columns, the language server by eglot, and the debug adapter by dape or
+;; dap-mode.
 ;;
 ;;     (add-to-list 'load-path "FOLDER/editors/emacs")
 ;;     (require 'chip8-mode)
@@ -96,7 +97,7 @@ A property list of :profile, :rate, :tape, :seed, :every, :program."
 ;; The debug adapter
 
 (defcustom chip8-debugger "chipbench-dap"
-  "The debug adapter, as dape starts it."
+  "The debug adapter, as dape and dap-mode start it."
   :type 'string)
 
 (defcustom chip8-debugger-settings nil
@@ -111,6 +112,42 @@ docs/DEBUGGER.md has them all."
                `(chipbench modes (chip8-mode) command ,chip8-debugger command-cwd dape-command-cwd
                            :type "chipbench" :request "launch" :source dape-buffer-default :cwd dape-cwd
                            ,@chip8-debugger-settings)))
+
+(declare-function dap-register-debug-provider "dap-mode")
+(declare-function dap-register-debug-template "dap-mode")
+
+(defun chip8-debug-arguments (launch)
+  "LAUNCH with what dap-mode needs to start it: the adapter, and the file that is shown."
+  (append (list :dap-server-path (list chip8-debugger)
+                :source (or (plist-get launch :source) (buffer-file-name)))
+          launch chip8-debugger-settings))
+
+(with-eval-after-load 'dap-mode
+  (dap-register-debug-provider "chipbench" #'chip8-debug-arguments)
+  (dap-register-debug-template
+   "CHIP-8: debug this file" (list :type "chipbench" :request "launch" :name "Debug this file")))
+
+(declare-function dap--cur-session-or-die "dap-mode")
+(declare-function dap--debug-session-thread-id "dap-mode")
+(declare-function dap--make-request "dap-mode")
+(declare-function dap--resp-handler "dap-mode")
+(declare-function dap--send-message "dap-mode")
+
+(defun chip8-debug-request (command)
+  "Have dap-mode send COMMAND, which it doesn't know itself."
+  (let ((session (dap--cur-session-or-die)))
+    (dap--send-message (dap--make-request command (list :threadId (dap--debug-session-thread-id session)))
+                       (dap--resp-handler) session)))
+
+(defun chip8-debug-back ()
+  "Make one step back in the game that dap-mode debugs."
+  (interactive)
+  (chip8-debug-request "stepBack"))
+
+(defun chip8-debug-reverse ()
+  "Go back to the last breakpoint in the game that dap-mode debugs."
+  (interactive)
+  (chip8-debug-request "reverseContinue"))
 
 ;; The language server
 

@@ -247,7 +247,8 @@ def evaluate(adapter: Adapter, arguments: Any) -> Arguments:
     text, context = required(arguments, "expression", str), optional(arguments, "context", str)
     if not text.strip():
         raise Refusal("there is no expression", is_shown=False)
-    if context == "repl":
+    # some clients name no context in their console
+    if context in (None, "repl"):
         answered = Words(adapter.run, adapter.drain).answer(text)
         if answered is not None:
             result, is_elsewhere = answered

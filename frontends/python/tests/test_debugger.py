@@ -440,6 +440,7 @@ class Shown(Debugged):
         self.assertIn("hasn't changed", debugger.value("who V3", "repl"))
         self.assertEqual(debugger.step(), 0)
         self.assertIn("goto STEP", debugger.value("help", "repl"))
+        self.assertIn("goto STEP", debugger.ask("evaluate", {"expression": "help"})["result"])
         self.assertIn("HIT is a label", debugger.refused("evaluate", {"expression": "goto HIT", "context": "repl"}))
         self.assertIn("no key 16", debugger.refused("evaluate", {"expression": "press 16", "context": "repl"}))
         labels = [one["label"] for one in debugger.ask("completions", {"text": "fi", "column": 3})["targets"]]
