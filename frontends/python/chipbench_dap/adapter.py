@@ -97,6 +97,7 @@ class Adapter:
         self.request = 0
         self.targets: list[int] = []
         self._later: list[Callable[[], None]] = []
+        self._file_error = ""
 
     # -- the loop
 
@@ -447,8 +448,12 @@ class Adapter:
         try:
             told = run.take_edit()
         except Exception as error:
-            self.output(f"the file isn't taken: {error}\n", "stderr")
+            # the file is looked at again and again
+            if str(error) != self._file_error:
+                self.output(f"the file isn't taken: {error}\n", "stderr")
+            self._file_error = str(error)
             return
+        self._file_error = ""
         if told is None:
             return
         self.output(told)

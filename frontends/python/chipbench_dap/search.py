@@ -77,17 +77,17 @@ class LineView:
         self.step = -1
         self._line = b""
         self._bytes: dict[int, int] = {}
-        self._state: State | None = None
+        self._shown: Screen | None = None
 
     def take(self, step: int, line: bytes) -> None:
         before = self._line[WORD]
         if step != self.step + 1:
-            self._bytes, self._state = {}, None
+            self._bytes, self._shown = {}, None
         else:
             if before[2:] in STORES:
                 self._bytes = {}
             if before[:1] == b"d" or before[:2] == b"00":
-                self._state = None
+                self._shown = None
         self.step, self._line = step, line
 
     def item(self, name: str) -> int:
@@ -102,13 +102,14 @@ class LineView:
         if name == "DRAWS":
             found = DRAWS_FIELD.search(self._line, len(self._line[:69]) + len(str(depth_of(self._line))))
             return int(found[1]) if found is not None else 0
-        return int(self._now().is_high)
+        return int(self._screen().high)
 
-    def _now(self) -> State:
-        """The state at this step, or at an earlier one with the same screen."""
-        if self._state is None:
-            self._state = self._bench.at(self.step)
-        return self._state
+    def _screen(self) -> Screen:
+        """The screen at this step, or at an earlier one after which no step drew."""
+        if self._shown is None:
+            size, *rows = self._bench.ask(f"screen {self.step}").split("\n")[:-2]
+            self._shown = Screen(size == "high", {int(row[:2]): int(row[3:], 16) for row in rows})
+        return self._shown
 
     def byte(self, address: int) -> int:
         if address not in self._bytes:
@@ -116,7 +117,7 @@ class LineView:
         return self._bytes[address]
 
     def pixel(self, column: int, row: int) -> int:
-        return lit(self._now().screen, column, row)
+        return lit(self._screen(), column, row)
 
 
 @dataclass(frozen=True)

@@ -525,6 +525,14 @@ class Edits(Debugged):
         self.assertIn("differs in V0, V3", debugger.output())
         self.assertEqual((debugger.value("V3"), debugger.step()), ("10 = #0a", 60))
 
+    def test_a_file_that_cannot_be_taken_is_told_once(self) -> None:
+        debugger = self.launched()
+        self.file("score.asm", "; a line\n" * 300_000)
+        self.assertIn("too long for a source", debugger.output())
+        time.sleep(1)
+        self.file("score.asm", SCORE + "; another line\n")
+        self.assertIn("score.asm changed: 1 line", debugger.output())
+
     def test_an_edit_that_makes_the_run_shorter(self) -> None:
         debugger = self.launched()
         debugger.value("goto 60", "repl")
