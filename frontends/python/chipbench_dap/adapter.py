@@ -186,7 +186,7 @@ class Adapter:
             self.writer.answer(request, name, answer)
             later, self._later = self._later, []
             for action in later:
-                action()
+                self._attempt(action)
         finally:
             self._later = []
             with self._lock:
@@ -323,16 +323,30 @@ class Adapter:
         """One slice of a move."""
         try:
             step = next(move.task)
+        except StopIteration as stop:
+            self._end_move()
+            self._attempt(lambda: self._arrive(move, stop.value))
+        except Exception as error:
+            self._end_move()
+            self._failed(error)
+        else:
             if move.is_forward:
                 move.at = max(move.at, step)
             self._tell_progress(move, step)
-        except StopIteration as stop:
-            self._end_move()
-            self._arrive(move, stop.value)
+
+    def _attempt(self, action: Callable[[], None]) -> None:
+        """Does something that no request waits for."""
+        try:
+            action()
+        except BrokenPipeError:
+            raise
         except Exception as error:
-            self._end_move()
-            self.output(f"{self._sentence(error)}\n", "stderr")
-            self.stopped("pause", "the search has failed")
+            self._failed(error)
+
+    def _failed(self, error: Exception) -> None:
+        """Says why the machine isn't where it was asked to be."""
+        self.output(f"{self._sentence(error)}\n", "stderr")
+        self.stopped("pause", "this has failed")
 
     def _end_move(self) -> None:
         move, self.move = self.move, None

@@ -11,7 +11,7 @@ from collections.abc import Callable, Generator, Iterator, Sequence
 from contextlib import closing
 from dataclasses import dataclass, field
 
-from chipbench import Bench, Screen, State
+from chipbench import Bench, ChipbenchError, Screen, State
 from chipbench_shell.game import Game
 from chipbench_shell.search import COLUMNS, LAST_STEP, WORD, Search, depth_of
 from chipbench_shell.values import Mistake
@@ -244,7 +244,7 @@ class Finder:
             for step, line in lines:
                 if step % SLICE == 0:
                     yield step, line, [], None
-                if (is_plain and line[:4] not in addresses) or is_stop(line, step, last):
+                if (is_plain and line[:4] not in addresses) or is_stop(line):
                     continue
                 view.take(step, line)
                 held = [one for one in counted if one.holds(view, line)]
@@ -254,7 +254,10 @@ class Finder:
                 stopping = [one for one in held if one.wanted.told is None]
                 if stopping:
                     yield step, line, stopping, None
-        yield step, line, [], is_stop(line, step, last)
+        is_over = is_stop(line)
+        if step < last and not is_over:
+            raise ChipbenchError("the search has ended early: its program was ended")
+        yield step, line, [], is_over
 
     def backward(self, wanted: Sequence[Wanted], before: int) -> Task:
         """The last step before one at which something wanted holds. Of what changes it is the step that changes it."""
@@ -287,7 +290,7 @@ def found_of(step: int, held: Sequence[Counted], changed_by: int) -> Found:
     return Found(step, numbers, step, False, changed_by, *changed.values)
 
 
-def is_stop(line: bytes, step: int, last: int) -> bool:
+def is_stop(line: bytes) -> bool:
     """Whether a line is of a machine that has stopped: the last line of a trace then has the code of the stop for its text."""
     text = line[line.rindex(b" ") + 1 :] if line else b""
     return len(text) == 2 and text[:1] == b"S" and text[1:].isdigit()

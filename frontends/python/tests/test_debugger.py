@@ -3,10 +3,12 @@
 from __future__ import annotations
 
 import base64
+import contextlib
 import doctest
 import json
 import os
 import random
+import signal
 import sys
 import tempfile
 import time
@@ -696,19 +698,28 @@ class Malformed(Debugged):
     def test_a_program_that_is_killed_is_started_again(self) -> None:
         debugger = self.launched()
         debugger.value("goto 60", "repl")
-        for process in children_of(debugger.process.pid):
-            os.kill(process, 9)
+        kill_children(debugger.process.pid)
         deadline = time.monotonic() + 60
         while not debugger.answer("evaluate", {"expression": "V3"})["success"] and time.monotonic() < deadline:
             pass
         self.assertEqual((debugger.value("V3"), debugger.step()), ("5 = #05", 60))
 
 
-def children_of(process: int) -> list[int]:
-    found = []
+    def test_a_program_that_is_killed_again_and_again(self) -> None:
+        debugger = self.launched(client={"supportsInvalidatedEvent": True})
+        for number in range(30):
+            if number % 3 == 0:
+                kill_children(debugger.process.pid)
+            debugger.answer(("stepIn", "continue", "reverseContinue", "stepBack", "next")[number % 5], {"threadId": 1})
+        self.still_answers(debugger)
+
+
+def kill_children(process: int) -> None:
+    """Kills the programs that a process has started; some may have ended meanwhile."""
     for task in Path(f"/proc/{process}/task").iterdir():
-        found += [int(child) for child in (task / "children").read_text().split()]
-    return found
+        with contextlib.suppress(OSError):
+            for child in (task / "children").read_text(encoding="ascii").split():
+                os.kill(int(child), signal.SIGKILL)
 
 
 class Expressions(unittest.TestCase):
