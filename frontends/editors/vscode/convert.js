@@ -38,6 +38,12 @@ function completion(item) {
   return made;
 }
 
+/** All that may be typed, or so much of it as the server offers at once. */
+function completions(found) {
+  if (!found || Array.isArray(found)) return list(found, completion);
+  return new vscode.CompletionList(found.items.map(completion), found.isIncomplete);
+}
+
 function symbol(found) {
   return new vscode.DocumentSymbol(found.name, found.detail, found.kind - 1, range(found.range), range(found.selectionRange));
 }
@@ -113,7 +119,7 @@ function workspaceEdit(found) {
 module.exports = {
   action,
   callItem,
-  completion,
+  completions,
   diagnostic,
   edit,
   fold,

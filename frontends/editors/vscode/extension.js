@@ -152,7 +152,7 @@ function placeProviders(ask) {
     Hover: { provideHover: at('hover', convert.hover) },
     Definition: { provideDefinition: at('definition', lists(convert.place)) },
     DocumentHighlight: { provideDocumentHighlights: at('documentHighlight', lists(convert.highlight)) },
-    CompletionItem: { provideCompletionItems: at('completion', lists(convert.completion)) },
+    CompletionItem: { provideCompletionItems: at('completion', convert.completions) },
     Reference: {
       provideReferences: async (document, position, context, token) =>
         convert.list(await ask('references', { ...placeOf(document, position), context }, token), convert.place),

@@ -10,13 +10,15 @@ from chipbench import ChipbenchError
 
 from .document import Document, OverLimits
 from .hover import directive_text, row_text
-from .language import in_all_bases, read_line
+from .language import defined_in, in_all_bases, read_line
 from .operands import ANY_REGISTER, VALUES, place_in, wanted_at
 from .properties import is_property, words
-from .tables import DIRECTIVES, INSTRUCTIONS, OPTIONS, PARTS, REGISTERS, RESERVED
-from .tokens import label_of
+from .tables import DIRECTIVES, INSTRUCTIONS, OPTIONS, PARTS, REGISTERS
 
 KEYWORD, SNIPPET, VALUE, VARIABLE, CONSTANT, FUNCTION = 14, 15, 12, 6, 21, 3
+NAMED = (CONSTANT, FUNCTION)
+# The most names of the source in an answer.
+MOST_NAMES = 200
 # The most rows of a sprite.
 MOST_ROWS = 15
 FIELD = re.compile(r"Vx|Vy|\bkk\b|\ba\b|\bn\b")
@@ -26,23 +28,31 @@ NAME_ONLY = ("IFDEF", "IFUND", "USED", "XREF")
 VALUES_ONLY = ("ORG", "DB", "DW", "DS", "EQU", "=")
 
 
-def complete(document: Document, number: int, place: int, has_snippets: bool) -> list[dict[str, Any]]:
+def complete(document: Document, number: int, place: int, has_snippets: bool) -> Any:
+    """What may stand at a place. Where there are more names than are offered, the answer says that it isn't complete, so that the
+    client asks again once more is typed."""
     text = document.line(number)[:place]
     prefix = WORD_BEFORE.search(text)
     assert prefix is not None
-    start = prefix.start()
+    found = matching(document, number, prefix.start(), place, items_at(document, text, prefix[0], has_snippets))
+    if sum(item["kind"] in NAMED for item in found) < MOST_NAMES:
+        return found
+    return {"isIncomplete": True, "items": found}
+
+
+def items_at(document: Document, text: str, begun: str, has_snippets: bool) -> list[dict[str, Any]]:
+    """What may stand at the end of a text, of which the last letters are what is begun."""
+    start = len(text) - len(begun)
     before = read_line(text[:start])
     if is_property(text):
-        return matching(document, number, start, place, [*words(), *names(document, prefix[0])])
+        return [*words(), *all_names(document, begun)]
     if before.comment is not None or before.is_bad or (start > 0 and text[start - 1] in "#@$"):
         return []
     if before.head is None:
-        items = statements(has_snippets)
-    elif before.mnemonic is not None:
-        items = instruction_operands(document, text[:start], prefix[0])
-    else:
-        items = operands(document, before.head.upper, prefix[0])
-    return matching(document, number, start, place, items)
+        return statements(has_snippets)
+    if before.mnemonic is not None:
+        return instruction_operands(document, text[:start], begun)
+    return operands(document, before.head.upper, begun)
 
 
 def matching(document: Document, number: int, start: int, place: int, items: list[dict[str, Any]]) -> list[dict[str, Any]]:
@@ -109,7 +119,7 @@ def operands(document: Document, head: str, begun: str) -> list[dict[str, Any]]:
         return [{"label": word, "kind": KEYWORD} for word in OPTIONS]
     if head == "ALIGN":
         return [{"label": word, "kind": KEYWORD} for word in ("ON", "OFF")]
-    items = names(document, begun)
+    items = all_names(document, begun)
     if head in NAME_ONLY or head in VALUES_ONLY:
         return items
     return registers() + [documented(word, KEYWORD, "", PARTS[word]) for word in PARTS] + items
@@ -139,13 +149,15 @@ def value_operands(document: Document, begun: str, values: list[str]) -> list[li
     """Names and numbers for the letters of a form: `a`, `kk`, `n`."""
     if not values:
         return []
-    labels = {label_of(text) for _, text in document.numbered()}
     found = names(document, begun)
-    of_labels = [{**item, "kind": FUNCTION} for item in found if item["label"].upper() in labels]
-    constants = [item for item in found if item["label"].upper() not in labels]
+    of_labels, constants = ([name for name, is_one in found if is_one == is_label] for is_label in (True, False))
     if values == ["n"]:
-        return [constants, [{"label": str(number), "kind": VALUE} for number in range(1, MOST_ROWS + 1)]]
-    return [of_labels, constants] if "a" in values else [constants, of_labels]
+        numbers = [{"label": str(number), "kind": VALUE} for number in range(1, MOST_ROWS + 1)]
+        return [name_items(document, constants[:MOST_NAMES], CONSTANT), numbers]
+    groups = [(of_labels[:MOST_NAMES], FUNCTION), (constants[:MOST_NAMES], CONSTANT)]
+    first, second = groups if "a" in values else reversed(groups)
+    rest = second[0][: MOST_NAMES - len(first[0])]
+    return [name_items(document, *first), name_items(document, rest, second[1])]
 
 
 def registers(begun: str = "") -> list[dict[str, Any]]:
@@ -157,19 +169,32 @@ def registers(begun: str = "") -> list[dict[str, Any]]:
     ]
 
 
-def names(document: Document, begun: str) -> list[dict[str, Any]]:
-    """The names of the source that begin with some letters, with their values where the program knows them."""
+def names(document: Document, begun: str) -> list[tuple[str, bool]]:
+    """The names of the source that begin with some letters, each once, as its first definition spells it, and whether that is
+    a label."""
+    wanted = begun.upper()
+    found: dict[str, tuple[str, bool]] = {}
+    for _, text in document.numbered():
+        defined = defined_in(text)
+        if defined is not None and defined[0].startswith(wanted):
+            found.setdefault(defined[0], defined[1:])
+    return list(found.values())
+
+
+def all_names(document: Document, begun: str) -> list[dict[str, Any]]:
+    """Names of both kinds, in the order of their lines."""
+    return name_items(document, [name for name, _ in names(document, begun)[:MOST_NAMES]], CONSTANT)
+
+
+def name_items(document: Document, spelt: list[str], kind: int) -> list[dict[str, Any]]:
+    """Names with their values, where the program knows them."""
     try:
         symbols = document.symbols
     except (OverLimits, ChipbenchError):
         symbols = {}
-    wanted = begun.upper()
-    spelt: dict[str, str] = {}
-    for _, text in document.numbered():
-        defined = read_line(text).defined
-        if defined is not None and defined.upper.startswith(wanted) and defined.upper not in RESERVED:
-            spelt.setdefault(defined.upper, defined.text)
-    values = {name: in_all_bases(symbols[name].value) for name in spelt if name in symbols}
-    return [
-        {"label": text, "kind": CONSTANT, "detail": values.get(name, ""), "is_reserved": False} for name, text in spelt.items()
-    ]
+    found = []
+    for name in spelt:
+        symbol = symbols.get(name.upper())
+        detail = in_all_bases(symbol.value) if symbol is not None else ""
+        found.append({"label": name, "kind": kind, "detail": detail, "is_reserved": False})
+    return found

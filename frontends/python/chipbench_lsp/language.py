@@ -155,6 +155,19 @@ def read_line(text: str) -> Line:
     return made("plain", None, tokens)
 
 
+@functools.lru_cache(maxsize=20_000)
+def defined_in(text: str) -> tuple[str, str, bool] | None:
+    """The name that a line defines: in upper case, as it is spelt, and whether it is a label.
+
+    >>> defined_in("Loop: CLS"), defined_in("CLS")
+    (('LOOP', 'Loop', True), None)
+    """
+    line = read_line(text)
+    if line.defined is None or line.defined.upper in RESERVED:
+        return None
+    return line.defined.upper, line.defined.text, line.form == "label"
+
+
 def read_number(text: str) -> int | None:
     """The value of a number token, or None.
 

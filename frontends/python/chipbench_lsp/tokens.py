@@ -7,7 +7,7 @@ from collections.abc import Iterator
 from typing import Any
 
 from .document import Document
-from .language import PROPERTY_WORDS, Line, Token, read_line
+from .language import PROPERTY_WORDS, Line, Token, defined_in, read_line
 from .positions import Columns
 from .tables import DIRECTIVES, MNEMONICS, PARTS, REGISTERS
 from .wire import Encoded
@@ -27,13 +27,6 @@ Meant = tuple[int, int, int, int]
 @functools.lru_cache(maxsize=20_000)
 def names_of(text: str) -> tuple[str, ...]:
     return tuple(token.upper for token in read_line(text).names())
-
-
-@functools.lru_cache(maxsize=20_000)
-def label_of(text: str) -> str:
-    """The label that a line defines, in upper case; empty where it defines none."""
-    line = read_line(text)
-    return line.defined.upper if line.form == "label" and line.defined is not None else ""
 
 
 def of_name(line: Line, token: Token, is_label: bool) -> tuple[int, int]:
@@ -89,7 +82,8 @@ def numbers(text: str, labels: tuple[bool, ...], unit: str) -> str:
 def tokens(document: Document, first: int, last: int) -> dict[str, Any]:
     """The tokens of the lines from `first` to `last`."""
     unit = document.columns.unit
-    labels = {label_of(text) for _, text in document.numbered()}
+    defined = (defined_in(text) for _, text in document.numbered())
+    labels = {found[0] for found in defined if found is not None and found[2]}
     found, before = Encoded(), 0
     for number, text in document.numbered():
         if first <= number <= last and text:

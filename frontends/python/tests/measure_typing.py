@@ -60,6 +60,7 @@ def ask_as_editors_do(client: Client) -> int:
         "codeLens": {}, "documentSymbol": {}, "foldingRange": {}, "semanticTokens/full": {}, "inlayHint": {"range": near},
         "documentHighlight": {"position": {"line": MIDDLE, "character": 1}},
         "codeAction": {"range": near, "context": {"diagnostics": []}},
+        "completion": {"position": {"line": MIDDLE, "character": 17}},
     }
     for method, more in requests.items():
         client.begin(f"textDocument/{method}", {**document, **more})

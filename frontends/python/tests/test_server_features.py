@@ -61,6 +61,14 @@ class Typing(Served):
         ):
             self.assertEqual(self.labels(client, text), wanted, text)
 
+    def test_of_many_names_some_are_offered_until_more_is_typed(self) -> None:
+        client = self.opened("".join(f"L{number}:\n" for number in range(1200)) + "JP \n")
+        found = client.at("completion", 1200, 3)
+        self.assertEqual((found["isIncomplete"], len(found["items"])), (True, 201))
+        client.edit((1200, 3), (1200, 3), "L119")
+        found = [item["label"] for item in client.at("completion", 1200, 7)]
+        self.assertEqual(found, ["L119", *(f"L119{digit}" for digit in range(10))])
+
     def test_fixes_that_the_help_names(self) -> None:
         client = self.opened(GAME)
         for text, wanted in (

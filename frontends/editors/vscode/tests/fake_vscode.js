@@ -140,6 +140,7 @@ function makeEditor(settings) {
     Diagnostic: record('range', 'message', 'severity'),
     Hover: record('contents', 'range'),
     CompletionItem: record('label', 'kind'),
+    CompletionList: record('items', 'isIncomplete'),
     DocumentSymbol: record('name', 'detail', 'kind', 'range', 'selectionRange'),
     InlayHint: record('position', 'label'),
     SemanticTokens: record('data'),

@@ -102,6 +102,13 @@ test('colours, signatures, calls, and the names of all documents', options, asyn
   assert.deepStrictEqual(await providers.CallHierarchy.provideCallHierarchyOutgoingCalls(item), []);
 });
 
+test('completion of some names out of many', options, async () => {
+  const labels = Array.from({ length: 300 }, (_, number) => `L${number}:`).join('\n');
+  const { editor } = await opened(`${labels}\nJP L\n`);
+  const { items, isIncomplete } = await editor.providers.CompletionItem.provideCompletionItems(editor.documents[0], new Position(300, 4));
+  assert.deepStrictEqual([items.length, isIncomplete], [200, true]);
+});
+
 test('completion with fields', options, async () => {
   const { editor, document } = await opened('DR\n');
   const [item] = await editor.providers.CompletionItem.provideCompletionItems(document, new Position(0, 2));
