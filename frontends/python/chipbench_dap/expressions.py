@@ -66,6 +66,14 @@ Test = Callable[[View], bool]
 
 
 @dataclass(frozen=True)
+class Condition:
+    """What has to hold, as it was written, and as a view of a step answers it."""
+
+    text: str
+    holds: Test
+
+
+@dataclass(frozen=True)
 class Subject:
     """What a data breakpoint looks at. `read` gives a value that is compared with that of the step before."""
 
@@ -329,16 +337,16 @@ def bytes_of(first: Value, last: Value) -> Callable[[View], tuple[int, ...]]:
     return read
 
 
-def read_condition(text: str, symbols: Mapping[str, Symbol]) -> Test:
+def read_condition(text: str, symbols: Mapping[str, Symbol]) -> Condition:
     """A condition such as `V3 = 5 and [SCORE] > V0`; a sum alone holds where it isn't 0."""
     reader = Reader(text, symbols)
     test = reader.condition()
-    if test is None:
-        value = reader.sum()
+    if test is not None:
         reader.end()
-        return lambda view: value_or_none(value, view) not in (0, -1)
+        return Condition(text, test)
+    value = reader.sum()
     reader.end()
-    return test
+    return Condition(text, lambda view: value_or_none(value, view) not in (0, -1))
 
 
 def read_sum(text: str, symbols: Mapping[str, Symbol]) -> Value:

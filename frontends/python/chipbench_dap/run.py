@@ -16,7 +16,7 @@ from chipbench_shell.game import Game, Settings
 from chipbench_shell.search import LAST_STEP
 from chipbench_shell.values import Mistake, counted
 
-from .expressions import Subject, Test, View
+from .expressions import Condition, Subject, read_condition
 from .search import Finder, Found, Task, Wanted
 
 MEMORY_BYTES = 4096
@@ -155,9 +155,9 @@ class Run(Commands):
     def backward(self, wanted: list[Wanted], before: int) -> Task:
         return self.finder.backward(wanted, before)
 
-    def until(self, test: Test, wanted: list[Wanted], after: int) -> Task:
-        """The first step after one at which a test holds, or a breakpoint."""
-        return self.forward([Wanted(STEPPED, condition=test), *wanted], after)
+    def until(self, condition: Condition, wanted: list[Wanted], after: int) -> Task:
+        """The first step after one at which a condition holds, or a breakpoint."""
+        return self.forward([Wanted(STEPPED, condition=condition), *wanted], after)
 
     def over(self, wanted: list[Wanted], after: int, depth: int) -> Task:
         """The next step in a subroutine of this depth, or out of it: a call is made to its end."""
@@ -237,13 +237,9 @@ class Run(Commands):
 LONGEST_SOURCE = 808_001
 
 
-def not_deeper(depth: int) -> Test:
-    """Whether at most so many calls are open."""
-
-    def holds(view: View) -> bool:
-        return view.item("DEPTH") <= depth
-
-    return holds
+def not_deeper(depth: int) -> Condition:
+    """At most so many calls are open."""
+    return read_condition(f"DEPTH <= {depth}", {})
 
 
 def needed(path: Path) -> bytes:

@@ -1,7 +1,7 @@
 """Finds the steps of a run at which something holds, forward and back.
 
 This module alone knows how steps are found: it reads the lines of `chipbench trace`, and asks the session for what these don't
-have. The others name what they look for as `Wanted`.
+have. The others name what they look for as `Wanted`, whose conditions and subjects have their texts too.
 """
 
 from __future__ import annotations
@@ -16,7 +16,7 @@ from chipbench_shell.game import Game
 from chipbench_shell.search import COLUMNS, LAST_STEP, WORD, Search, depth_of
 from chipbench_shell.values import Mistake
 
-from .expressions import REGISTERS, NoValue, Subject, Test
+from .expressions import REGISTERS, Condition, NoValue, Subject
 
 #: After how many lines a search says where it is, so that it can be interrupted.
 SLICE = 4000
@@ -156,7 +156,7 @@ class Wanted:
 
     number: int
     address: int | None = None
-    condition: Test | None = None
+    condition: Condition | None = None
     changed: Subject | None = None
     hits: Hits | None = None
     told: Callable[[int, LineView], None] | None = None
@@ -201,7 +201,7 @@ class Counted:
             self.values = before, now
         if self.address is not None and not line.startswith(self.address):
             return False
-        if wanted.condition is not None and not wanted.condition(view):
+        if wanted.condition is not None and not wanted.condition.holds(view):
             return False
         self.count += 1
         return wanted.hits is None or wanted.hits.fits(self.count)

@@ -49,9 +49,9 @@ class Words:
         return answered, moves
 
     def _find(self, text: str) -> str:
-        test = read_condition(text, self.run.layout().symbols)
-        became = Subject(text, 1, lambda view: (int(test(view)),))
-        found = self._drain(self.run.forward([Wanted(0, condition=test, changed=became)], self.run.step))
+        condition = read_condition(text, self.run.layout().symbols)
+        became = Subject(text, 1, lambda view: (int(condition.holds(view)),))
+        found = self._drain(self.run.forward([Wanted(0, condition=condition, changed=became)], self.run.step))
         if found.step is not None:
             return self.run.place_text(found.step)
         end = ", the machine stops there" if found.is_stopped else ""
