@@ -14,7 +14,7 @@ from collections.abc import Callable, Mapping
 from dataclasses import dataclass
 from typing import Any, BinaryIO
 
-from chipbench import ChipbenchError
+from chipbench import ChipbenchError, find_program
 from chipbench_files import FileError
 from chipbench_lsp.document import same_ends
 from chipbench_lsp.wire import BadMessage, read_message
@@ -42,6 +42,14 @@ WHILE_RUNNING = frozenset({
 
 Begin = Callable[[int], Task]
 Handler = Callable[["Adapter", Any], "Arguments | None"]
+
+
+def check_program() -> None:
+    """Says what to do where there is no program."""
+    try:
+        find_program()
+    except ChipbenchError:
+        raise Refusal('no program chipbench was found: install it, or name it as "chipbench" in the launch') from None
 
 
 @dataclass
@@ -284,6 +292,8 @@ class Adapter:
         launch = read_launch(arguments, self.program, self.client.has_uris)
         for told in misspelled(arguments):
             self.output(told + "\n", "important")
+        if launch.program is None:
+            check_program()
         run = Run(launch.source, launch.image, launch.keys, launch.settings, launch.program)
         try:
             fault = run.first_fault()

@@ -20,9 +20,11 @@ Message = dict[str, Any]
 class Debugger:
     """One running adapter. What it sends is kept in its order, and sorted into answers and events."""
 
-    def __init__(self, program: str | None) -> None:
-        words = [sys.executable, "-B", str(ADAPTER)] + (["--program", program] if program else [])
-        self.process = subprocess.Popen(words, stdin=subprocess.PIPE, stdout=subprocess.PIPE, stderr=subprocess.PIPE)
+    def __init__(self, program: str | None, adapter: Path = ADAPTER, environment: dict[str, str] | None = None) -> None:
+        words = [sys.executable, "-B", str(adapter)] + (["--program", program] if program else [])
+        self.process = subprocess.Popen(
+            words, env=environment, stdin=subprocess.PIPE, stdout=subprocess.PIPE, stderr=subprocess.PIPE
+        )
         self._answers: queue.Queue[Message] = queue.Queue()
         self._events: queue.Queue[Message] = queue.Queue()
         self.all: list[Message] = []

@@ -8,6 +8,7 @@ import doctest
 import json
 import os
 import random
+import shutil
 import signal
 import sys
 import tempfile
@@ -19,7 +20,7 @@ from typing import Any
 sys.path.insert(0, str(Path(__file__).resolve().parent))
 
 from debugging import Debugger  # noqa: E402
-from programs import NeedsProgram  # noqa: E402
+from programs import PYTHON, NeedsProgram  # noqa: E402
 from protocol import Protocol  # noqa: E402
 
 from chipbench_dap import search, variables  # noqa: E402
@@ -565,6 +566,15 @@ class Sessions(Debugged):
             self.assertIn(said, debugger.refused("launch", arguments), arguments)
         debugger.ask("launch", {"source": path, "sed": 4})
         self.assertIn("there is no argument sed; did you mean seed?", debugger.output())
+
+    def test_without_a_program_it_says_what_to_install(self) -> None:
+        # three folders above it there is no release/
+        copied = shutil.copytree(PYTHON, self.folder / "a/b/python", ignore=shutil.ignore_patterns("tests", "__pycache__"))
+        debugger = Debugger(None, copied / "chipbench_dap", {"PATH": str(self.folder)})
+        self.addCleanup(debugger.kill)
+        debugger.ask("initialize", {"adapterID": "chipbench"})
+        said = debugger.refused("launch", {"source": str(self.file("score.asm", SCORE))})
+        self.assertEqual(said, 'no program chipbench was found: install it, or name it as "chipbench" in the launch')
 
     def test_the_seed_and_the_profile_are_those_of_the_launch(self) -> None:
         source = "RND V0, #ff\nLD V1, 8\nLD V2, 1\nSHR V1, V2\nHALT: JP HALT\n"
