@@ -222,18 +222,24 @@ class Finder:
     def forward(self, wanted: Sequence[Wanted], after: int) -> Task:
         """The first step after one at which something wanted holds. A step at which the machine has stopped is none."""
         start = 0 if any(one.hits for one in wanted) else max(after, 0)
-        for step, _, held, is_last in self._matches(wanted, start, LAST_STEP):
-            if step > after and held:
-                return found_of(step, held, step - 1)
+        for step, view, held, is_last in self._matches(wanted, start, LAST_STEP):
             if is_last is not None:
                 return Found(None, (), step, is_last)
-            if not held:
-                yield step
+            if held and step <= after:
+                # it was looked at before
+                continue
+            for one in held:
+                if one.wanted.told is not None:
+                    one.wanted.told(step, view)
+            stopping = [one for one in held if one.wanted.told is None]
+            if stopping:
+                return found_of(step, stopping, step - 1)
+            yield step
         return Found(None, (), max(after, 0), False)
 
     def _matches(
         self, wanted: Sequence[Wanted], first: int, last: int
-    ) -> Iterator[tuple[int, bytes, list[Counted], bool | None]]:
+    ) -> Iterator[tuple[int, LineView, list[Counted], bool | None]]:
         """Each step at which something holds; now and then one at which nothing does; and the last one, with whether the
         machine has stopped there."""
         counted = self._counted(wanted)
@@ -243,21 +249,17 @@ class Finder:
         with closing(self._lines(first, last)) as lines:  # type: ignore[type-var]
             for step, line in lines:
                 if step % SLICE == 0:
-                    yield step, line, [], None
+                    yield step, view, [], None
                 if (is_plain and line[:4] not in addresses) or is_stop(line):
                     continue
                 view.take(step, line)
                 held = [one for one in counted if one.holds(view, line)]
-                for one in held:
-                    if one.wanted.told is not None:
-                        one.wanted.told(step, view)
-                stopping = [one for one in held if one.wanted.told is None]
-                if stopping:
-                    yield step, line, stopping, None
+                if held:
+                    yield step, view, held, None
         is_over = is_stop(line)
         if step < last and not is_over:
             raise ChipbenchError("the search has ended early: its program was ended")
-        yield step, line, [], is_over
+        yield step, view, [], is_over
 
     def backward(self, wanted: Sequence[Wanted], before: int) -> Task:
         """The last step before one at which something wanted holds. Of what changes it is the step that changes it."""

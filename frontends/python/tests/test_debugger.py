@@ -263,6 +263,16 @@ class Breakpoints(Debugged):
         self.assertEqual(debugger.output(), "step 32: the score is 2, the byte 1\n")
         self.assertEqual(debugger.event("stopped")["reason"], "exception")
 
+    def test_a_log_point_speaks_once_of_each_step(self) -> None:
+        debugger = self.launched()
+        debugger.stops(11, {"line": 11, "logMessage": "{V3}"}, {"line": 12, "hitCondition": "20"})
+        told = []
+        for _ in range(3):
+            debugger.ask("continue", {"threadId": 1})
+            told.append(debugger.output())
+            debugger.event("stopped")
+        self.assertEqual(told, ["step 24: 1\n", "step 32: 2\n", "step 40: 3\n"])
+
     def test_a_breakpoint_keeps_its_number(self) -> None:
         debugger = self.launched()
         first = debugger.stops(9, 10)
