@@ -6,7 +6,7 @@ _chipbench_page() {
         --port | --rate | --tape | --seed | --quirks | --every) return ;;
     esac
     case $word in
-        -*) COMPREPLY=($(compgen -W "--help --image --program --port --no-open --rate --tape --seed --profile --quirks --every" -- "$word")) ;;
+        -*) COMPREPLY=($(compgen -W "--help --image --port --no-open --rate --tape --seed --profile --quirks --every" -- "$word")) ;;
         *) COMPREPLY=($(compgen -f -- "$word")) ;;
     esac
 }

@@ -1,7 +1,6 @@
 # Completion of chipbench-page's options for fish; made by frontends/editors/generate.py.
 complete -c chipbench-page -l help -d 'show this help message and exit'
 complete -c chipbench-page -l image -r -d 'open the source that `chipbench dis` prints of an image'
-complete -c chipbench-page -l program -r -d 'the chipbench to run'
 complete -c chipbench-page -l port -x -d 'the port'
 complete -c chipbench-page -l no-open -d 'print the address and open no browser'
 complete -c chipbench-page -l rate -x -d 'at the start: how many steps lie between two ticks of the timers'

@@ -1,8 +1,7 @@
-"""The bridge between the page in a browser and the program `chipbench debug`.
+"""The bridge between the page in a browser and the author's files.
 
-It serves the files of frontends/page/static on 127.0.0.1, keeps one program running, and passes commands and answers through. It knows the
-words of the command line, where an answer ends and the columns of a trace, and nothing else of what the program does. Nothing of it
-is proved.
+It serves the page on 127.0.0.1, and with it the program in WebAssembly, which runs in the browser. It reads and writes files, and knows
+nothing of what the program does. Nothing of it is proved.
 """
 
 from __future__ import annotations
@@ -17,7 +16,6 @@ import os
 import re
 import secrets
 import signal
-import subprocess
 import sys
 import webbrowser
 from pathlib import Path
@@ -27,20 +25,13 @@ from connections import Connections
 from files import Files, Refused, shown
 from page_requests import NAMES, Bridge
 from request_values import MAX_BODY, OPTION_VALUES
+from served import content_of, missing_programs, served_files
 
 HOST = "127.0.0.1"
 FIRST_PORT = 8464
 PORTS_TRIED = 20
 LAST_PORT = 65535
 IDLE_SECONDS = 60
-
-STATIC = Path(__file__).resolve().parent / "static"
-KINDS = {
-    ".html": "text/html; charset=utf-8",
-    ".css": "text/css; charset=utf-8",
-    ".mjs": "text/javascript; charset=utf-8",
-    ".svg": "image/svg+xml",
-}
 
 # the settings at the start, as for `chipbench debug`
 SETTINGS = {
@@ -53,8 +44,8 @@ SETTINGS = {
 }
 
 HEADERS = {
-    "Content-Security-Policy": "default-src 'none'; script-src 'self'; style-src 'self'; img-src 'self'; connect-src 'self'; "
-    "base-uri 'none'; form-action 'none'; frame-ancestors 'none'; require-trusted-types-for 'script'",
+    "Content-Security-Policy": "default-src 'none'; script-src 'self' 'wasm-unsafe-eval'; worker-src 'self'; style-src 'self'; img-src 'self'; connect-src 'self'; "
+    "base-uri 'none'; form-action 'none'; frame-ancestors 'none'; require-trusted-types-for 'script'; trusted-types worker",
     "X-Content-Type-Options": "nosniff",
     "X-Frame-Options": "DENY",
     "Referrer-Policy": "no-referrer",
@@ -80,7 +71,7 @@ class Server(http.server.ThreadingHTTPServer):
         self.token = secrets.token_urlsafe(24)
         self.hosts = {f"{name}:{self.server_port}" for name in (HOST, "localhost")}
         self.origins = {f"http://{host}" for host in self.hosts}
-        self.files = {path.name: path for path in STATIC.iterdir() if path.suffix in KINDS}
+        self.files = served_files()
         self.connections = Connections()
 
     @property
@@ -130,10 +121,10 @@ class Handler(http.server.BaseHTTPRequestHandler):
                 self._send(307, "text/plain; charset=utf-8", b"", {"Location": f"/{self.server.token}/"})
                 return
             self._check_site(name)
-            path = self.server.files.get(name or "index.html")
-            if path is None:
+            found = content_of(name or "index.html", self.server.files)
+            if found is None:
                 raise Refused(404, "no such file")
-            self._send(200, KINDS[path.suffix], path.read_bytes())
+            self._send(200, *found)
         except Refused as refused:
             self._refuse(refused)
 
@@ -238,9 +229,6 @@ def parser() -> argparse.ArgumentParser:
     )
     words.add_argument("source", nargs="?", metavar="SOURCE", help="the source; a file that isn't there is made when you save")
     words.add_argument("--image", metavar="FILE", help="open the source that `chipbench dis` prints of an image, in place of SOURCE")
-    words.add_argument("--program", metavar="PATH", required=True, help="the chipbench to run (default: the proved one)")
-    # a command that makes the program, once the arguments are seen to be good
-    words.add_argument("--build", metavar="COMMAND", help=argparse.SUPPRESS)
     words.add_argument("--port", metavar="N", help=f"the port (default: the first free one from {FIRST_PORT} on)")
     words.add_argument("--no-open", action="store_true", help="print the address and open no browser")
     for name, (value, text) in SETTINGS.items():
@@ -265,7 +253,7 @@ def open_browser(address: str, folder: Path) -> None:
 
 
 def faulty_argument(words: argparse.Namespace, settings: dict[str, str]) -> str | None:
-    """What is wrong with the arguments, as far as the program isn't needed to say so."""
+    """What is wrong with the arguments. Of settings only the form is looked at: the page tells what the program refuses."""
     if words.port is not None and not (re.fullmatch(r"[0-9]{1,5}", words.port) and int(words.port) <= LAST_PORT):
         return f"--port is a number from 0 to {LAST_PORT}, and not {words.port}"
     for name, value in settings.items():
@@ -298,15 +286,10 @@ def main(arguments: list[str]) -> int:
     settings = {name: value for name in OPTION_VALUES if (value := getattr(words, name)) is not None}
     if (reason := faulty_argument(words, settings)) is not None:
         return fail(reason, 2)
-    if words.build is not None and (status := subprocess.run([words.build, "--help"], stdout=subprocess.DEVNULL).returncode) != 0:
-        return status
+    if missing := missing_programs():
+        return fail(f"{' and '.join(missing)} isn't here: packaging/release makes it", 3)
+    bridge = Bridge(files_of(words), settings)
     try:
-        bridge = Bridge(words.program, files_of(words), settings)
-    except OSError as error:
-        return fail(f"cannot run {shown(words.program)}: {error.strerror}", 3)
-    try:
-        if (reason := bridge.refusal()) is not None:
-            return fail(reason, 2)
         if words.image is not None:
             bridge.open_image(Path(words.image))
         try:

@@ -1,27 +1,28 @@
-// The page's requests without a bridge. The session runs in one worker, and the program in others: one for short commands, one
-// for searches in a run, one for each kind of long run. A worker that answers too late, or whose run is stopped, is ended and
-// begins anew with its next request. Script and modules, as bytes, come from the page itself.
+// What carries out the page's requests about the program. The session runs in one worker, and the program in others: one for short
+// commands, one for searches in a run, one for each kind of long run. A worker that answers too late, or whose run is stopped, is ended
+// and begins anew with its next request.
 import { BridgeFault, carryBy } from './bridge.mjs';
-import { PageFiles } from './page_files.mjs';
+import { OPTIONS } from './options.mjs';
 
 const SECONDS = 60;
-const WORKERS = { open: 'session', ask: 'session', search: 'search' };
+/** The workers of single requests; the one for short commands has the others. */
+const WORKERS = { ask: 'session', search: 'search' };
 const LONG_RUNS = ['explore', 'prove'];
 
 class Workers {
-  #script;
+  #begin;
   #modules;
   #workers = new Map();
   #number = 0;
 
-  constructor(script, modules) {
-    this.#script = script;
+  constructor(begin, modules) {
+    this.#begin = begin;
     this.#modules = modules;
   }
 
   #worker(kind) {
     if (!this.#workers.has(kind)) {
-      const worker = new Worker(this.#script);
+      const worker = this.#begin();
       const isSession = kind === 'session';
       worker.postMessage({ kind: isSession ? 'session' : 'program', bytes: isSession ? this.#modules.session : this.#modules.program });
       const waiting = new Map();
@@ -67,7 +68,7 @@ class Workers {
   }
 }
 
-/** Runs of one command that take long, one at a time: each is started, told of and stopped by its number, as the bridge does it. */
+/** Runs of one command that take long, one at a time: each is started, told of and stopped by its number. */
 class LongRuns {
   #workers;
   #name;
@@ -107,36 +108,29 @@ class LongRuns {
   }
 }
 
-export function carryByWorkers(script, modules, { examples, documents, game, program }) {
-  const workers = new Workers(script, modules);
+/**
+ * Has the page's requests about the program carried out by workers, and those about files by `own`, which are functions by the names of
+ * requests: `about`, `files`, `read`, `save`, and where the browser's file access is used `pick` and `choose`; `game`, the page of an
+ * exported game; `text`, a document or an example by its name. `begin()` begins a worker; `modules` are the bytes of the WebAssembly modules.
+ */
+export function carryByWorkers(begin, modules, own) {
+  const workers = new Workers(begin, modules);
   workers.begin('program', 'session');
-  const files = new PageFiles(examples);
   const runs = Object.fromEntries(LONG_RUNS.map((name) => [name, new LongRuns(workers, name)]));
-  // a tab that is loaded anew comes back to what it had open
-  const about = { name: null, path: null, text: null, digest: null, isImage: false, start: 'one file', folder: 'this browser', settings: {}, exportsGames: true };
-  const own = {
-    about: () => ({ ...about, ...program, picks: files.picks }),
-    files: () => ({ folder: 'this browser', files: files.list() }),
-    read: ({ name }) => files.read(name),
-    save: (body) => files.save(body),
-    pick: () => files.pick(),
-    choose: ({ name }) => files.choose(name),
-    game: () => game,
-    document: ({ name }) => ({ text: documents[name] ?? null }),
-    example: ({ name, steps }) => {
-      const text = examples[`${name}.asm`];
-      return text === undefined ? { text: null, screen: null } : workers.ask('program', 'example', { text, steps });
-    },
-  };
   // The session's module takes a tape, and the program makes one of a seed.
   const withTape = async ({ seed, ...options }) =>
     seed === undefined ? options : { ...options, ...(await workers.ask('program', 'tape', { seed })) };
-  carryBy(async (name, body) => {
-    if (own[name]) return own[name](body);
-    if (runs[name]) return runs[name].answer(body);
-    const sent = name === 'open' ? { ...body, options: await withTape(body.options) } : body;
-    const reply = await workers.ask(WORKERS[name] ?? 'program', name, sent);
-    if (reply.unopened === undefined) return reply;
-    return { session: reply.session, answers: [], ended: await workers.ask('program', 'unopened', body) };
-  });
+  const carried = {
+    about: async () => ({ ...(await own.about()), options: OPTIONS }),
+    example: async ({ name, steps }) => {
+      const { text } = await own.text({ name: `${name}.asm` });
+      return text === null ? { text, screen: null } : workers.ask('program', 'example', { text, steps });
+    },
+    open: async (body) => {
+      const reply = await workers.ask('session', 'open', { ...body, options: await withTape(body.options) });
+      return reply.unopened === undefined ? reply : { answers: [], ended: await workers.ask('program', 'unopened', body) };
+    },
+    ...Object.fromEntries(LONG_RUNS.map((name) => [name, (body) => runs[name].answer(body)])),
+  };
+  carryBy(async (name, body) => (carried[name] ?? own[name] ?? ((asked) => workers.ask(WORKERS[name] ?? 'program', name, asked)))(body));
 }

@@ -111,3 +111,19 @@ export class PageFiles {
     setTimeout(() => URL.revokeObjectURL(link.href), 60_000);
   }
 }
+
+/** The requests about files of a page in one file, for its carrier. A tab that is loaded anew comes back to what it had open. */
+export function ownRequests({ examples, documents, game }) {
+  const files = new PageFiles(examples);
+  const about = { name: null, path: null, text: null, digest: null, isImage: false, start: 'one file', folder: 'this browser', settings: {} };
+  return {
+    about: async () => ({ ...about, picks: files.picks }),
+    files: async () => ({ folder: about.folder, files: files.list() }),
+    read: ({ name }) => files.read(name),
+    save: (body) => files.save(body),
+    pick: () => files.pick(),
+    choose: ({ name }) => files.choose(name),
+    game: async () => game,
+    text: async ({ name }) => ({ text: examples[name] ?? documents[name] ?? null }),
+  };
+}

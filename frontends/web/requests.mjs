@@ -1,17 +1,14 @@
-// What the page asks, answered by the modules: the requests of frontends/page/page_requests.py, without a bridge. Texts
-// are strings in which each character stands for one byte.
+// What the page asks of the program, answered by the modules. Texts are strings in which each character stands for one byte.
 import { MemoryHost } from './memory_host.mjs';
+import { OPTIONS } from './options.mjs';
 import { Session, STATUS } from './session.mjs';
 import { run } from './system.mjs';
 import { findSteps } from './trace_search.mjs';
 
 const MOST_COMMANDS = 25_000;
 const MOST_ANSWERS = 64_000_000;
-// What the page asks of the program: settings and commands. The page in one file has both lists, since its program is that of these sources.
-export const OPTIONS = ['rate', 'tape', 'seed', 'profile', 'quirks', 'every'];
 const TAPE_BYTES = 256;
 const FIRST_REGISTER = 3;
-export const WORDS = ['dis', 'explain', 'check', 'trace', 'test', 'explore', 'prove'];
 // So many states of a search take some 150 megabytes.
 const STATES = 1_000_000;
 const PROGRESS = /step (\d+), (\d+) states/;
@@ -19,7 +16,7 @@ const LINE_OF_PROGRESS = 200;
 // The screen stands after the three lines of the registers in what `run` prints.
 const LINES_OF_REGISTERS = 3;
 
-// A request that is refused, with the status that the bridge answers it with.
+// A request that is refused, with a status of HTTP, as the bridge refuses one.
 export class Refused extends Error {
   constructor(status, reason) {
     super(reason);
@@ -62,7 +59,6 @@ function settingsOf({ rate, tape, profile, quirks, every }) {
 export class SessionRequests {
   constructor(module) {
     this.session = new Session(new WebAssembly.Instance(module, {}).exports);
-    this.number = 0;
     this.isOpen = false;
   }
 
@@ -70,14 +66,12 @@ export class SessionRequests {
   open({ source, options, commands }) {
     const nameSeed = globalThis.crypto.getRandomValues(new BigUint64Array(1))[0];
     const unopened = this.session.open(bytesOf(source), { ...settingsOf(options), nameSeed });
-    this.number += 1;
     this.isOpen = unopened === STATUS.done;
-    return this.isOpen ? this.exchange(commands) : { session: this.number, answers: [], unopened };
+    return this.isOpen ? this.exchange(commands) : { answers: [], unopened };
   }
 
-  ask({ session, commands }) {
-    if (session !== this.number || this.number === 0) throw new Refused(409, 'another window has started the program anew');
-    if (!this.isOpen) return { session, answers: [], ended: { status: 0, text: "it isn't running" } };
+  ask({ commands }) {
+    if (!this.isOpen) return { answers: [], ended: { status: 0, text: "it isn't running" } };
     return this.exchange(commands);
   }
 
@@ -87,7 +81,7 @@ export class SessionRequests {
     let count = 0;
     for (const command of commands) {
       const answer = this.session.answer(bytesOf(command));
-      if (answer === null) return { session: this.number, answers, ended: this.end(4, 'chipbench: out of memory') };
+      if (answer === null) return { answers, ended: this.end(4, 'chipbench: out of memory') };
       count += answer.length;
       if (count > MOST_ANSWERS) {
         this.end();
@@ -95,7 +89,7 @@ export class SessionRequests {
       }
       answers.push(textOf(answer));
     }
-    return { session: this.number, answers };
+    return { answers };
   }
 
   end(status, text) {

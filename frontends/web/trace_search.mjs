@@ -1,4 +1,4 @@
-// Which steps of a run have what is looked for, by the lines that `trace` prints, as frontends/page/trace_search.py finds them.
+// Which steps of a run have what is looked for, by the lines that `trace` prints.
 import { MemoryHost } from './memory_host.mjs';
 import { joined } from './session.mjs';
 import { run } from './system.mjs';

@@ -171,11 +171,13 @@ class Page:
             connection.close()
 
     def check(self, test):
-        """The page is served with its modules, and the program behind it assembles a line."""
+        """The page is served with its modules and with the program that it runs, and the bridge says what it was opened on."""
         status, text = self.request("GET")
         test.assertEqual((status, b"<html" in text.lower()), (200, True))
-        for module in re.findall(rb'src="([\w.]+\.mjs)"', text):
-            test.assertEqual(self.request("GET", module.decode())[0], 200)
-        asked = {"source": "CLS\n", "commands": ["image"], "options": {}}
-        status, text = self.request("POST", "open", json.dumps(asked).encode())
-        test.assertEqual((status, json.loads(text).get("answers")), (200, ["00e0\n"]))
+        for module in [*re.findall(rb'src="([\w.]+\.mjs)"', text), b"main.mjs", b"worker.mjs", b"requests.mjs"]:
+            test.assertEqual(self.request("GET", module.decode())[0], 200, module)
+        for program in ("session.wasm", "chipbench.wasm"):
+            status, content = self.request("GET", program)
+            test.assertEqual((status, content[:4]), (200, b"\0asm"), program)
+        status, text = self.request("POST", "about", b"{}")
+        test.assertEqual((status, json.loads(text).get("settings")), (200, {}))

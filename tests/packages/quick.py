@@ -160,7 +160,7 @@ class TestNotices(unittest.TestCase):
     def test_notices_of_an_installed_page(self):
         run(TOP / "packaging/chipbench-install", self.folder / "prefix", "--program", given())
         share = self.folder / "prefix/share/chipbench"
-        ask = "import html, documents, games, one_file; print(documents.document('THIRD-PARTY') in html.unescape(one_file.game_template()))"
+        ask = "import html, served; print(served.served_files()['THIRD-PARTY'].read_text() in html.unescape(served.content_of('game.html', {})[1].decode()))"
         done = run(sys.executable, "-B", "-c", ask, env={"PYTHONPATH": str(share / "page")}, cwd="/")
         self.assertEqual(done.decode(), "True\n")
 
@@ -414,7 +414,7 @@ class TestLaunchers(unittest.TestCase):
 
     def test_page_of_the_repository_answers(self):
         launcher = self.link(TOP / "packaging/chipbench-page")
-        with Page(launcher, "--program", program(), cwd="/") as page:
+        with Page(launcher, cwd="/") as page:
             page.check(self)
 
     def test_language_server_answers(self):

@@ -8,7 +8,6 @@ import { rowOfWord, rowsOf, tokensOf } from './language.mjs';
 export class AboutLine {
   #editor;
   #assembled;
-  #explains;
   #explain;
   #state = byId('line-state');
   #count = byId('fault-count');
@@ -16,11 +15,10 @@ export class AboutLine {
   #hover = byId('hover');
   #told = '';
 
-  /** `assembled()` is what is known of the text; `explain(code)` tells more of a code, where `explains`. */
-  constructor(editor, { assembled, explains, explain }) {
+  /** `assembled()` is what is known of the text; `explain(code)` tells more of a code. */
+  constructor(editor, { assembled, explain }) {
     this.#editor = editor;
     this.#assembled = assembled;
-    this.#explains = explains;
     this.#explain = explain;
     const paper = byId('paper');
     editor.addEventListener('cursor', () => this.#tellLine());
@@ -52,7 +50,6 @@ export class AboutLine {
     this.#state.textContent = said === '' && about !== '' ? `${text}; ${about}` : text;
     if (said === '') return;
     this.#state.append(`; ${said}`);
-    if (!this.#explains) return;
     const button = element('button', { type: 'button', textContent: 'Explain', title: 'F1' });
     button.addEventListener('click', () => this.#explain(fault));
     this.#state.append(button);

@@ -22,8 +22,7 @@ export class BackgroundSearch extends EventTarget {
   state = { name: 'off', step: 0, states: 0, found: null, why: '' };
 
   /**
-   * `command` is the program's, and the name of the request. `hasRun()` says whether the source has no fault; `ask` is the request to
-   * the bridge.
+   * `command` is the program's, and the name of the request. `hasRun()` says whether the source has no fault; `ask` carries out requests.
    */
   constructor(model, { command, hasRun, ask = request }) {
     super();

@@ -2,6 +2,7 @@
 
 import { request } from './bridge.mjs';
 import { byId, setText } from './dom.mjs';
+import { sourceOf } from './image_source.mjs';
 import { KeyHistory } from './key_history.mjs';
 import { KeyScript } from './key_script.mjs';
 import { notice, takeAway } from './notices.mjs';
@@ -86,7 +87,8 @@ export class Documents extends EventTarget {
 
   /** Opens the document that the tab had, or that of the bridge. Returns what the browser kept of it, or null. */
   async begin() {
-    if (this.#about.name !== null) this.#open = this.#about.isImage ? imageDocument(this.#about) : fileDocument(this.#about);
+    if (this.#about.isImage) await this.#beginWithImage();
+    else if (this.#about.name !== null) this.#open = fileDocument(this.#about);
     const kept = tabDocument.read(this.#about.start);
     if (kept !== null && kept.slot !== this.#open.slot) {
       const found = kept.isFile ? await request('read', { name: kept.name }).then(fileDocument).catch(() => null) : elsewhere(kept.name, null);
@@ -96,6 +98,15 @@ export class Documents extends EventTarget {
     const isNew = (entry) => entry.slot === this.#open.slot && entry.kind !== 'save' && entry.told !== true;
     if (this.earlier.some(isNew)) this.#offerEarlier('');
     return opened;
+  }
+
+  async #beginWithImage() {
+    const { name, text, digest } = this.#about;
+    try {
+      this.#open = imageDocument({ name, text: await sourceOf(text), digest });
+    } catch (fault) {
+      notice('upload', `${name} can't be opened: ${fault.message}.`, { bad: true });
+    }
   }
 
   /** Shows the document that is open now, with what the browser kept of it, which is returned. */

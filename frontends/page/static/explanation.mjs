@@ -3,7 +3,7 @@
 import { request } from './bridge.mjs';
 import { byId, element } from './dom.mjs';
 
-const NAMED = /docs\/([A-Z]+)\.md/;
+const NAMED = /docs\/([A-Z]+\.md)/;
 
 /** Shows a text under a title; each document that it names is a button. */
 export function showExplanation(title, text) {
@@ -16,7 +16,7 @@ export function showExplanation(title, text) {
 function documentButton(path, code) {
   const button = element('button', { type: 'button', className: 'link', textContent: path, title: 'Opens this document here' });
   button.addEventListener('click', async () => {
-    const { text } = await request('document', { name: NAMED.exec(path)[1] }).catch(() => ({ text: null }));
+    const { text } = await request('text', { name: NAMED.exec(path)[1] }).catch(() => ({ text: null }));
     if (text === null) button.replaceWith(`${path} (it isn't here)`);
     else showDocument(path, text, code);
   });

@@ -19,7 +19,7 @@ export class FaultHelp {
   /** The text whose card the author closed. */
   #closed = null;
 
-  /** `explain(code)` tells more of a code, or is null where the program can't. */
+  /** `explain(code)` tells more of a code. */
   constructor(editor, model, explain) {
     this.#editor = editor;
     this.#model = model;
@@ -82,7 +82,7 @@ export class FaultHelp {
 
   #draw(line, { code, sentence, help }) {
     const buttons = this.#shown.fixes.map((fix, place) => this.#button(fix.title, place === 0 ? 'Alt+Enter' : '', () => this.#take(fix)));
-    if (this.#explain !== null) buttons.push(this.#button('More', 'F1', () => this.#explain(code)));
+    buttons.push(this.#button('More', 'F1', () => this.#explain(code)));
     const isMarked = this.#editor.lines[line - 1].startsWith(BYTE_ORDER_MARK);
     const all = isMarked ? [...help, 'a byte order mark, which isn\'t seen, stands before the line'] : help;
     const told = [element('strong', { textContent: code }), ` ${sentence}`, ...all.map((one) => element('span', { textContent: one }))];

@@ -5,6 +5,7 @@ import { request } from './bridge.mjs';
 import { byId, element, grouped } from './dom.mjs';
 import { download, readByteString } from './files.mjs';
 import { readGame, writeGame } from './game_file.mjs';
+import { sourceOf } from './image_source.mjs';
 import { readKeys, writeKeys } from './key_script.mjs';
 import { notice, takeAway } from './notices.mjs';
 import { writeFile } from './text_form.mjs';
@@ -214,13 +215,4 @@ export class FileDialogs {
 function kindOf(name) {
   if (/\.keys$/i.test(name)) return 'keys';
   return /\.(ch8|rom|bin)$/i.test(name) ? 'image' : 'source';
-}
-
-/** The source text of an image, by the program's own `dis`. */
-async function sourceOf(image) {
-  const { status, output, errors } = await request('word', { word: 'dis', content: image });
-  if (status === 2) throw new Error('this program has no command `dis`, which prints a source of an image');
-  const reason = /^reason: (.*)$/m.exec(errors)?.[1] ?? errors.trim();
-  if (status !== 0) throw new Error(reason || `the program ended with status ${status}`);
-  return output;
 }

@@ -1,4 +1,4 @@
-// Finds the next step, or the last one before, at which something holds. The bridge reads the lines of `trace` for it, a part of
+// Finds the next step, or the last one before, at which something holds. The lines of `trace` are read for it, a part of
 // the run in each request. A value that only ever grows is found by bisection; a byte of the memory by the steps that write it.
 
 import { hex, readBytes, refusal } from './answers.mjs';

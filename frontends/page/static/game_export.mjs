@@ -12,11 +12,10 @@ export class GameExport {
   #workbench;
   #documents;
 
-  constructor({ model, workbench, documents }, isThere) {
+  constructor({ model, workbench, documents }) {
     this.#model = model;
     this.#workbench = workbench;
     this.#documents = documents;
-    byId('export-game').hidden = !isThere;
     byId('export-game').addEventListener('click', () => this.#export());
   }
 

@@ -85,7 +85,7 @@ const readKey = (word) => readNumber(/^[a-f]$/i.test(word) ? `#${word}` : word);
 
 /**
  * Reads a text of key events that the program takes: `STEP KEY down` or `up` in a line, a `;` before a comment, numbers as in a
- * script, and letters A to F as keys. Which texts it takes the program says (`keys` of the bridge); what can't be read is thrown with its line.
+ * script, and letters A to F as keys. Which texts it takes the program says (the request `keys`); what can't be read is thrown with its line.
  */
 export function readKeys(text) {
   const events = text.split('\n').flatMap((line, place) => {

@@ -77,12 +77,11 @@ class Page {
   }
 
   #makeSource() {
-    const explains = this.#about.words.includes('explain');
     this.editor = new Editor(this.model);
-    this.aboutLine = new AboutLine(this.editor, { assembled: () => this.viewer.assembled, explains, explain: (code) => this.explain(code) });
+    this.aboutLine = new AboutLine(this.editor, { assembled: () => this.viewer.assembled, explain: (code) => this.explain(code) });
     this.completion = new Completion(this.editor, () => this.viewer.assembled.symbols);
     this.findBar = new FindBar(this.editor);
-    this.faultHelp = new FaultHelp(this.editor, this.model, explains ? (code) => this.explain(code) : null);
+    this.faultHelp = new FaultHelp(this.editor, this.model, (code) => this.explain(code));
     this.faultPlaces = new FaultPlaces(this.model, (places) => {
       this.editor.showPlaces(places);
     });
@@ -98,7 +97,7 @@ class Page {
     this.sprite = new SpriteView(this.editor);
     this.keypad = new Keypad(this.player);
     this.events = new EventsView(this.model);
-    this.settings = new SettingsView(this.model, this.#about.options, this.appearance);
+    this.settings = new SettingsView(this.model, this.appearance);
     this.sound = new Sound();
   }
 
@@ -118,7 +117,7 @@ class Page {
     };
     this.runControl = new RunControl(this.editor, { search: this.search, machine });
     const scan = (question) => this.workbench.steps(this.model.wanted, question);
-    this.player.guard = new BreakGuard(this.model, { addresses: () => this.#breakAddresses, scan });
+    this.player.guard = new BreakGuard(this.model, { addresses: () => this.runControl.breakAddresses, scan });
     const hasRun = async () => {
       await this.viewer.settle();
       return this.viewer.machine?.code === null;
@@ -131,7 +130,7 @@ class Page {
     });
   }
 
-  /** The searches that go on beside the author's work, where the program has their commands. */
+  /** The searches that go on beside the author's work. */
   #makeBackground(hasRun) {
     const states = () => propertiesIn(this.model.wanted.lines).length > 0;
     this.crashes = new Crashes(this.model, hasRun);
@@ -143,19 +142,11 @@ class Page {
       goToLine: (line) => this.#goToLine(line),
       isInSight: () => this.appearance.tab === 'properties',
     });
-    const { words } = this.#about;
-    byId('tab-crashes').hidden = !words.includes('explore');
-    byId('tab-properties').hidden = !words.includes('prove');
   }
 
   #beginBackground() {
-    if (this.#about.words.includes('explore')) this.crashes.start();
-    if (this.#about.words.includes('prove')) this.properties.start();
-  }
-
-  /** Where the run stops at breakpoints; nowhere where the program can't search for them. */
-  get #breakAddresses() {
-    return this.#about.words.includes('trace') ? this.runControl.breakAddresses : [];
+    this.crashes.start();
+    this.properties.start();
   }
 
   #makeFiles() {
@@ -164,7 +155,7 @@ class Page {
     const parts = { documents: this.documents, model: this.model, workbench: this.workbench };
     this.files = new FileDialogs(this.#about, parts);
     this.exports = new Exports(parts);
-    this.gameExport = new GameExport(parts, this.#about.exportsGames === true);
+    this.gameExport = new GameExport(parts);
     this.start = new StartPage({ documents: this.documents, editor: this.editor });
   }
 
@@ -212,7 +203,6 @@ class Page {
     byId('show-find').addEventListener('click', () => this.#act('find'));
     byId('show-help').addEventListener('click', () => byId('help').showModal());
     byId('licences').addEventListener('toggle', showLicences);
-    byId('download-case').hidden = !this.#about.words.includes('test');
     for (const menu of document.querySelectorAll('.menu')) this.#listenToMenu(menu);
     listen({ player: this.player, look: () => this.model.look, act: (name) => this.#act(name) });
   }
@@ -303,7 +293,7 @@ class Page {
     const all = new Map([...faults, ...this.model.withheld]);
     this.editor.show(listing, all);
     this.aboutLine.showFaults();
-    if (faults.size > 0 && this.#about.words.includes('check')) this.faultPlaces.askLater();
+    if (faults.size > 0) this.faultPlaces.askLater();
     this.search.showNames();
     this.coverage.forget();
   }
@@ -369,16 +359,12 @@ class Page {
     // the addresses are of a text that is answered no more
     this.viewer.forget();
     this.editor.show([], new Map());
-    tellFault(fault, { again: () => this.viewer.refresh(), takeBack: () => this.workbench.takeBack() });
+    tellFault(fault, () => this.viewer.refresh());
   }
 
   async explain(code) {
-    let text = codeText(code);
-    if (this.#about.words.includes('explain')) {
-      const { status, output } = await request('word', { word: 'explain', code }).catch(() => ({ status: -1 }));
-      if (status === 0) text = output;
-    }
-    showExplanation(code, text);
+    const { status, output } = await request('word', { word: 'explain', code }).catch(() => ({ status: -1 }));
+    showExplanation(code, status === 0 ? output : codeText(code));
   }
 }
 

@@ -1,8 +1,8 @@
-// What goes wrong between the page, its bridge and the program, as the author is told of it.
+// What goes wrong between the page and the program, as the author is told of it.
 
 import { BridgeFault } from './bridge.mjs';
 import { notice } from './notices.mjs';
-import { ProgramEnded, TakenOver } from './workbench.mjs';
+import { ProgramEnded } from './workbench.mjs';
 
 /** What ended a program: its own status, or a signal of the system. */
 export function endOf(status) {
@@ -15,17 +15,9 @@ export function tellEnd(status, text) {
   notice('ended', `The program ended${endOf(status)}${text ? `: ${text}` : ''}. It runs again, and nothing is lost.`);
 }
 
-/** `again()` asks anew; `takeBack()` takes the program from another window. */
-export function tellFault(fault, { again, takeBack }) {
-  if (fault instanceof TakenOver) {
-    const choices = [['Use it here', () => { takeBack(); again(); }]];
-    notice('fault', 'Another window uses the program. Nothing is lost here.', { bad: true, choices });
-  } else if (fault instanceof BridgeFault && fault.status === 0) {
-    const text = 'The bridge gives no answer. Your text and keys are kept in this browser: start packaging/chipbench-page again, and open its new address.';
-    notice('fault', text, { bad: true, choices: [['Try again', again]] });
-  } else {
-    const kind = fault instanceof BridgeFault ? 'The bridge refused' : fault instanceof ProgramEnded ? 'No answer' : 'An error of this page';
-    notice('fault', `${kind}: ${fault.message}. Nothing is lost; change something, or try again.`, { bad: true, choices: [['Try again', again]] });
-    if (!(fault instanceof BridgeFault || fault instanceof ProgramEnded)) console.error(fault);
-  }
+/** What the author is told where a question has no answer; `again()` asks anew. */
+export function tellFault(fault, again) {
+  const kind = fault instanceof BridgeFault ? 'The program refused' : fault instanceof ProgramEnded ? 'No answer' : 'An error of this page';
+  notice('fault', `${kind}: ${fault.message}. Nothing is lost; change something, or try again.`, { bad: true, choices: [['Try again', again]] });
+  if (!(fault instanceof BridgeFault || fault instanceof ProgramEnded)) console.error(fault);
 }

@@ -1,4 +1,4 @@
-// The dialog of the settings that the program takes.
+// The dialog of the settings.
 
 import { byId, setText } from './dom.mjs';
 import { machineText, QuirkSwitches } from './quirks.mjs';
@@ -12,20 +12,14 @@ export class SettingsView {
   #dialog = byId('settings');
   #form = this.#dialog.querySelector('form');
   #model;
-  #known;
   #quirks;
 
   #appearance;
 
-  /** `known` are the names of the options that the program takes. */
-  constructor(model, known, appearance) {
+  constructor(model, appearance) {
     this.#model = model;
     this.#appearance = appearance;
-    this.#known = new Set(known);
-    for (const part of this.#form.querySelectorAll('[data-option]')) part.hidden = !this.#known.has(part.dataset.option);
     this.#quirks = new QuirkSwitches(byId('settings-quirks'), this.#form.elements.profile);
-    const lacking = ['profile', 'quirks', 'every'].filter((name) => !this.#known.has(name)).map((name) => `--${name}`);
-    byId('settings-lack').textContent = lacking.length === 0 ? '' : `This program doesn't take ${lacking.join(' and ')} yet.`;
     this.#form.addEventListener('submit', (event) => {
       if (event.submitter?.value === 'apply') this.#apply();
     });
@@ -42,11 +36,10 @@ export class SettingsView {
     }
   }
 
-  /** The settings in a few words: the profile and what differs from it, where the program has several, the rate and the random bytes. */
+  /** The settings in a few words: the profile and what differs from it, the rate and the random bytes. */
   #summary() {
     const { rate, seed, tape } = this.#model.options;
-    const words = this.#known.has('profile') ? [machineText(this.#model.options)] : [];
-    words.push(`rate ${rate ?? '10'}`);
+    const words = [machineText(this.#model.options), `rate ${rate ?? '10'}`];
     if (seed !== undefined) words.push(`seed ${seed}`);
     else if (tape !== undefined) words.push(tape.length > TAPE_SHOWN ? `tape of ${tape.length / 2} bytes` : `tape ${tape}`);
     return words.join(', ');
@@ -99,8 +92,8 @@ export class SettingsView {
     const random = elements.random.value;
     const options = { rate: elements.rate.value };
     if (random !== 'none' && elements[random].value !== '') options[random] = elements[random].value;
-    for (const name of ['profile', 'every']) if (this.#known.has(name)) options[name] = elements[name].value;
-    if (this.#known.has('quirks') && this.#quirks.list !== '') options.quirks = this.#quirks.list;
+    for (const name of ['profile', 'every']) options[name] = elements[name].value;
+    if (this.#quirks.list !== '') options.quirks = this.#quirks.list;
     return options;
   }
 }

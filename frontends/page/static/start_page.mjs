@@ -8,7 +8,7 @@ import { TEMPLATE } from './template.mjs';
 
 const WIDTH = 128;
 const HEIGHT = 64;
-/** The names that the bridge has, what each shows, and the step of its picture. */
+/** The names of the examples, what each shows, and the step of its picture. */
 const EXAMPLES = [
   ['bounce', 'A ball in a box, in 27 lines. It needs no key.', 300],
   ['breaker', 'Bricks, a ball and a paddle. Key 5 serves, 4 and 6 move.', 3000],

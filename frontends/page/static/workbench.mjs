@@ -13,39 +13,27 @@ const LARGEST_STEP = 999_999_999;
 const LIKELY_STEPS = [1_000_000, 1_000_001];
 const NO_SUCH_KEY = 16;
 
-/** Another window has started the program anew; this one may do so in turn. */
-export class TakenOver extends Error {}
-
 /** The program ended and wouldn't do otherwise when it was asked again. */
 export class ProgramEnded extends Error {}
 
 export class Workbench {
   #request;
   #onEnded;
-  #session = null;
   #sent = 0;
   #held = null;
   #turn = Promise.resolve();
   /** The requests on their way that change nothing. */
   #asked = new Set();
-  #taken = false;
 
   /** The greatest step that the program takes, found by trying. */
   lastStep = 0;
   /** How often the program was started; for tests and the status line. */
   starts = 0;
 
-  /** `onEnded(status, text)` is told when the program ended by itself. `ask` is the request to the bridge. */
+  /** `onEnded(status, text)` is told when the program ended by itself. `ask` carries out requests. */
   constructor({ onEnded = () => {}, ask = request } = {}) {
     this.#onEnded = onEnded;
     this.#request = ask;
-  }
-
-  /** Lets the next request start the program anew, after another window had taken it. */
-  takeBack() {
-    this.#taken = false;
-    this.#held = null;
-    this.#session = null;
   }
 
   /**
@@ -60,7 +48,7 @@ export class Workbench {
 
   /** Resolves when the next request may begin, with the answers, which may come later. */
   async #begin(wanted, questions) {
-    if (!this.#taken && this.#held === wanted && this.#sent + questions.length <= COMMANDS_A_SESSION) {
+    if (this.#held === wanted && this.#sent + questions.length <= COMMANDS_A_SESSION) {
       return { answers: this.#askOnly(wanted, questions) };
     }
     await Promise.allSettled(this.#asked);
@@ -69,7 +57,7 @@ export class Workbench {
 
   /** Asks a program that holds what is wanted. Where it ends, it is started anew in turn, and asked again. */
   async #askOnly(wanted, questions) {
-    const sent = this.#send('ask', { session: this.#session, commands: questions });
+    const sent = this.#send('ask', { commands: questions });
     const forget = () => this.#asked.delete(sent);
     this.#asked.add(sent);
     sent.then(forget, forget);
@@ -83,7 +71,6 @@ export class Workbench {
   }
 
   async #answer(wanted, questions) {
-    if (this.#taken) throw new TakenOver();
     try {
       const edits = this.#editsFor(wanted);
       if (edits === null || this.#sent + edits.length + questions.length > COMMANDS_A_SESSION) {
@@ -96,15 +83,13 @@ export class Workbench {
     }
   }
 
-  /** After a fault of the bridge it isn't known what the program holds. */
+  /** After a fault of a request it isn't known what the program holds. */
   #throwFault(fault) {
     if (fault instanceof BridgeFault) this.#held = null;
-    if (!(fault instanceof BridgeFault && fault.status === 409)) throw fault;
-    this.#taken = true;
-    throw new TakenOver();
+    throw fault;
   }
 
-  /** Which steps of a run have something: a question of finder.mjs, which the bridge asks of a program of its own. */
+  /** Which steps of a run have something: a question of finder.mjs, which another program answers than the session. */
   async steps(wanted, question) {
     const about = { source: sourceOf(wanted), keys: writeKeys(wanted.keys), options: wanted.options };
     const { refused, ...found } = await this.#request('search', { ...about, ...question });
@@ -121,7 +106,7 @@ export class Workbench {
   }
 
   async #ask(wanted, edits, questions) {
-    const reply = await this.#send('ask', { session: this.#session, commands: [...edits, ...questions] });
+    const reply = await this.#send('ask', { commands: [...edits, ...questions] });
     const refused = reply.answers.slice(0, edits.length).some((answer) => answer !== 'ok\n');
     if (!reply.ended && !refused) {
       this.#held = wanted;
@@ -136,7 +121,7 @@ export class Workbench {
   /** Asks a program that was just started: it isn't started again where it ends now. */
   async #askStarted(questions) {
     if (questions.length === 0) return [];
-    const reply = await this.#send('ask', { session: this.#session, commands: questions });
+    const reply = await this.#send('ask', { commands: questions });
     if (reply.ended) this.#throwEnded(reply.ended);
     return reply.answers;
   }
@@ -148,7 +133,7 @@ export class Workbench {
     const source = sourceOf(wanted);
     const events = keyCommands(new KeyScript(), wanted.keys);
     const probes = this.lastStep === 0 ? probesOf(LIKELY_STEPS) : [];
-    const reply = await this.#send('open', { session: this.#session, source, options: wanted.options, commands: [...events, ...probes] });
+    const reply = await this.#send('open', { source, options: wanted.options, commands: [...events, ...probes] });
     if (reply.ended) this.#throwEnded(reply.ended);
     const answers = reply.answers.slice(0, events.length);
     const place = answers.findIndex((answer) => answer !== 'ok\n');
@@ -163,7 +148,7 @@ export class Workbench {
     let [low, high] = isLikely ? [LIKELY_STEPS[1], LARGEST_STEP] : [0, LIKELY_STEPS[0] - 1];
     while (low < high) {
       const middle = Math.ceil((low + high) / 2);
-      const reply = await this.#send('ask', { session: this.#session, commands: probesOf([middle]) });
+      const reply = await this.#send('ask', { commands: probesOf([middle]) });
       if (reply.ended) this.#throwEnded(reply.ended);
       if (isTaken(reply.answers[0])) low = middle;
       else high = middle - 1;
@@ -171,11 +156,9 @@ export class Workbench {
     return low;
   }
 
-  async #send(name, body) {
+  #send(name, body) {
     this.#sent += body.commands.length;
-    const reply = await this.#request(name, body);
-    this.#session = reply.session;
-    return reply;
+    return this.#request(name, body);
   }
 
   #throwEnded({ status, text }) {

@@ -31,7 +31,7 @@ OF_THE_BRIDGE = {
     for name in (
         "reload", "save", "open_takes_the_title", "an_image", "save_as", "text_before_a_save", "a_file_that_changes_on_the_disk", "a_file_that_cannot_be_saved",
         "a_full_disk", "a_hundred_connections", "an_address_without_its_last_slash", "faulty_arguments", "the_file_that_a_browser_is_given", "texts_of_two_windows",
-        "two_windows", "a_program_that_is_killed", "a_bridge_that_is_gone", "a_file_is_followed", "a_name_without_an_end", "a_window_that_lost_the_program",
+        "a_bridge_that_is_gone", "a_file_is_followed", "a_name_without_an_end",
         "the_text_before_is_told_once", "notices_go",
     )
 }  # fmt: skip

@@ -132,7 +132,7 @@ class PageTests:
     @contextlib.contextmanager
     def bridge_on(self, opened: list[str], words: tuple[str, ...]) -> Iterator[Browser]:
         self.bridge = subprocess.Popen(
-            [sys.executable, "-B", str(self.page_folder / "bridge.py"), "--program", self.program, "--no-open", "--port", "0", *words, *opened],
+            [sys.executable, "-B", str(self.page_folder / "bridge.py"), "--no-open", "--port", "0", *words, *opened],
             stdout=subprocess.PIPE,
             stderr=subprocess.DEVNULL,
             text=True,

@@ -205,13 +205,10 @@ class RunTests(PageTests):
             self.check_step("LD V0, K\n", 4, ["kins 3 5 down"])
 
     def test_profile(self) -> None:
-        """Where the program has profiles and a spacing of checkpoints, they can be chosen; else that is said."""
+        """It is chosen in the settings, as is the spacing of checkpoints."""
         text = "LD V0, #81\nLD V1, 6\nSHR V0, V1\n"
         with self.page(text) as browser:
             browser.click("#show-settings")
-            if browser.value("document.querySelector('[data-option=profile]').hidden"):
-                assert "--profile" in self.text_of("#settings-lack")
-                return
             self.choose("profile", "vip")
             self.choose("every", "5000")
             browser.click("#settings [value=apply]")
@@ -236,9 +233,6 @@ class RunTests(PageTests):
         words = ("--profile", "octo", "--quirks", "shift=vx,edges=clip")
         with self.page(text) as browser:
             browser.click("#show-settings")
-            if browser.value("document.querySelector('[data-option=quirks]').hidden"):
-                assert "--quirks" in self.text_of("#settings-lack")
-                return
             shown = "Object.fromEntries([...document.querySelectorAll('#settings-quirks select')].map(({ name, value }) => [name.replace('quirk-', ''), value]))"
             octo = {"shift": "vy", "memory": "x+1", "jump": "v0", "logic": "keep", "edges": "wrap", "dxy0": "16x16", "scroll": "whole", "size": "clear", "fx1e": "keep", "instructions": "super"}
             assert browser.value(shown) == {**octo, "shift": "vx", "memory": "keep", "jump": "vx", "edges": "clip", "dxy0": "8x16", "scroll": "stored", "size": "keep"}

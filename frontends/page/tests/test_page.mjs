@@ -15,7 +15,7 @@ import { BreakGuard } from '../static/break_guard.mjs';
 import { Player } from '../static/player.mjs';
 import { SourceMap } from '../static/source_map.mjs';
 import { decodeText, encodeText, programLines, readFile, writeFile } from '../static/text_form.mjs';
-import { ProgramEnded, TakenOver, Workbench } from '../static/workbench.mjs';
+import { ProgramEnded, Workbench } from '../static/workbench.mjs';
 import { BridgeFault } from '../static/bridge.mjs';
 
 /** A generator of numbers below a bound, the same in each run. */
@@ -210,57 +210,55 @@ test('numbers', () => {
   assert.deepEqual(['#1F', '0x1f', '31', ' 31 ', 'loop', '', '#', '1f', '-1', 'NONE'].map((text) => readNumber(text, symbols)), [31, 31, 31, 31, 514, null, null, null, null, null]);
 });
 
-/** A bridge over a small program that holds lines and events, and ends when it is asked `die`. */
-function fakeBridge({ lastStep = 5000, dies = Infinity } = {}) {
-  const bridge = { session: 0, lines: [], keys: new Map(), log: [], deaths: 0 };
+/** Requests to a small program that holds lines and events, and ends when it is asked `die`. */
+function fakeProgram({ lastStep = 5000, dies = Infinity } = {}) {
+  const program = { lines: [], keys: new Map(), log: [], deaths: 0 };
   const answer = (command) => {
     const [word, ...words] = command.split(' ');
-    if (/^(ins|rep|del)$/.test(word)) bridge.lines = carriedOut(bridge.lines, [command]).now;
+    if (/^(ins|rep|del)$/.test(word)) program.lines = carriedOut(program.lines, [command]).now;
     if (word === 'kdel' && Number(words[0]) > lastStep) return 'no N5\n';
     if (word === 'kdel' && words[1] === '16') return 'no N6\n';
-    if (/^k/.test(word)) bridge.keys.set(`${words[0]} ${words[1]}`, words[2]);
-    if (word === 'kdel') bridge.keys.delete(`${words[0]} ${words[1]}`);
+    if (/^k/.test(word)) program.keys.set(`${words[0]} ${words[1]}`, words[2]);
+    if (word === 'kdel') program.keys.delete(`${words[0]} ${words[1]}`);
     if (word === 'refuse') return 'no C1\n';
-    return /^(ins|rep|del|k)/.test(word) ? 'ok\n' : `${bridge.lines.join('|')}\n`;
+    return /^(ins|rep|del|k)/.test(word) ? 'ok\n' : `${program.lines.join('|')}\n`;
   };
-  bridge.ask = async (name, { session, source, commands }) => {
-    bridge.log.push([name, commands]);
+  program.ask = async (name, { source, commands }) => {
+    program.log.push([name, commands]);
     if (name === 'open') {
-      if (session !== null && session !== bridge.session) throw new BridgeFault(409, 'another window');
-      bridge.session += 1;
-      bridge.lines = source.split('\n').slice(0, -1);
-      bridge.keys = new Map();
-    } else if (session !== bridge.session) throw new BridgeFault(409, 'another window');
-    const deadly = commands.indexOf('die');
-    if (deadly >= 0 && bridge.deaths < dies) {
-      bridge.deaths += 1;
-      return { session: bridge.session, answers: commands.slice(0, deadly).map(answer), ended: { status: 4, text: 'out of memory' } };
+      program.lines = source.split('\n').slice(0, -1);
+      program.keys = new Map();
     }
-    return { session: bridge.session, answers: commands.map(answer) };
+    const deadly = commands.indexOf('die');
+    if (deadly >= 0 && program.deaths < dies) {
+      program.deaths += 1;
+      return { answers: commands.slice(0, deadly).map(answer), ended: { status: 4, text: 'out of memory' } };
+    }
+    return { answers: commands.map(answer) };
   };
-  return bridge;
+  return program;
 }
 
 const wantedOf = (lines, keys = new KeyScript(), options = {}) => ({ lines, keys, options });
 
 test('workbench: the first question opens, an edit is one command, and the last step is found', async () => {
-  const bridge = fakeBridge();
-  const workbench = new Workbench({ ask: bridge.ask });
+  const program = fakeProgram();
+  const workbench = new Workbench({ ask: program.ask });
   const first = wantedOf(['A', 'B', 'C'], new KeyScript().with(3, 5, true));
   assert.deepEqual(await workbench.answers(first, ['image']), ['A|B|C\n']);
   assert.equal(workbench.lastStep, 5000);
-  assert.equal(bridge.keys.get('3 5'), 'down');
+  assert.equal(program.keys.get('3 5'), 'down');
   const second = { ...first, lines: ['A', 'X', 'C'], keys: first.keys.with(9, 5, false) };
   assert.deepEqual(await workbench.answers(second, ['image']), ['A|X|C\n']);
-  assert.deepEqual(bridge.log.at(-1), ['ask', ['rep 2 X', 'kins 9 5 up', 'image']]);
+  assert.deepEqual(program.log.at(-1), ['ask', ['rep 2 X', 'kins 9 5 up', 'image']]);
   assert.deepEqual(await workbench.answers(second, ['image', 'image']), ['A|X|C\n', 'A|X|C\n']);
-  assert.deepEqual(bridge.log.at(-1), ['ask', ['image', 'image']]);
+  assert.deepEqual(program.log.at(-1), ['ask', ['image', 'image']]);
   assert.equal(workbench.starts, 1);
 });
 
 test('workbench: other options start the program anew, as do too many changes and commands', async () => {
-  const bridge = fakeBridge();
-  const workbench = new Workbench({ ask: bridge.ask });
+  const program = fakeProgram();
+  const workbench = new Workbench({ ask: program.ask });
   const first = wantedOf(['A']);
   await workbench.answers(first, ['image']);
   await workbench.answers({ ...first, options: { rate: '7' } }, ['image']);
@@ -274,53 +272,39 @@ test('workbench: other options start the program anew, as do too many changes an
 });
 
 test('workbench: questions at the same time are answered in turn, each about what it wants', async () => {
-  const bridge = fakeBridge();
-  const workbench = new Workbench({ ask: bridge.ask });
+  const program = fakeProgram();
+  const workbench = new Workbench({ ask: program.ask });
   const replies = await Promise.all(Array.from({ length: 20 }, (_, place) => workbench.answers(wantedOf([`L${place}`]), ['image'])));
   assert.deepEqual(replies.flat(), Array.from({ length: 20 }, (_, place) => `L${place}\n`));
 });
 
 test('workbench: a program that ends is told, started again with everything, and asked again', async () => {
-  const bridge = fakeBridge({ dies: 1 });
+  const program = fakeProgram({ dies: 1 });
   const ended = [];
-  const workbench = new Workbench({ ask: bridge.ask, onEnded: (...words) => ended.push(words) });
+  const workbench = new Workbench({ ask: program.ask, onEnded: (...words) => ended.push(words) });
   const first = wantedOf(['A', 'B'], new KeyScript().with(3, 5, true));
   await workbench.answers(first, ['image']);
   const second = { ...first, lines: ['A', 'C'] };
   assert.deepEqual(await workbench.answers(second, ['die']), ['A|C\n']);
   assert.deepEqual(ended, [[4, 'out of memory']]);
-  assert.equal(bridge.keys.get('3 5'), 'down');
+  assert.equal(program.keys.get('3 5'), 'down');
 });
 
 test('workbench: a program that ends again and again is told as a fault, and the next question starts it', async () => {
-  const bridge = fakeBridge();
-  const workbench = new Workbench({ ask: bridge.ask });
+  const program = fakeProgram();
+  const workbench = new Workbench({ ask: program.ask });
   const wanted = wantedOf(['A']);
   await workbench.answers(wanted, ['image']);
   await assert.rejects(workbench.answers(wanted, ['die']), (fault) => fault instanceof ProgramEnded && /status 4: out of memory/.test(fault.message));
   assert.deepEqual(await workbench.answers(wanted, ['image']), ['A\n']);
 });
 
-test('workbench: another window takes the program, and this one takes it back', async () => {
-  const bridge = fakeBridge();
-  const one = new Workbench({ ask: bridge.ask });
-  const other = new Workbench({ ask: bridge.ask });
-  await one.answers(wantedOf(['A']), ['image']);
-  await other.answers(wantedOf(['B']), ['image']);
-  await assert.rejects(one.answers(wantedOf(['A']), ['image']), TakenOver);
-  assert.deepEqual(bridge.lines, ['B']);
-  await assert.rejects(one.answers(wantedOf(['A']), ['image']), TakenOver);
-  one.takeBack();
-  assert.deepEqual(await one.answers(wantedOf(['A']), ['image']), ['A\n']);
-  await assert.rejects(other.answers(wantedOf(['B']), ['image']), TakenOver);
-});
-
-test('workbench: a bridge that is gone loses nothing', async () => {
-  const bridge = fakeBridge();
+test('workbench: a request that fails loses nothing', async () => {
+  const program = fakeProgram();
   let gone = false;
   const ask = async (...words) => {
     if (gone) throw new BridgeFault(0, 'gone');
-    return bridge.ask(...words);
+    return program.ask(...words);
   };
   const workbench = new Workbench({ ask });
   await workbench.answers(wantedOf(['A']), ['image']);

@@ -4,7 +4,8 @@ import { spawnSync } from 'node:child_process';
 import fs from 'node:fs';
 import test from 'node:test';
 import '../../page/tests/older_node.mjs';
-import { OPTIONS, ProgramRequests, SessionRequests, WORDS } from '../requests.mjs';
+import { OPTIONS } from '../options.mjs';
+import { ProgramRequests, SessionRequests } from '../requests.mjs';
 import { STATUS } from '../session.mjs';
 import { modules } from './modules.mjs';
 
@@ -17,11 +18,10 @@ test('a session is opened, asked and opened anew', { skip }, () => {
   const requests = new SessionRequests(moduleOf(session));
   const opened = requests.open({ source: 'LD V0, 5\n', options: { rate: '10' }, commands: ['kins 3 1 down'] });
   assert.deepEqual(opened.answers, ['ok\n']);
-  const asked = requests.ask({ session: opened.session, commands: ['image', 'rep 1 LD V0, 6', 'image', 'foo'] });
+  const asked = requests.ask({ commands: ['image', 'rep 1 LD V0, 6', 'image', 'foo'] });
   assert.deepEqual(asked.answers, ['6005\n', 'ok\n', '6006\n', 'no C1\n']);
   const again = requests.open({ source: 'CLS\n', options: {}, commands: ['image'] });
   assert.deepEqual(again.answers, ['00e0\n']);
-  assert.throws(() => requests.ask({ session: opened.session, commands: ['image'] }), { status: 409 });
 });
 
 test('a session takes a profile and quirks', { skip }, () => {
@@ -75,11 +75,9 @@ test('what a command does not take of the settings makes no difference to it', {
   assert.deepEqual(found.steps, [9]);
 });
 
-test('the program has the settings and the commands of which the page knows', { skip }, () => {
+test('the program has the settings that the page knows', { skip }, () => {
   const requests = new ProgramRequests(moduleOf(program));
   assert.deepEqual(requests.optionsOf('debug'), OPTIONS);
-  const { output } = requests.runOnce(['--help']);
-  for (const word of WORDS) assert.match(output, new RegExp(`^ +${word}\\b`, 'm'));
 });
 
 test('a search over all keys is told of while it goes on, and gives the keys that it found', { skip }, () => {

@@ -1,0 +1,46 @@
+// The page as the bridge serves it: its files are those of the bridge, and the program comes from there too, but runs here.
+
+import { BridgeFault } from './bridge.mjs';
+import { carryByWorkers } from './carrier.mjs';
+
+/** Something that the bridge serves, or null where it has no such thing. */
+async function served(name, take) {
+  const reply = await fetch(name).catch(() => null);
+  return reply?.ok ? take(reply) : null;
+}
+
+const textOf = (name) => served(name, (reply) => reply.text());
+const bytesOf = async (name) => new Uint8Array(await served(name, (reply) => reply.arrayBuffer()));
+
+/** A request that the bridge answers. */
+async function posted(name, body = {}) {
+  let reply;
+  try {
+    reply = await fetch(name, { method: 'POST', headers: { 'Content-Type': 'application/json' }, body: JSON.stringify(body) });
+  } catch {
+    throw new BridgeFault(0, 'the bridge gives no answer');
+  }
+  if (!reply.ok) throw new BridgeFault(reply.status, (await reply.text()).trim());
+  return reply.json();
+}
+
+/** The page of an exported game, and the session's module, in base64. */
+async function game() {
+  const template = await textOf('game.html');
+  const binary = await served('session.wasm', (reply) => reply.blob());
+  if (template === null || binary === null) return { template: null, module: null };
+  const address = await new Promise((done) => {
+    const reader = new FileReader();
+    reader.onload = () => done(reader.result);
+    reader.readAsDataURL(binary);
+  });
+  return { template, module: address.slice(address.indexOf(',') + 1) };
+}
+
+const posts = Object.fromEntries(['about', 'files', 'read', 'save'].map((name) => [name, (body) => posted(name, body)]));
+const own = { ...posts, game, text: async ({ name }) => ({ text: await textOf(name) }) };
+const [session, program] = await Promise.all(['session.wasm', 'chipbench.wasm'].map(bytesOf));
+const plain = { createScriptURL: (address) => address };
+const addresses = globalThis.trustedTypes?.createPolicy('worker', plain) ?? plain;
+carryByWorkers(() => new Worker(addresses.createScriptURL('worker.mjs'), { type: 'module' }), { session, program }, own);
+await import('./main.mjs');
