@@ -1,8 +1,8 @@
 #!/usr/bin/env python3
-"""Writes the tables of the language server from those of the documents.
+"""Writes the tables of the language server, and those of the page, from those of the documents.
 
-    frontends/python/generate_tables.py           writes chipbench_lsp/tables.json
-    frontends/python/generate_tables.py --check   writes nothing; the status is 1 where the file isn't what the documents give
+    frontends/python/generate_tables.py           writes chipbench_lsp/tables.json and frontends/page/static/language_table.mjs
+    frontends/python/generate_tables.py --check   writes nothing; the status is 1 where a file isn't what the documents give
 
 Instructions come from the tables of docs/MACHINE.md (with SYS, which docs/LANGUAGE.md alone has), directives and faults from
 docs/LANGUAGE.md, stops from docs/MACHINE.md, the reserved words from crates/chip_lang/specs/Keyword.antt.
@@ -19,6 +19,7 @@ from typing import Any
 PYTHON = Path(__file__).resolve().parent
 TOP = PYTHON.parents[1]
 TABLES = PYTHON / "chipbench_lsp" / "tables.json"
+FOR_THE_PAGE = TOP / "frontends" / "page" / "static" / "language_table.mjs"
 
 
 def read(path: str) -> str:
@@ -96,18 +97,50 @@ def tables() -> dict[str, Any]:
     }
 
 
+def for_the_page(found: dict[str, Any]) -> str:
+    """The module that has the words of the language: instructions as they are under `schip`, directives and the other words."""
+    from chipbench_lsp.tables import CONDITIONS
+
+    def plain(text: str) -> str:
+        return re.sub(r" \(\*own\*[^)]*\)|, see below", "", text).replace("`", "")
+
+    instructions = [
+        {
+            "word": row["word"],
+            "forms": row["forms"],
+            "effect": plain(row["effect"]),
+            "stops": row["stops"],
+            # not an instruction where the quirk `instructions` is `base`
+            "isSuper": row["vip"].startswith("not an instruction"),
+        }
+        for row in found["instructions"]
+    ]
+    directives = {word: {"forms": row["forms"], "effect": plain(CONDITIONS.get(word, row["effect"]))} for word, row in found["directives"].items()}
+    rows = "".join(f"  {json.dumps(row, ensure_ascii=False)},\n" for row in instructions)
+    words = "".join(f"  {json.dumps(word)}: {json.dumps(row, ensure_ascii=False)},\n" for word, row in directives.items())
+    return (
+        "// Written by frontends/python/generate_tables.py of the tables of docs/MACHINE.md and docs/LANGUAGE.md.\n\n"
+        f"/** The instructions, with their effects under `schip`. */\nexport const INSTRUCTIONS = [\n{rows}];\n\n"
+        f"/** The directives. */\nexport const DIRECTIVES = {{\n{words}}};\n\n"
+        f"/** The words besides V0 to VF that stand for parts of the machine. */\nexport const PARTS = {json.dumps(found['parts'])};\n"
+    )
+
+
 def main(arguments: list[str]) -> int:
     is_check = arguments == ["--check"]
     if arguments and not is_check:
         print(__doc__, file=sys.stderr)
         return 2
-    text = json.dumps(tables(), indent=1, ensure_ascii=False) + "\n"
-    if not is_check:
-        TABLES.write_text(text, encoding="utf-8")
-    elif not TABLES.is_file() or TABLES.read_text(encoding="utf-8") != text:
-        print("frontends/python/chipbench_lsp/tables.json isn't what the documents give: run frontends/python/generate_tables.py", file=sys.stderr)
-        return 1
-    return 0
+    found = tables()
+    status = 0
+    for path, make in ((TABLES, lambda: json.dumps(found, indent=1, ensure_ascii=False) + "\n"), (FOR_THE_PAGE, lambda: for_the_page(found))):
+        text = make()
+        if not is_check:
+            path.write_text(text, encoding="utf-8")
+        elif not path.is_file() or path.read_text(encoding="utf-8") != text:
+            print(f"{path.relative_to(TOP)} isn't what the documents give: run frontends/python/generate_tables.py", file=sys.stderr)
+            status = 1
+    return status
 
 
 if __name__ == "__main__":

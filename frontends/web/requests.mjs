@@ -169,6 +169,11 @@ export class ProgramRequests {
     return this.searchOver('prove', { options, files: new Map([['source', bytesOf(source)]]), more: ['--json'] }, tell);
   }
 
+  // Which properties a source states: the answers of `prove` to a run without a step.
+  stated({ source }) {
+    return this.runOnce(['prove', '--steps', '0', '--json', 'source'], new Map([['source', bytesOf(source)]]));
+  }
+
   searchOver(command, { options, files, more }, tell) {
     const words = [command, ...this.argumentsFor(command, options), '--states', `${STATES}`, '--progress', ...more, 'source'];
     const host = new ToldHost(words, files, tell);

@@ -7,6 +7,7 @@ import { rowOfWord, rowsOf, tokensOf } from './language.mjs';
 
 export class AboutLine {
   #editor;
+  #model;
   #assembled;
   #explain;
   #state = byId('line-state');
@@ -16,8 +17,12 @@ export class AboutLine {
   #told = '';
 
   /** `assembled()` is what is known of the text; `explain(code)` tells more of a code. */
-  constructor(editor, { assembled, explain }) {
+  constructor(editor, { model, assembled, explain }) {
     this.#editor = editor;
+    this.#model = model;
+    model.addEventListener('change', ({ detail }) => {
+      if (detail === 'options') this.#tellLine();
+    });
     this.#assembled = assembled;
     this.#explain = explain;
     const paper = byId('paper');
@@ -65,7 +70,7 @@ export class AboutLine {
   #about(line, place) {
     const token = tokensOf(this.#editor.lines[line - 1] ?? '').find(({ start, text }) => start <= place && place <= start + text.length);
     if (token?.kind === 'mnemonic') return this.#aboutInstruction(line, token.text);
-    if (token?.kind === 'directive') return rowsOf(token.text);
+    if (token?.kind === 'directive') return rowsOf(token.text, this.#model.options);
     if (token?.kind !== 'name') return [];
     const symbol = this.#assembled().symbols.find(({ name }) => name === token.text.toUpperCase());
     return symbol === undefined ? [] : [`${symbol.name} = ${symbol.value} (#${hex(symbol.value < 0 ? 2 ** 32 + symbol.value : symbol.value, 3)}), line ${symbol.line}`];
@@ -74,8 +79,8 @@ export class AboutLine {
   /** The form that the line has, where the program has made a word of it; else all forms. */
   #aboutInstruction(line, mnemonic) {
     const { field = '' } = this.#editor.listing[line - 1] ?? {};
-    const row = this.#editor.faultAt(line) === null && /^[0-9a-f]{4}$/.test(field) ? rowOfWord(field) : null;
-    return row !== null && row.startsWith(mnemonic.toUpperCase()) ? [row] : rowsOf(mnemonic);
+    const row = this.#editor.faultAt(line) === null && /^[0-9a-f]{4}$/.test(field) ? rowOfWord(field, this.#model.options) : null;
+    return row !== null && row.startsWith(mnemonic.toUpperCase()) ? [row] : rowsOf(mnemonic, this.#model.options);
   }
 
   #pointed(event) {

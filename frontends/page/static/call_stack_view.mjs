@@ -12,10 +12,12 @@ export class CallStackView {
     this.#goToLine = goToLine;
   }
 
-  show({ code, registers }, { names, map }) {
-    if (code !== null) return;
-    setText(byId('flags'), `flags ${registers.flags.map((flag) => hex(flag, 2)).join(' ')}`);
-    const told = [registers.pc, ...registers.stack.toReversed()].map((address, place) => [address, names.told(address), map.lineAt(address), place]);
+  /** `machine` is null where there is none. */
+  show(machine, { names, map }) {
+    const { flags, pc, stack } = machine?.registers ?? { flags: [], stack: [] };
+    setText(byId('flags'), machine === null ? '' : `flags ${flags.map((flag) => hex(flag, 2)).join(' ')}`);
+    const addresses = machine === null ? [] : [pc, ...stack.toReversed()];
+    const told = addresses.map((address, place) => [address, names.told(address), map.lineAt(address), place]);
     if (JSON.stringify(told) === this.#told) return;
     this.#told = JSON.stringify(told);
     this.#place.replaceChildren(...told.map((row) => this.#row(...row)));

@@ -6,8 +6,8 @@ const TEXTS = {
   ...FAULTS,
   ...STOPS,
   N1: 'no such line',
-  N2: 'over 200 bytes: the program was given an empty line in its place',
-  N3: 'past line 4000: the program wasn\'t given it',
+  N2: 'over 200 bytes',
+  N3: 'there are 4,000 lines already',
   N4: 'the text holds a CR or LF',
   N5: 'the step of the event is too large',
   N6: 'the key is above 15',
@@ -17,8 +17,8 @@ const TEXTS = {
   Q1: 'no image, since a line has a fault',
   Q2: 'the step is too large',
   Q3: 'the bytes asked for pass address 4096',
-  O1: 'a line of the source has over 200 bytes',
-  O2: 'the source has over 4,000 lines',
+  O1: 'over 200 bytes: nothing runs with such a line',
+  O2: 'past line 4,000: nothing runs with so many lines',
 };
 
 export const codeText = (code) => TEXTS[code] ?? 'a code that this page doesn\'t know';

@@ -11,8 +11,8 @@ const LIST_ROW = 20;
 const LIST_EDGE = 10;
 const LIST_WIDTH = 544;
 
-/** What may stand for a word that is being typed: the words that begin with it. */
-export function completionsOf(line, place, symbols, isAsked = false) {
+/** What may stand for a word that is being typed: the words that begin with it, as they are on a machine with these options. */
+export function completionsOf(line, place, symbols, { isAsked = false, options = {} } = {}) {
   const token = tokensOf(line).find(({ start, text }) => start < place && place <= start + text.length);
   if (token !== undefined && !/^[A-Za-z_]/.test(token.text)) return null;
   const begun = token === undefined ? '' : token.text.slice(0, place - token.start);
@@ -20,7 +20,7 @@ export function completionsOf(line, place, symbols, isAsked = false) {
   const before = line.slice(0, place - begun.length).replace(/^\s*\w+:/, '');
   const isStatement = before.trim() === '';
   const names = symbols.map(({ name, value }) => [name, `= ${value}, #${hex(value < 0 ? 2 ** 32 + value : value, 3)}`]);
-  const words = [...MNEMONICS, ...DIRECTIVES.keys()].map((word) => [word, rowsOf(word)[0]]);
+  const words = [...MNEMONICS, ...Object.keys(DIRECTIVES)].map((word) => [word, rowsOf(word, options)[0]]);
   const ofStatements = isStatement ? words : [...names, ...REGISTERS.map((word) => [word, 'register'])];
   const isProperty = propertyStart(line) !== null && place >= propertyStart(line);
   const all = isProperty ? propertyWords(line.slice(0, place - begun.length), names) : ofStatements;
@@ -32,6 +32,7 @@ export function completionsOf(line, place, symbols, isAsked = false) {
 
 export class Completion {
   #editor;
+  #model;
   #symbols;
   #text = byId('source-text');
   #list = byId('completions');
@@ -39,8 +40,9 @@ export class Completion {
   #chosen = 0;
 
   /** `symbols()` are the names of the source. */
-  constructor(editor, symbols) {
+  constructor(editor, model, symbols) {
     this.#editor = editor;
+    this.#model = model;
     this.#symbols = symbols;
     this.#text.addEventListener('keydown', (event) => this.#pressed(event), { capture: true });
     this.#text.addEventListener('input', (event) => (event.inputType === 'insertText' ? this.#look(false) : this.#close()));
@@ -48,9 +50,14 @@ export class Completion {
     byId('editor').addEventListener('scroll', () => this.#close(), { passive: true });
   }
 
+  /** Another document: what was offered is of another text. */
+  close() {
+    this.#close();
+  }
+
   #look(isAsked) {
     const { line, column, start } = this.#editor.cursor;
-    const found = completionsOf(this.#editor.lines[line - 1] ?? '', column, this.#symbols(), isAsked);
+    const found = completionsOf(this.#editor.lines[line - 1] ?? '', column, this.#symbols(), { isAsked, options: this.#model.options });
     if (found === null) this.#close();
     else this.#show({ ...found, lineStart: start });
   }

@@ -30,10 +30,9 @@ class LastSteps {
 }
 
 export class Coverage {
+  #page;
   #model;
   #ask;
-  #map;
-  #show;
   #button = byId('coverage');
   #pc = subject('pc');
   #steps = new LastSteps();
@@ -41,14 +40,13 @@ export class Coverage {
   #of = null;
   #running = false;
 
-  /** `ask(questions)` answers, `map()` is the map of the lines, `show(covered)` shows what is told of each line. */
-  constructor(model, { ask, map, show }) {
-    this.#model = model;
+  /** `page` has the model, the findings and the viewer; `ask(wanted, questions)` answers. */
+  constructor(page, ask) {
+    this.#page = page;
+    this.#model = page.model;
     this.#ask = ask;
-    this.#map = map;
-    this.#show = show;
     this.#button.addEventListener('click', () => this.#turn());
-    model.addEventListener('change', () => {
+    page.model.addEventListener('change', () => {
       if (this.#isOn) this.#run();
     });
   }
@@ -60,13 +58,7 @@ export class Coverage {
   #turn() {
     this.#button.setAttribute('aria-pressed', String(!this.#isOn));
     if (this.#isOn) this.#run();
-    else this.#show(new Map());
-  }
-
-  /** Another text was assembled: what is known is of another run. */
-  forget() {
-    this.#of = null;
-    if (this.#isOn) this.#run();
+    else this.#page.findings.drop('covered');
   }
 
   async #run() {
@@ -89,23 +81,27 @@ export class Coverage {
     const first = steps.count;
     const count = Math.min(BATCH, step + 1 - first);
     if (count > 0) {
-      const answers = await this.#ask(Array.from({ length: count }, (_, place) => this.#pc.question(first + place)));
+      const answers = await this.#ask(wanted, Array.from({ length: count }, (_, place) => this.#pc.question(first + place)));
       if (answers[0].startsWith('no ')) return true;
       if (this.#steps !== steps || this.#of !== wanted) return false;
       steps.add(answers.map(this.#pc.value));
     }
-    this.#tell(step);
+    // the lines of addresses are those of the same text
+    await this.#page.viewer.settle();
+    this.#tell(wanted, step);
     return steps.count > this.#model.step && this.#of === this.#model.wanted && step === this.#model.step;
   }
 
-  #tell(step) {
+  #tell(wanted, step) {
+    if (!this.#isOn || this.#model.wanted !== wanted) return;
+    const { map } = this.#page.viewer.assembled;
     const covered = new Map();
     for (const [pc, last] of this.#steps.upTo(step)) {
-      const line = this.#map().lineAt(pc);
+      const line = map.lineAt(pc);
       if (line !== null && (covered.get(line) ?? -1) < last) covered.set(line, last);
     }
     const told = [...covered].map(([line, last]) => [line, `executed, last at step ${grouped(last)}${last === step ? ', this one' : ''}`]);
-    this.#show(new Map(told));
+    this.#page.findings.take('covered', wanted, new Map(told));
     const isWhole = this.#steps.count > step;
     this.#button.title = isWhole ? `${grouped(covered.size)} lines are executed up to step ${grouped(step)}` : `looked at up to step ${grouped(this.#steps.count)}`;
   }

@@ -1,7 +1,6 @@
 // Whether some key script makes the machine stop, as `explore` finds it beside the author's work.
 
 import { BackgroundSearch } from './background_search.mjs';
-import { request } from './bridge.mjs';
 
 /** A cause and the step of a stop, after which the line may be told that it happens in. */
 const STOP = /^(S\d) (\d+)(?:, line (\d+): .*)?$/;
@@ -29,8 +28,8 @@ export function readExplored(output) {
 /** What is found has `crash`, `within` and `others`, and `keys`, the script under which it stops. */
 export class Crashes extends BackgroundSearch {
   /** An empty source is not searched: it stops at once. */
-  constructor(model, hasRun, ask = request) {
-    super(model, { command: 'explore', hasRun: async () => model.text.trim() !== '' && hasRun(), ask });
+  constructor({ model, findings, hasRun, ask }) {
+    super({ model, findings, command: 'explore', hindrance: async () => (model.text.trim() === '' ? 'empty' : (await hasRun()) ? null : 'faulty'), ask });
   }
 
   read({ result }, isWhole) {

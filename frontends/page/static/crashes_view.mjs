@@ -23,7 +23,7 @@ export class CrashesView {
     model.addEventListener('change', ({ detail }) => {
       if (detail === 'keys') this.#draw();
     });
-    this.#switch.addEventListener('click', () => (crashes.isOn ? crashes.stop() : crashes.start()));
+    this.#switch.addEventListener('click', () => (crashes.isBusy ? crashes.stop() : crashes.start()));
     this.#show.addEventListener('click', () => this.showCrash());
     this.#mine.addEventListener('click', () => model.undoKeys());
     this.#draw();
@@ -42,17 +42,16 @@ export class CrashesView {
   }
 
   #draw() {
-    const { isOn, state } = this.#crashes;
+    const { isBusy, state } = this.#crashes;
     const crash = state.found?.crash ?? null;
     const isLoaded = this.#loaded !== null && this.#model.keys === this.#loaded;
     if (!isLoaded && this.#loaded !== null) {
       this.#loaded = null;
       this.#model.setFlag(null);
     }
-    const isBlank = this.#model.text.trim() === '' && state.name === 'faulty';
-    setText(this.#text, isBlank ? 'There is no source yet.' : textOf(state));
+    setText(this.#text, textOf(state));
     this.#text.classList.toggle('bad', crash !== null);
-    setText(this.#switch, isOn ? 'Stop' : 'Search');
+    setText(this.#switch, isBusy ? 'Stop' : 'Search');
     setProperty(this.#show, 'disabled', crash === null || isLoaded);
     setProperty(this.#mine, 'disabled', !isLoaded);
     setProperty(this.#badge, 'hidden', crash === null);
@@ -66,7 +65,9 @@ function textOf({ name, step, states, found, why }) {
     off: 'Searches all that a player can press for keys under which the machine stops, beside your work.',
     waits: 'The source has changed: the search begins anew.',
     searches: `Searching: up to step ${grouped(step)}, ${grouped(states)} states, no crash so far.`,
+    paused: `Looked at for a while: ${step > 0 ? `up to step ${grouped(step)}, ${grouped(states)} states, ` : ''}no crash so far. Search goes on to the end.`,
     faulty: 'There is no run, since a line has a fault.',
+    empty: 'There is no source yet.',
     failed: `The search ended without an answer. ${why}`.trim(),
   };
   if (name !== 'found') return texts[name];

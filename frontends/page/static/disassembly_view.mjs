@@ -23,12 +23,13 @@ export class DisassemblyView {
     byId('disassembly').append(table);
   }
 
-  show({ code, words, registers }, { map, image, names }, lines) {
-    if (code !== null) return;
+  /** `machine` is null where there is none; `lineText(line)` is the text of a line of its source. */
+  show(machine, { map, image, names }, lineText) {
+    const { words, registers } = machine ?? { words: [] };
     while (this.#rows.length < words.length) this.#addRow();
     this.#rows.forEach((row, place) => {
       row.element.hidden = place >= words.length;
-      if (place < words.length) this.#showRow(row, words[place], { pc: registers.pc, line: map.lineAt(words[place].address), image, lines, names });
+      if (place < words.length) this.#showRow(row, words[place], { pc: registers.pc, line: map.lineAt(words[place].address), image, lineText, names });
     });
   }
 
@@ -46,7 +47,7 @@ export class DisassemblyView {
     this.#body.append(row.element);
   }
 
-  #showRow(row, { address, word, text }, { pc, line, image, lines, names }) {
+  #showRow(row, { address, word, text }, { pc, line, image, lineText, names }) {
     const assembled = line === null ? word : (wordOf(image, address - IMAGE_START) ?? word);
     const here = address === pc;
     const target = TO_ADDRESS.exec(text);
@@ -64,7 +65,7 @@ export class DisassemblyView {
     row.line = line;
     row.number.hidden = line === null;
     setText(row.number, line === null ? '' : String(line));
-    setText(row.text, line === null ? '' : (lines[line - 1] ?? '').trim().replace(/\s+/g, ' '));
+    setText(row.text, line === null ? '' : lineText(line).trim().replace(/\s+/g, ' '));
   }
 }
 

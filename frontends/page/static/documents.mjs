@@ -135,11 +135,9 @@ export class Documents extends EventTarget {
     return kept;
   }
 
-  #take({ text, form, encoding, lineEnd, options: kept, look, keys = new KeyScript(), played = 0, breakLines = [], textHistory = new TextHistory(), keyHistory = new KeyHistory() }) {
+  #take({ text, form, encoding, lineEnd, options: kept, look, keys = new KeyScript(), step = 0, played = 0, breakLines = [], textHistory = new TextHistory(), keyHistory = new KeyHistory() }) {
     const options = this.#optionsFor({ kept, isFirst: this.#isFirst, isNew: text === '' && this.#open.file === null });
-    this.#model.startWith({ text, form: form ?? { encoding, lineEnd }, keys, played, textHistory, keyHistory, options, look });
-    this.#editor.text = text;
-    this.#editor.breakpoints.set(breakLines);
+    this.#model.startWith({ text, form: form ?? { encoding, lineEnd }, keys, step, played, breakLines, textHistory, keyHistory, options, look });
     this.tellState();
   }
 
@@ -162,7 +160,6 @@ export class Documents extends EventTarget {
     if (isLost) this.#putAside(this.#model, 'not saved when another file was opened');
     this.#open = document;
     const kept = this.#start();
-    this.#model.setStep(kept?.step ?? 0);
     if (isLost) this.#offerEarlier(why);
     this.dispatchEvent(new Event('open'));
     return kept;

@@ -38,6 +38,9 @@ export class Editor extends LineFacts {
   constructor(model) {
     super();
     this.#model = model;
+    model.addEventListener('change', ({ detail }) => {
+      if (detail === 'document') this.#begin();
+    });
     new EditorPointer(this, this.#sight, this.#area);
     this.#area.addEventListener('input', (event) => this.#changed(event.inputType));
     this.#area.addEventListener('beforeinput', (event) => this.#beforeInput(event));
@@ -65,14 +68,16 @@ export class Editor extends LineFacts {
     return this.#source.text;
   }
 
-  /** Another text. It isn't told as an edit. */
-  set text(text) {
-    if (text === this.#source.text) return;
-    this.#source.text = text;
+  /** Another document. Its text isn't told as an edit. */
+  #begin() {
+    this.breakpoints.set(this.#model.breakLines);
+    if (this.#model.text === this.#source.text) return;
+    this.#source.text = this.#model.text;
     this.#window.restart();
     this.#fit();
     this.#sight.center(1);
     this.#drawRows();
+    this.#tellCursor();
   }
 
   get length() {

@@ -11,23 +11,34 @@ const REST_MILLISECONDS = 400;
 export class FaultHelp {
   #editor;
   #model;
+  #findings;
   #explain;
   #place = byId('fault-help');
   #timer = null;
-  /** The fault that is shown, and its fixes; null where the card is closed. */
-  #shown = null;
   /** The text whose card the author closed. */
   #closed = null;
 
   /** `explain(code)` tells more of a code. */
-  constructor(editor, model, explain) {
+  constructor(editor, { model, findings }, explain) {
     this.#editor = editor;
     this.#model = model;
+    this.#findings = findings;
     this.#explain = explain;
     editor.addEventListener('cursor', () => this.#later());
     editor.addEventListener('edit', () => this.#hide());
+    model.addEventListener('change', ({ detail }) => {
+      if (detail === 'document' || detail === 'text') this.#draw();
+    });
+    findings.addEventListener('change', ({ detail }) => {
+      if (detail === 'help') this.#draw();
+    });
     byId('source-text').addEventListener('keydown', (event) => this.#pressed(event), { capture: true });
     this.#place.addEventListener('mousedown', (event) => event.preventDefault());
+  }
+
+  /** The card of the present text: the line, the fault there and its fixes; null where it is closed. */
+  get #shown() {
+    return this.#findings.present('help');
   }
 
   /** Takes the first fix of the line with the cursor, if one is shown. */
@@ -58,12 +69,12 @@ export class FaultHelp {
   async #show(line, place) {
     if (this.#editor.line !== line || this.#editor.faultPlace(line) !== place) return;
     const text = this.#editor.lines[line - 1];
-    this.#shown = { line, key: `${line} ${text}`, fixes: [] };
-    this.#draw(line, place);
+    const { wanted } = this.#model;
+    const card = { line, place, key: `${line} ${text}`, fixes: [] };
+    this.#findings.take('help', wanted, card);
     const fixes = await this.#tried(line, fixesOf(text, place));
-    if (this.#shown?.key !== `${line} ${text}` || this.#editor.lines[line - 1] !== text) return;
-    this.#shown.fixes = fixes;
-    this.#draw(line, place);
+    // it may have been closed, or be that of another line by now
+    if (this.#shown === card) this.#findings.take('help', wanted, { ...card, fixes });
   }
 
   /** The fixes after which the program finds no fault in the line. */
@@ -80,14 +91,16 @@ export class FaultHelp {
     return fixes.filter((_, place) => tried[place]);
   }
 
-  #draw(line, { code, sentence, help }) {
-    const buttons = this.#shown.fixes.map((fix, place) => this.#button(fix.title, place === 0 ? 'Alt+Enter' : '', () => this.#take(fix)));
+  #draw() {
+    this.#place.hidden = this.#shown === null;
+    if (this.#shown === null) return;
+    const { line, fixes, place: { code, sentence, help } } = this.#shown;
+    const buttons = fixes.map((fix, place) => this.#button(fix.title, place === 0 ? 'Alt+Enter' : '', () => this.#take(fix)));
     buttons.push(this.#button('More', 'F1', () => this.#explain(code)));
     const isMarked = this.#editor.lines[line - 1].startsWith(BYTE_ORDER_MARK);
     const all = isMarked ? [...help, 'a byte order mark, which isn\'t seen, stands before the line'] : help;
     const told = [element('strong', { textContent: code }), ` ${sentence}`, ...all.map((one) => element('span', { textContent: one }))];
     this.#place.replaceChildren(element('p', {}, ...told), element('div', { className: 'buttons' }, ...buttons));
-    this.#place.hidden = false;
     this.#editor.placeCard(this.#place, line);
   }
 
@@ -107,8 +120,6 @@ export class FaultHelp {
 
   #hide() {
     clearTimeout(this.#timer);
-    if (this.#shown === null) return;
-    this.#shown = null;
-    this.#place.hidden = true;
+    this.#findings.drop('help');
   }
 }

@@ -36,13 +36,12 @@ function charactersIn(line, bytes, encoding) {
 
 export class FaultPlaces {
   #model;
-  #show;
+  #findings;
   #timer = null;
 
-  /** `show(places)` is called with the places of the text that the model has then. */
-  constructor(model, show) {
+  constructor(model, findings) {
     this.#model = model;
-    this.#show = show;
+    this.#findings = findings;
   }
 
   /** Asks for the places a little later, unless the text changes before. */
@@ -52,11 +51,11 @@ export class FaultPlaces {
   }
 
   async #ask() {
-    const { lines } = this.#model.wanted;
+    const { wanted } = this.#model;
+    const { lines } = wanted;
     const { encoding } = this.#model.form;
     const content = lines.map((line) => `${line}\n`).join('');
     const { status, output } = await request('word', { word: 'check', content }).catch(() => ({ status: -1 }));
-    if (status !== 1 || this.#model.wanted.lines !== lines) return;
-    this.#show(readPlaces(output, lines, encoding));
+    if (status === 1) this.#findings.take('places', wanted, readPlaces(output, lines, encoding));
   }
 }

@@ -49,8 +49,8 @@ export class MemoryView {
     if (document.activeElement !== this.#from) this.#from.value = `#${hex(this.#start, 3)}`;
   }
 
+  /** `machine` is null where there is none. */
   show(machine, { names }) {
-    if (machine.code !== null) return;
     this.#machine = machine;
     this.#names = names;
     this.#draw();
@@ -58,7 +58,15 @@ export class MemoryView {
 
   #draw() {
     const machine = this.#machine;
-    if (machine === null) return;
+    if (machine === null) {
+      setText(this.#changes, '');
+      for (const cell of this.#cells) {
+        setText(cell, '');
+        cell.className = '';
+        setTitle(cell, '');
+      }
+      return;
+    }
     const changed = changedAddresses(machine);
     this.#tellChanges(changed);
     const followed = { pc: machine.registers.pc, i: machine.registers.i, changes: changed[0] }[this.#follow.value];

@@ -1,4 +1,5 @@
-// What the author has: the text, the keys, the settings and the step looked at. Each change is told to all who listen.
+// What the author has: one document at a time, with its text, keys, settings and the step looked at. Each change is told to all who
+// listen.
 
 import { KeyHistory } from './key_history.mjs';
 import { KeyScript } from './key_script.mjs';
@@ -6,9 +7,15 @@ import { lookOf, USUAL_LOOK } from './look.mjs';
 import { TextHistory } from './text_history.mjs';
 import { programLines } from './text_form.mjs';
 
+/** So many texts of a document have the same lines again after an undo. */
+const MOST_TEXTS = 16;
+
 export class Model extends EventTarget {
   #wanted = null;
+  #linesOf = new Map();
 
+  /** The number of the document that is open: each opening has another one. */
+  document = 0;
   text = '';
   form = { encoding: 'utf-8', lineEnd: '\n' };
   keys = new KeyScript();
@@ -20,20 +27,26 @@ export class Model extends EventTarget {
   played = 0;
   /** A step to be marked on the time, with a short text; or null. */
   flag = null;
-  withheld = new Map();
   /** The lines with breakpoints. */
   breakLines = [];
   textHistory = new TextHistory();
   keyHistory = new KeyHistory();
 
-  /** What the program is to hold. The same object comes back as long as nothing of it changes. */
+  /**
+   * The work that the program is asked about: the document, its lines as bytes, those of them that no program takes (`refused`, codes by
+   * line), keys and settings. The same object comes back as long as nothing of it changes, and the same lines for the same text.
+   */
   get wanted() {
-    if (this.#wanted === null) {
-      const { given, withheld } = programLines(this.text, this.form.encoding);
-      this.withheld = withheld;
-      this.#wanted = { lines: given, keys: this.keys, options: this.options };
-    }
+    this.#wanted ??= { document: this.document, ...this.#programLines(), keys: this.keys, options: this.options };
     return this.#wanted;
+  }
+
+  #programLines() {
+    const known = this.#linesOf.get(this.text) ?? programLines(this.text, this.form.encoding);
+    this.#linesOf.delete(this.text);
+    this.#linesOf.set(this.text, known);
+    if (this.#linesOf.size > MOST_TEXTS) this.#linesOf.delete(this.#linesOf.keys().next().value);
+    return known;
   }
 
   /** Up to which step there is a play: the furthest that was played, or the last event. */
@@ -51,21 +64,21 @@ export class Model extends EventTarget {
 
   setText(text, { encoding, lineEnd } = this.form) {
     if (text === this.text && encoding === this.form.encoding && lineEnd === this.form.lineEnd) return;
+    if (encoding !== this.form.encoding) this.#linesOf.clear();
     this.text = text;
     this.form = { encoding, lineEnd };
     this.#wanted = null;
     this.#changed('text');
   }
 
-  /** Another document: what can be undone of it begins with what was kept. */
-  startWith({ text, form, keys, textHistory, keyHistory, options, look, played = 0 }) {
-    this.played = played;
-    this.setLook(look);
-    if (JSON.stringify(options) !== JSON.stringify(this.options)) this.setOptions(options);
-    this.textHistory = textHistory;
-    this.keyHistory = keyHistory;
-    this.setText(text, form);
-    this.startWithKeys(keys);
+  /** Opens another document in the place of this one, of which nothing stays. What can be undone of it begins with what was kept. */
+  startWith({ text, form, keys, textHistory, keyHistory, options, look, played = 0, step = 0, breakLines = [] }) {
+    this.document += 1;
+    this.#wanted = null;
+    this.#linesOf.clear();
+    Object.assign(this, { text, form, keys, textHistory, keyHistory, options, look: lookOf(look), played, breakLines, flag: null });
+    this.step = this.#wholeStep(step);
+    for (const what of ['document', 'look', 'options', 'text', 'keys', 'step', 'flag', 'played', 'breakpoints']) this.#changed(what);
   }
 
   /** `group` says of which `play` or `move` the change is a part (key_history.mjs). */
@@ -116,8 +129,12 @@ export class Model extends EventTarget {
     this.#changed('look');
   }
 
+  #wholeStep(step) {
+    return Math.max(0, Math.min(this.lastStep, Math.round(step) || 0));
+  }
+
   setStep(step) {
-    const whole = Math.max(0, Math.min(this.lastStep, Math.round(step) || 0));
+    const whole = this.#wholeStep(step);
     if (whole === this.step) return;
     this.step = whole;
     this.#changed('step');

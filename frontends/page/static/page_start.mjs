@@ -25,8 +25,10 @@ export function optionsOf({ settings, options }, { kept, isFirst, isNew }) {
 /** Which steps there are has to be known before a step or an event is taken. Settings that are refused are dropped once. */
 export async function findLastStep(about, { model, workbench }, isAgain = false) {
   try {
-    // without the kept events, which the program refuses where one is past its last step
-    await workbench.answers({ ...model.wanted, keys: new KeyScript() }, []);
+    // without the kept events, which the program refuses where one is past its last step, and without lines that it doesn't open
+    const { wanted } = model;
+    const lines = wanted.refused.size > 0 ? [] : wanted.lines;
+    await workbench.answers({ ...wanted, lines, refused: new Map(), keys: new KeyScript() }, []);
     model.setLastStep(workbench.lastStep);
   } catch (fault) {
     const isRefused = (fault instanceof ProgramEnded || fault instanceof BridgeFault) && !isAgain && fault.status !== 0;

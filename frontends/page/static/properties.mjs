@@ -3,6 +3,10 @@
 
 import { BackgroundSearch } from './background_search.mjs';
 import { request } from './bridge.mjs';
+import { propertyStart } from './property_line.mjs';
+
+/** So long after a change it is asked which properties are stated. */
+const STATE_MILLISECONDS = 300;
 
 /**
  * What `prove --json` prints, as far as it has come: the answers and the faults by their lines, and whether it came to its end.
@@ -40,15 +44,65 @@ export function answerText({ answer, step, covered }, grouped) {
 /** The key events of an answer as a script of keys. */
 export const scriptOf = ({ keys }) => (keys ?? []).map(({ step, key, down }) => `${step} ${key} ${down ? 'down' : 'up'}\n`).join('');
 
-/** What is found is what `readProved` gives. A source that states nothing is not searched. */
+/**
+ * What is found is what `readProved` gives. Which properties a source states the program says too: it is asked for a run without a
+ * step, whose answers are there at once.
+ */
 export class Properties extends BackgroundSearch {
-  /** `hasRun()` says whether the source has no fault, `states()` whether it states a property. */
-  constructor(model, { hasRun, states }, ask = request) {
-    super(model, { command: 'prove', hasRun: async () => (await hasRun()) && states(), ask });
+  #model;
+  #findings;
+  #ask;
+  #timer = null;
+
+  /** `hasRun()` says whether the source has no fault. A source that states nothing is not searched. */
+  constructor({ model, findings, hasRun, ask = request }) {
+    const hindrance = async () => (!(await hasRun()) ? 'faulty' : (await this.#state()).length === 0 ? 'empty' : null);
+    super({ model, findings, command: 'prove', hindrance, ask });
+    this.#model = model;
+    this.#findings = findings;
+    this.#ask = ask;
+    model.addEventListener('change', ({ detail }) => {
+      if (['document', 'text'].includes(detail)) this.#stateLater();
+    });
+    findings.addEventListener('change', ({ detail }) => {
+      if (detail === 'stated') this.dispatchEvent(new Event('change'));
+    });
+  }
+
+  /** The properties that the present text states, each with its line and its text, as far as the program has said so. */
+  get stated() {
+    return this.#findings.present('stated') ?? [];
+  }
+
+  #stateLater() {
+    clearTimeout(this.#timer);
+    this.#timer = setTimeout(() => this.#state().catch(() => {}), STATE_MILLISECONDS);
+  }
+
+  /** Asks which properties are stated. */
+  async #state() {
+    const known = this.#findings.present('stated');
+    if (known !== null) return known;
+    const { wanted } = this.#model;
+    // what a property begins with is nowhere: there is nothing to ask
+    const isPlain = wanted.refused.size > 0 || !wanted.lines.some((line) => propertyStart(line) !== null);
+    const output = isPlain ? '' : (await this.#ask('stated', { source: wanted.lines.map((line) => `${line}\n`).join('') })).output;
+    const stated = statedIn(output, wanted.lines);
+    this.#findings.take('stated', wanted, stated);
+    return stated;
   }
 
   read({ output, result }, isWhole) {
     const found = readProved(isWhole ? result.output : (output ?? ''));
     return isWhole && found?.ending === null && found.faults.size === 0 ? null : found;
   }
+}
+
+/** The properties that `prove --json` answers, or finds faults in, in the order of their lines. */
+export function statedIn(output, lines) {
+  const { answers, faults } = readProved(output) ?? { answers: new Map(), faults: new Map() };
+  const faulty = [...faults].filter(([, { code }]) => code.startsWith('P'));
+  const texts = [...answers].map(([line, { property }]) => ({ line, text: property }));
+  const others = faulty.map(([line]) => ({ line, text: (lines[line - 1] ?? '').slice(propertyStart(lines[line - 1] ?? '') ?? 0).trim() }));
+  return [...texts, ...others].sort((one, other) => one.line - other.line);
 }

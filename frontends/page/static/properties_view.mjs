@@ -3,7 +3,7 @@
 import { byId, element, grouped, setProperty, setText } from './dom.mjs';
 import { readKeys } from './key_script.mjs';
 import { answerText, isBad, scriptOf } from './properties.mjs';
-import { namedValues, propertiesIn } from './property_line.mjs';
+import { namedValues } from './property_line.mjs';
 
 const WITHOUT = 'No line of the source states a property. Write one, such as `;! V0 <= 63 here` before an instruction.';
 
@@ -37,7 +37,7 @@ export class PropertiesView {
     model.addEventListener('change', ({ detail }) => {
       if (detail === 'keys' || detail === 'text') this.#draw();
     });
-    this.#switch.addEventListener('click', () => (properties.isOn ? properties.stop() : properties.start()));
+    this.#switch.addEventListener('click', () => (properties.isBusy ? properties.stop() : properties.start()));
     this.#mine.addEventListener('click', () => model.undoKeys());
   }
 
@@ -66,7 +66,7 @@ export class PropertiesView {
   }
 
   #draw() {
-    const { isOn, state } = this.#properties;
+    const { isBusy, state } = this.#properties;
     if (this.#loaded !== null && this.#model.keys !== this.#loaded) {
       [this.#loaded, this.#shown] = [null, null];
       this.#model.setFlag(null);
@@ -75,9 +75,9 @@ export class PropertiesView {
     setProperty(this.#badge, 'hidden', broken.length === 0);
     setText(this.#badge, String(broken.length));
     if (!this.#isInSight()) return;
-    const stated = propertiesIn(this.#model.wanted.lines);
-    setText(this.#text, stated.length === 0 ? WITHOUT : textOf(state, stated.length));
-    setText(this.#switch, isOn ? 'Stop' : 'Search');
+    const { stated } = this.#properties;
+    setText(this.#text, textOf(state, stated.length));
+    setText(this.#switch, isBusy ? 'Stop' : 'Search');
     setProperty(this.#mine, 'disabled', this.#loaded === null);
     const drawn = JSON.stringify([stated, state.name, [...(state.found?.answers ?? [])], [...(state.found?.faults ?? [])], this.#shown?.line]);
     // a row that stays the same keeps the focus
@@ -104,14 +104,16 @@ export class PropertiesView {
   }
 }
 
-const pending = (name) => (name === 'searches' ? 'not broken so far' : '');
+const pending = (name) => (['searches', 'paused'].includes(name) ? 'not broken so far' : '');
 
 function textOf({ name, step, states, found, why }, count) {
   const texts = {
     off: 'Searches all that a player can press for keys that break a property, beside your work.',
     waits: 'The source has changed: the search begins anew.',
     searches: `Searching: up to step ${grouped(step)}, ${grouped(states)} states.`,
+    paused: `Looked at for a while${step > 0 ? `: up to step ${grouped(step)}, ${grouped(states)} states` : ''}. Search goes on to the end.`,
     faulty: 'There is no run, since a line has a fault.',
+    empty: WITHOUT,
     failed: `The search ended without an answer. ${why}`.trim(),
   };
   if (name !== 'found') return texts[name];

@@ -64,14 +64,6 @@ export function propertyWords(before, names) {
   return [...words.map((word) => [word, ABOUT.get(word)]), ...ITEMS, ...registers, ...(isFirst ? [] : names)];
 }
 
-/** The lines that state properties, with their texts. */
-export function propertiesIn(lines) {
-  return lines.flatMap((line, place) => {
-    const start = propertyStart(line);
-    return start === null ? [] : [{ line: place + 1, text: line.slice(start).trim() }];
-  });
-}
-
 /** The values of what a property names, at a machine: rows of a name and its value. What isn't a number or a name is left out. */
 export function namedValues(property, machine, symbols) {
   const values = new Map();

@@ -41,9 +41,16 @@ export class RegistersView {
     return cell;
   }
 
-  show({ code, registers, before }, { names }) {
-    if (code !== null) return;
+  /** `machine` is null where there is none. */
+  show(machine, { names }) {
     for (const { text, meaning, address, cell, value, name } of this.#cells) {
+      if (machine === null) {
+        for (const part of [value, name]) setText(part, part === value ? '–' : '');
+        cell.classList.remove('changed');
+        setTitle(cell, meaning);
+        continue;
+      }
+      const { registers, before } = machine;
       const now = text(registers);
       const was = before === null ? now : text(before.registers);
       setText(value, now);

@@ -23,16 +23,14 @@ export class ScreenView {
     this.#draw();
   }
 
-  show(machine) {
-    this.#state.classList.toggle('stopped', machine.code !== null || machine.registers.state !== 'run');
-    if (machine.code !== null) {
-      this.#tell(machine.code === 'Q1' ? 'before the faults' : `${machine.code}: ${codeText(machine.code)}`);
-      return;
-    }
-    const { size, state } = machine.registers;
-    setText(byId('screen-size'), size === 'high' ? '128 × 64' : '64 × 32');
-    this.#tell(state === 'run' ? '' : `${state}: ${stopText(state, machine.wanted.options)}`);
-    this.#rows = machine.screen.rows;
+  /** `machine` is the last one of this document that runs, or null; `code` why there is none of the present text, or null. */
+  show(machine, code) {
+    const { size, state } = machine?.registers ?? { state: 'run' };
+    this.#state.classList.toggle('stopped', code !== null || state !== 'run');
+    setText(byId('screen-size'), machine === null ? '' : size === 'high' ? '128 × 64' : '64 × 32');
+    if (code !== null) this.#tell(refusalText(code, machine));
+    else this.#tell(state === 'run' ? '' : `${state}: ${stopText(state, machine.wanted.options)}`);
+    this.#rows = machine?.screen.rows ?? [];
     clearTimeout(this.#flashing);
     this.#draw();
   }
@@ -62,6 +60,12 @@ export class ScreenView {
     if (marked !== null) marked.forEach((isMarked, place) => { if (isMarked) colours[place] = changed[pixels[place]]; });
     this.#context.putImageData(this.#picture, 0, 0);
   }
+}
+
+/** Why there is no machine: of a faulty text the last one is shown, where this document had one. */
+function refusalText(code, machine) {
+  const text = code === 'Q1' ? 'a line has a fault' : `${code}: ${codeText(code)}`;
+  return machine === null ? `no run: ${text}` : code === 'Q1' ? 'before the faults' : `before the fault ${text}`;
 }
 
 /** Why the machine stopped; a word of the source may be no instruction of this machine alone. */

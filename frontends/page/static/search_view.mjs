@@ -52,9 +52,9 @@ export class SearchView {
     this.#stop.addEventListener('click', () => this.stop());
     byId('search-line').addEventListener('click', () => this.toLine(true));
     model.addEventListener('change', ({ detail }) => {
-      if (['text', 'keys', 'options'].includes(detail)) this.stop();
-      // what was told of a step isn't of another one
-      if (detail === 'step' && !this.#running) this.#tell('');
+      if (['document', 'text', 'keys', 'options'].includes(detail)) this.stop();
+      // what was told of a step isn't of another one, or of another run
+      if (['document', 'text', 'keys', 'options', 'step'].includes(detail) && !this.#running) this.#tell('');
     });
     this.#shape();
   }

@@ -24,8 +24,8 @@ export class SpriteView {
     this.#draw();
   }
 
+  /** `machine` is null where there is none. */
   show(machine) {
-    if (machine.code !== null) return;
     this.#machine = machine;
     if (this.#drawn === null) this.#draw();
   }
@@ -140,5 +140,11 @@ export class SpriteView {
       this.#editor.replace(start, this.#editor.placeOf(last, lines[last - 1].length), writeSprite(found.lines, this.#bytes).join('\n'));
     }
     this.#drawn = null;
+  }
+
+  /** What was drawn is of another document. */
+  forget() {
+    this.#drawn = null;
+    this.#draw();
   }
 }

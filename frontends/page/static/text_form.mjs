@@ -2,7 +2,7 @@
 //
 // Bytes travel as strings in which each character stands for one byte ('byte strings').
 
-/** The most bytes of a line, and the most lines, that a source may have (docs/FORMATS.md: N2, N3). */
+/** The most bytes of a line, and the most lines, that a source may have (docs/FORMATS.md: O1, O2). */
 export const LINE_BYTES = 200;
 export const MOST_LINES = 4000;
 
@@ -62,22 +62,20 @@ export function writeFile(text, { encoding, lineEnd }) {
 }
 
 /**
- * The lines that the program is given for an editor's text, and what it wasn't given: a line that is too long is an empty one
- * for it, and lines past the last that it takes are left out. Each such line has its code.
+ * The lines of an editor's text as bytes, and the code of each for which no program opens the text (`refused`): it is too long, or
+ * past the last line that there may be. Such a text has no listing and no run.
  */
 export function programLines(text, encoding) {
-  const lines = text.split('\n');
-  if (lines[lines.length - 1] === '') lines.pop();
-  const withheld = new Map();
+  const texts = text.split('\n');
+  if (texts[texts.length - 1] === '') texts.pop();
   const isPlain = /^[\u0000-\u007f]*$/.test(text);
-  const given = lines.slice(0, MOST_LINES).map((line, place) => {
-    const bytes = isPlain ? line : encodeText(line, encoding);
-    if (bytes.length <= LINE_BYTES) return bytes;
-    withheld.set(place + 1, 'N2');
-    return '';
+  const lines = isPlain ? texts : texts.map((line) => encodeText(line, encoding));
+  const refused = new Map();
+  lines.forEach((line, place) => {
+    if (place >= MOST_LINES) refused.set(place + 1, 'O2');
+    else if (line.length > LINE_BYTES) refused.set(place + 1, 'O1');
   });
-  for (let place = MOST_LINES; place < lines.length; place += 1) withheld.set(place + 1, 'N3');
-  return { given, withheld };
+  return { lines, refused };
 }
 
 export { toBytes };

@@ -13,6 +13,8 @@ const WORDS_PAST_IMAGE = 8;
 const WORDS_BEFORE = 5;
 const WORDS_SHOWN = 15;
 const WORDS_NEAR = 3;
+/** What is known of a text before it is answered. */
+export const NOTHING = { listing: [], faults: new Map(), symbols: [], names: new Names(), image: null, map: new SourceMap() };
 const ABOUT_TEXT = ['list', 'faults', 'syms', 'image'];
 /** How many questions about steps of one text are on their way at a time: while one is answered, the next is sent. */
 const MOST_LOOKS = 2;
@@ -20,6 +22,7 @@ const MOST_LOOKS = 2;
 export class Viewer extends EventTarget {
   #model;
   #workbench;
+  #findings;
   #again = false;
   /** Whether it is about to ask anew. */
   #isDue = false;
@@ -33,17 +36,24 @@ export class Viewer extends EventTarget {
   #words = { from: IMAGE_START, count: WORDS_SHOWN };
   #firstWord = null;
 
-  /** The machine at the step that was asked last; `code` is that of the refusal where there is no such machine. */
-  machine = null;
-  /** The listing, the faults, the names, the image and the map of the lines, of the text that was asked last. */
-  assembled = { listing: [], faults: new Map(), symbols: [], names: new Names(), image: null, map: new SourceMap() };
   /** How long the answers took, in milliseconds, from the change on. */
   took = 0;
 
-  constructor(model, workbench) {
+  constructor(model, workbench, findings) {
     super();
     this.#model = model;
     this.#workbench = workbench;
+    this.#findings = findings;
+  }
+
+  /** The machine that was answered last of this document, or null; `code` is that of the refusal where there is no such machine. */
+  get machine() {
+    return this.#findings.get('shown')?.value.machine ?? null;
+  }
+
+  /** The listing, the faults, the names, the image and the map of the lines, as they were answered last of this document. */
+  get assembled() {
+    return this.#findings.get('shown')?.value.assembled ?? NOTHING;
   }
 
   /** Asks anew as soon as the questions before are answered, or nearly so. */
@@ -114,18 +124,18 @@ export class Viewer extends EventTarget {
     const isNew = this.#listed !== wanted.lines;
     const about = isNew ? ABOUT_TEXT : [];
     const answers = await this.#workbench.answers(wanted, [...about, ...this.#questions(step)]);
-    const assembled = isNew ? assembledOf(answers.splice(0, about.length)) : this.assembled;
+    const assembled = isNew ? assembledOf(wanted, answers.splice(0, about.length)) : this.assembled;
     const machine = machineOf(wanted, step, answers);
     if (machine.code === null) await this.#findWords(machine);
     // a newer one may have been answered first
     if (number < this.#shown) return;
     this.#shown = number;
-    this.machine = machine;
-    this.assembled = assembled;
+    if (this.#workbench.lastStep > 0) this.#model.setLastStep(this.#workbench.lastStep);
+    if (!this.#findings.take('shown', wanted, { machine, assembled })) return;
+    if (machine.code === null) this.#findings.take('run', wanted, { machine, assembled });
     this.#listed = wanted.lines;
     if (assembled.image !== null) this.#words = wordsOf(assembled.image, machine.words);
     this.took = performance.now() - asked;
-    this.#model.setLastStep(this.#workbench.lastStep);
     this.#tell('shown', { isNew });
   }
 
@@ -180,7 +190,9 @@ function machineOf(wanted, step, answers) {
   };
 }
 
-function assembledOf([list, faults, symbols, image]) {
+function assembledOf({ refused }, [list, faults, symbols, image]) {
+  // a text that no program opens has no listing, and its own faults alone
+  if (refused.size > 0) return { ...NOTHING, faults: refused };
   const listing = readListing(list);
   const bytes = refusal(image) === null ? readBytes(image) : null;
   const read = readSymbols(symbols);

@@ -38,9 +38,12 @@ export class Workbench {
 
   /**
    * Makes the program hold what is wanted (`lines`, `keys`, `options`) and answers the questions about it. Requests that change
-   * what it holds are carried out one after another; questions alone don't wait for the answers of those before.
+   * what it holds are carried out one after another; questions alone don't wait for the answers of those before. A text that no program
+   * opens is refused here.
    */
   answers(wanted, questions) {
+    const [code] = wanted.refused?.values() ?? [];
+    if (code !== undefined) return Promise.resolve(questions.map(() => `no ${code}\n`));
     const begun = this.#turn.then(() => this.#begin(wanted, questions));
     this.#turn = begun.catch(() => {});
     return begun.then(({ answers }) => answers);
@@ -91,6 +94,7 @@ export class Workbench {
 
   /** Which steps of a run have something: a question of finder.mjs, which another program answers than the session. */
   async steps(wanted, question) {
+    if (wanted.refused?.size > 0) throw new ProgramEnded('there is no run, since a line has a fault');
     const about = { source: sourceOf(wanted), keys: writeKeys(wanted.keys), options: wanted.options };
     const { refused, ...found } = await this.#request('search', { ...about, ...question });
     if (!refused) return found;

@@ -17,6 +17,7 @@ from browser_run import RunTests
 from browser_shape import ShapeTests
 from browser_source import SourceTests
 from browser_speed import SpeedTests
+from browser_stale import StaleTests
 from browser_typing import TypingTests
 from chromium import Chromium
 from driver import Browser
@@ -41,7 +42,7 @@ OF_THE_BRIDGE = {
 OF_ONE_FILE = {"test_files_without_a_bridge"}
 
 
-class Tests(SourceTests, TypingTests, RunTests, FileTests, ShapeTests, LayoutTests, PlayTests, SpeedTests):
+class Tests(SourceTests, TypingTests, RunTests, FileTests, ShapeTests, LayoutTests, PlayTests, SpeedTests, StaleTests):
     """Each method whose name begins with `test_` is one test."""
 
 

@@ -181,8 +181,6 @@ class PlayTests(PageTests):
         """Keys under which the machine stops are found beside the author's work; they are shown, and what was there comes back."""
         text = "LOOP: LD V0, K\nSE V0, 3\nJP LOOP\nRET\n"
         with self.page(text) as browser:
-            if browser.value("document.getElementById('tab-crashes').hidden"):
-                return
             keys = "JSON.stringify(chipbenchPage.model.keys.events)"
             browser.value("chipbenchPage.model.setKeys(chipbenchPage.model.keys.with(10, 2, true).with(14, 2, false))")
             mine = browser.value(keys)
@@ -206,27 +204,29 @@ class PlayTests(PageTests):
             assert browser.value("document.getElementById('crashes-badge').hidden")
             self.put_line(4, "JP NOWHERE")
             browser.wait("/a line has a fault/.test(document.getElementById('crashes-text').textContent)", 60.0)
-            browser.click("#crashes-switch")
             assert self.text_of("#crashes-switch") == "Search"
 
     def test_a_search_for_crashes_is_stopped(self) -> None:
-        """A long one tells how far it is, and ends at the press of a button."""
+        """A long one ends by itself after a second, goes on where the author asks, and ends at the press of a button."""
         with self.page(self.example("breaker")) as browser:
-            if browser.value("document.getElementById('tab-crashes').hidden"):
-                return
             self.tab("crashes")
-            browser.wait("/^Searching: up to step [1-9]/.test(document.getElementById('crashes-text').textContent)", 60.0)
-            browser.click("#crashes-switch")
-            browser.wait("/^Searches all/.test(document.getElementById('crashes-text').textContent)")
-            told = self.request("explore", {"action": "tell", "number": 1})
-            assert told["number"] is None, told
+            # unasked it looks for a moment
+            browser.wait("/^Looked at for a while/.test(document.getElementById('crashes-text').textContent)", 60.0)
+            for number in (1, 2):
+                told = self.request("explore", {"action": "tell", "number": number})
+                assert told["number"] is None, told
+                if number == 1:
+                    browser.click("#crashes-switch")
+                    browser.wait("/^Searching: up to step [1-9]/.test(document.getElementById('crashes-text').textContent)", 60.0)
+                    time.sleep(2.0)
+                    assert self.text_of("#crashes-text").startswith("Searching"), self.text_of("#crashes-text")
+                    browser.click("#crashes-switch")
+                    browser.wait("/^Looked at for a while/.test(document.getElementById('crashes-text').textContent)")
 
     def test_properties(self) -> None:
         """Each has its answer while the author works on; the play that breaks one is shown with its values, and what was there comes back."""
         text = ";! never V0 = 3 at DONE\n;! V1 = 0 here\nLOOP: LD V0, K\nSE V0, 3\nJP LOOP\nDONE: JP DONE\n;! ever at LOOP\n;! V0 <= NOWHERE\n"
         with self.page(text) as browser:
-            if browser.value("document.getElementById('tab-properties').hidden"):
-                return
             keys = "JSON.stringify(chipbenchPage.model.keys.events)"
             browser.value("chipbenchPage.model.setKeys(chipbenchPage.model.keys.with(10, 2, true).with(14, 2, false))")
             mine = browser.value(keys)
@@ -257,7 +257,6 @@ class PlayTests(PageTests):
             assert browser.value("chipbenchPage.editor.line") == 2
             self.put_line(4, "SE V0, NOWHERE")
             browser.wait("/a line has a fault/.test(document.getElementById('properties-text').textContent)", 60.0)
-            browser.click("#properties-switch")
             assert self.text_of("#properties-switch") == "Search"
 
     def test_lines_of_properties(self) -> None:

@@ -10,19 +10,22 @@ import { columnOf, indentAfter, outdentLength, placeOf } from '../static/columns
 import { completionsOf } from '../static/completion.mjs';
 import { readPlaces } from '../static/fault_places.mjs';
 import { fixed, fixesOf } from '../static/fixes.mjs';
+import { Findings } from '../static/findings.mjs';
 import { gamePage } from '../static/game_page.mjs';
 import { readGame, writeGame } from '../static/game_file.mjs';
 import { encodeGif } from '../static/gif.mjs';
+import { KeyHistory } from '../static/key_history.mjs';
 import { KeyScript } from '../static/key_script.mjs';
 import { nearestPlace, wordAround } from '../static/editor_pointer.mjs';
 import { Crashes, readExplored } from '../static/crashes.mjs';
-import { DIRECTIVES, INSTRUCTIONS, MNEMONICS, REGISTERS, rowOfWord, tokensOf } from '../static/language.mjs';
+import { MNEMONICS, REGISTERS, rowOfWord, rowsOf, tokensOf } from '../static/language.mjs';
+import { PROFILES } from '../static/quirk_table.mjs';
 import { lookOf, mappedKey } from '../static/look.mjs';
 import { Model } from '../static/model.mjs';
 import { Names } from '../static/names.mjs';
 import { difference, SourceText } from '../static/source_text.mjs';
 import { answerText, isBad, readProved, scriptOf } from '../static/properties.mjs';
-import { namedValues, propertiesIn, propertyTokens, propertyWords } from '../static/property_line.mjs';
+import { namedValues, propertyTokens, propertyWords } from '../static/property_line.mjs';
 import { placeFrom, placesOf, replacedAll } from '../static/text_find.mjs';
 import { listOf, quirksOf } from '../static/quirks.mjs';
 import { readSprite, readSpriteLine, writeSprite } from '../static/sprite_lines.mjs';
@@ -172,15 +175,33 @@ test('breakpoints go along with their lines', () => {
 
 // What is read and written -------------------------------------------------------------------------------------------------------
 
-test('language: the instructions and directives are those of the documents', () => {
-  const machine = readFileSync(new URL('../../../docs/MACHINE.md', import.meta.url), 'utf8');
-  const language = readFileSync(new URL('../../../docs/LANGUAGE.md', import.meta.url), 'utf8');
-  for (const [word, source] of INSTRUCTIONS) {
-    if (word !== '0NNN') assert.ok(machine.includes(`| \`${word}\` |`), word);
-    assert.ok(language.includes(`| ${word} | `) && language.includes(`\`${source}\``), `${word} ${source}`);
-  }
-  assert.equal(INSTRUCTIONS.length, [...language.matchAll(/\| ([0-9A-F][0-9A-FNXYK]{3}) \| `/g)].length);
-  for (const word of DIRECTIVES.keys()) assert.match(language, new RegExp(`\\b${word}\\b`));
+test('language: what an instruction does is told for the machine that is chosen', () => {
+  // what the manuals of the machines say, and the table of profiles in docs/MACHINE.md
+  const told = [
+    ['8ab1', { schip: /VF stays/, vip: /VF := 0/, octo: /VF stays/ }],
+    ['8ab2', { schip: /VF stays/, vip: /VF := 0/ }],
+    ['8ab3', { schip: /VF stays/, vip: /VF := 0/ }],
+    ['8ab6', { schip: /Vx := Vx moved right/, vip: /Vx := Vy moved right/, octo: /Vx := Vy moved right/ }],
+    ['8abe', { chip48: /Vx := Vx moved left/, vip: /Vx := Vy moved left/ }],
+    ['b234', { schip: /a \+ Vx/, vip: /a \+ V0$/ }],
+    ['f155', { schip: /I stays/, vip: /I \+ x \+ 1/, chip48: /I := I \+ x modulo/ }],
+    ['f165', { schip: /I stays/, vip: /I \+ x \+ 1/, chip48: /I := I \+ x modulo/ }],
+    ['f11e', { schip: /VF stays/ }],
+    ['00c4', { schip: /stored pixels/, octo: /twice as far/, vip: /not an instruction/ }],
+    ['00fb', { schip: /stored pixels/, octo: /twice as far/, vip: /not an instruction/ }],
+    ['00fc', { schip: /stored pixels/, octo: /twice as far/, chip48: /not an instruction/ }],
+    ['00fe', { schip: /the pixels stay/, octo: /become dark/, vip: /not an instruction/ }],
+    ['00ff', { schip: /the pixels stay/, octo: /become dark/, vip: /not an instruction/ }],
+    ['f130', { schip: /a large digit/, vip: /not an instruction/ }],
+    ['f175', { schip: /flag registers/, chip48: /not an instruction/ }],
+    ['d120', { schip: /8 pixels, 16 bytes.*S6/, vip: /draws nothing/, octo: /modulo the size.*32 bytes/ }],
+    ['6a02', { schip: /Vx := kk$/, vip: /Vx := kk$/ }],
+  ];
+  for (const [word, texts] of told) for (const [profile, text] of Object.entries(texts)) assert.match(rowOfWord(word, { profile }), text, `${word} ${profile}`);
+  assert.match(rowOfWord('f11e', { profile: 'octo', quirks: 'fx1e=flag' }), /VF := 1 if/);
+  assert.match(rowOfWord('8ab1', { profile: 'vip', quirks: 'logic=keep' }), /VF stays/);
+  // nothing is told of two kinds at once
+  for (const profile of Object.keys(PROFILES)) for (const word of MNEMONICS) for (const row of rowsOf(word, { profile })) assert.ok(!(/VF stays/.test(row) && /VF :=/.test(row)), row);
 });
 
 test('language: tokens, and what completes them', () => {
@@ -188,7 +209,7 @@ test('language: tokens, and what completes them', () => {
   assert.deepEqual(kinds("LOOP: ld v0, #1f ; it's"), ['name LOOP', 'sign :', 'mnemonic ld', 'register v0', 'sign ,', 'number #1f', "comment ; it's"]);
   assert.deepEqual(kinds("DA 'a;b', \"x"), ['directive DA', "text 'a;b'", 'sign ,', 'text "x']);
   const symbols = [{ name: 'LOOP', value: 512, line: 1 }, { name: 'LOW_BYTE', value: 3, line: 2 }];
-  const words = (line, isAsked) => completionsOf(line, line.length, symbols, isAsked)?.found.map(([word]) => word) ?? null;
+  const words = (line, isAsked) => completionsOf(line, line.length, symbols, { isAsked })?.found.map(([word]) => word) ?? null;
   assert.deepEqual(words('  SK'), ['SKP', 'SKNP']);
   assert.deepEqual(words('A: sc'), ['SCD', 'SCR', 'SCL']);
   assert.deepEqual(words('  JP LO'), ['LOOP', 'LOW_BYTE']);
@@ -425,41 +446,116 @@ class Timers {
   }
 }
 
-test('crashes: a change of the source begins the search anew, and a stop ends it', async (context) => {
+/** A search for crashes on a model, whose requests are noted, and whose answers are `told`. */
+function searchOn(context, text) {
   const timers = new Timers(context);
-  const pass = async (milliseconds) => {
-    timers.pass(milliseconds);
-    for (let count = 0; count < 9; count += 1) await Promise.resolve();
-  };
-  const asked = [];
-  let number = 0;
-  let result = null;
-  const ask = async (name, body) => {
-    asked.push(body.action === 'start' ? `start ${body.source.trim()}` : `${body.action} ${body.number}`);
-    if (body.action === 'start') number += 1;
-    return { number, step: 5, states: 6, result };
-  };
   const model = new Model();
+  model.setText(text);
+  const findings = new Findings(model);
+  const search = { model, findings, asked: [], told: { step: 5, states: 6, result: null }, number: 0 };
+  const ask = async (name, body) => {
+    search.asked.push(body.action === 'start' ? `start ${body.source.trim()}` : `${body.action} ${body.number}`);
+    if (body.action === 'start') search.number += 1;
+    return { number: search.number, ...search.told };
+  };
+  search.crashes = new Crashes({ model, findings, hasRun: async () => model.text !== 'BAD', ask });
+  search.pass = async (milliseconds) => {
+    timers.pass(milliseconds);
+    for (let count = 0; count < 19; count += 1) await Promise.resolve();
+  };
+  return search;
+}
+
+const FOUND = { status: 1, output: 'S5 0\nkeys 0\nstates 1\n', keys: '' };
+const opened = (text) => ({ text, form: { encoding: 'utf-8', lineEnd: '\n' }, keys: new KeyScript(), options: {}, textHistory: new TextHistory(), keyHistory: new KeyHistory() });
+
+test('crashes: what was found goes with the text, and comes back with it', async (context) => {
+  const search = searchOn(context, 'RET');
+  const { model, crashes, pass } = search;
+  search.told.result = FOUND;
+  crashes.start();
+  await pass(0);
+  assert.equal(crashes.state.name, 'found');
+  crashes.stop();
+  assert.equal(crashes.state.found.crash.cause, 'S5');
   model.setText('CLS');
-  const crashes = new Crashes(model, async () => model.text !== 'BAD', ask);
+  assert.deepEqual([crashes.state.name, crashes.state.found], ['off', null]);
+  model.setText('RET');
+  assert.equal(crashes.state.found.crash.cause, 'S5');
+  model.setOptions({ profile: 'vip' });
+  assert.equal(crashes.state.found, null);
+  model.startWith(opened('RET'));
+  assert.deepEqual([crashes.state.name, crashes.state.found], ['off', null]);
+});
+
+test('crashes: an answer that comes when another document is open is dropped', async (context) => {
+  const search = searchOn(context, 'RET');
+  const { model, findings } = search;
+  const { wanted } = model;
+  model.startWith(opened('CLS'));
+  assert.equal(findings.take('explore', wanted, { name: 'found' }), false);
+  assert.equal(findings.get('explore'), null);
+  assert.equal(findings.take('explore', model.wanted, { name: 'found' }), true);
+});
+
+test('findings: one of an earlier text is told apart, and what rests on less is present longer', () => {
+  const model = new Model();
+  model.startWith(opened('CLS'));
+  const findings = new Findings(model);
+  findings.take('shown', model.wanted, 'the machine');
+  findings.take('places', model.wanted, 'the places');
+  model.setKeys(model.keys.with(3, 5, true));
+  assert.deepEqual([findings.get('shown'), findings.present('shown')], [{ value: 'the machine', isPresent: false }, null]);
+  assert.deepEqual(findings.get('places'), { value: 'the places', isPresent: true });
+  model.setText('RET');
+  assert.deepEqual(findings.get('places'), { value: 'the places', isPresent: false });
+  model.startWith(opened('RET'));
+  assert.deepEqual([findings.get('shown'), findings.get('places')], [null, null]);
+});
+
+test('crashes: unasked it looks for a second; asked it goes on', async (context) => {
+  const search = searchOn(context, 'RET');
+  const { crashes, pass } = search;
+  let now = 0;
+  context.mock.method(performance, 'now', () => now);
+  crashes.begin();
+  await pass(0);
+  assert.deepEqual([crashes.state.name, crashes.isBusy], ['searches', true]);
+  for (const time of [400, 800, 1200]) {
+    now = time;
+    await pass(300);
+  }
+  assert.deepEqual([crashes.state.name, crashes.state.step, crashes.isBusy], ['paused', 5, false]);
+  assert.equal(search.asked.at(-1), 'stop 1');
+  crashes.start();
+  await pass(0);
+  now = 99_000;
+  await pass(900);
+  assert.deepEqual([crashes.state.name, crashes.isBusy], ['searches', true]);
+  crashes.stop();
+});
+
+test('crashes: a change of the source begins the search anew, and a stop ends it', async (context) => {
+  const search = searchOn(context, 'CLS');
+  const { model, crashes, pass, asked } = search;
   crashes.start();
   await pass(0);
   assert.deepEqual([crashes.state.name, crashes.state.step], ['searches', 5]);
   model.setText('RET');
   assert.equal(crashes.state.name, 'waits');
   await pass(1000);
-  result = { status: 1, output: 'S5 0\nkeys 0\nstates 1\n', keys: '' };
+  search.told.result = FOUND;
   await pass(400);
   assert.deepEqual([crashes.state.name, crashes.state.found.crash], ['found', { cause: 'S5', step: 0, line: null }]);
   model.setText('BAD');
   await pass(1000);
   assert.equal(crashes.state.name, 'faulty');
-  result = null;
+  search.told.result = null;
   model.setText('RET ');
   await pass(1000);
   crashes.stop();
   await pass(1000);
-  assert.equal(crashes.state.name, 'off');
+  assert.deepEqual([crashes.state.name, crashes.isBusy], ['paused', false]);
   assert.deepEqual(asked, ['start CLS', 'stop 1', 'start RET', 'tell 2', 'start RET', 'stop 3']);
 });
 
@@ -498,7 +594,6 @@ test('properties: what `prove --json` prints', () => {
 });
 
 test('properties: the lines that state them, their tokens and what may stand there', () => {
-  assert.deepEqual(propertiesIn(['CLS', ' ;! V0 <= 8 here', '; no', 'LD V0, 1 ;! no']), [{ line: 2, text: 'V0 <= 8 here' }]);
   const tokens = propertyTokens(';! never [LIVES] = 3 at END ; so');
   assert.deepEqual(
     tokens.map(({ kind, text }) => [kind, text]),

@@ -147,16 +147,14 @@ test('texts: bytes stay as they were', () => {
 });
 
 test('texts: what the program is given', () => {
-  assert.deepEqual(programLines('A\nB\n', 'utf-8').given, ['A', 'B']);
-  assert.deepEqual(programLines('A\n\n', 'utf-8').given, ['A', '']);
-  assert.deepEqual(programLines('', 'utf-8').given, []);
+  assert.deepEqual(programLines('A\nB\n', 'utf-8').lines, ['A', 'B']);
+  assert.deepEqual(programLines('A\n\n', 'utf-8').lines, ['A', '']);
+  assert.deepEqual(programLines('', 'utf-8').lines, []);
   const long = programLines(`A\n${'é'.repeat(101)}\nB`, 'utf-8');
-  assert.deepEqual(long.given, ['A', '', 'B']);
-  assert.deepEqual([...long.withheld], [[2, 'N2']]);
-  assert.equal(programLines('é'.repeat(100), 'utf-8').withheld.size, 0);
-  const many = programLines('A\n'.repeat(4001), 'utf-8');
-  assert.equal(many.given.length, 4000);
-  assert.deepEqual([...many.withheld], [[4001, 'N3']]);
+  assert.deepEqual(long.lines, ['A', '\u00c3\u00a9'.repeat(101), 'B']);
+  assert.deepEqual([...long.refused], [[2, 'O1']]);
+  assert.equal(programLines('é'.repeat(100), 'utf-8').refused.size, 0);
+  assert.deepEqual([...programLines('A\n'.repeat(4001), 'utf-8').refused], [[4001, 'O2']]);
 });
 
 test('answers: registers', () => {
