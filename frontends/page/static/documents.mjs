@@ -1,58 +1,43 @@
 // The author's document: the file that it is of, what the browser kept of it, saving, and other documents in its place.
 
 import { request } from './bridge.mjs';
+import { asSource, elsewhere, fileDocument, sourceName, stateText, UNTITLED, withForm } from './document_kinds.mjs';
 import { byId, setText } from './dom.mjs';
+import { EarlierTexts } from './earlier_texts.mjs';
 import { sourceOf } from './image_source.mjs';
 import { KeyHistory } from './key_history.mjs';
 import { KeyScript } from './key_script.mjs';
-import { notice, takeAway } from './notices.mjs';
+import { notice, takeAllAway, takeAway } from './notices.mjs';
+import { tellFull } from './page_faults.mjs';
 import { Store, tabDocument } from './store.mjs';
 import { TextHistory } from './text_history.mjs';
-import { readFile, writeFile } from './text_form.mjs';
+import { digestOf, readFile, writeFile } from './text_form.mjs';
+import { Windows } from './windows.mjs';
 
-/** The slot of a document that was never in a file, and what it is called. */
-const WITHOUT_NAME = 'without a file';
-const UNTITLED = 'untitled';
 /** So often a file is looked at, for another program may save it. */
 const LOOK_MILLISECONDS = 1500;
-
-/**
- * A document: its name, the slot under which the browser keeps it, whether it is a file of the bridge's folder, and then the
- * digest and the text of that file as they were read last.
- */
-function fileDocument({ name, path, text, digest }) {
-  return { name, slot: path, isFile: true, digest, file: text === null ? null : readFile(text) };
-}
-
-const elsewhere = (name, file) => ({ name, slot: `elsewhere ${name}`, isFile: false, digest: null, file });
-
-/** The source of an image that the bridge was started on; the digest is that of the image. */
-const imageDocument = ({ name, text, digest }) => ({ ...elsewhere(name, readFile(text)), digest });
-
-/** A name as a source has one, so that Open lists the file. */
-const asSource = (name) => (/\.(asm|s|txt)$/i.test(name) ? name : `${name}.asm`);
-
-/** The name under which a document that is in no file is saved, where the author gives no other. */
-function sourceName(name) {
-  if (name === UNTITLED) return 'game.asm';
-  return /\.(asm|s|txt)$/i.test(name) ? name : `${name.replace(/\.[^.]*$/, '')}.asm`;
-}
 
 export class Documents extends EventTarget {
   #about;
   #model;
   #editor;
   #store;
-  #open = { name: UNTITLED, slot: WITHOUT_NAME, isFile: false, digest: null, file: null };
+  #earlier;
+  #windows = new Windows();
+  #open = elsewhere({ name: UNTITLED });
   /** The text of the file when it was read or saved last, or null; and the digest of the file's text that the author was told of last. */
   #savedText = null;
   #toldDigest = null;
+  /** Whether the file that the text is of was there when it was looked at last. */
+  #isThere = true;
   #askName;
   #optionsFor;
   /** Whether the file is being looked at. */
   #isLooking = false;
   /** Whether the document is the one that the page was opened on, whose settings the command line may say. */
   #isFirst = true;
+  /** The number of the last opening: one that takes long gives way to the next. */
+  #opening = 0;
 
   /**
    * `about` is what the page was opened on; `askName(name)` asks under which name to save; `optionsFor({ kept, isFirst, isNew })` are
@@ -65,11 +50,18 @@ export class Documents extends EventTarget {
     this.#editor = editor;
     this.#askName = askName;
     this.#optionsFor = optionsFor;
+    this.#earlier = new EarlierTexts(() => this.#tellFull());
     this.#store = new Store(model, {
-      known: () => this.#open.digest,
-      onFull: () => notice('full', 'This browser has no room left: save or download the text.', { bad: true }),
-      onOther: () => this.#offerEarlier('Another window has changed this text.'),
+      about: () => ({ key: this.#open.key, name: this.#open.name, isFile: this.#open.isFile, known: this.#open.digest, isSaved: this.#isSaved }),
+      onOther: (record) => {
+        this.#earlier.put({ text: record.text, form: record.form, key: record.key, name: record.name, isFile: record.isFile, why: 'kept by another window' });
+        this.#offerEarlier('Another window has changed this text.');
+      },
     });
+    this.#store.addEventListener('full', () => this.#tellFull());
+    this.#store.addEventListener('kept', () => this.#windows.kept());
+    this.#windows.addEventListener('other', () => notice('window', 'Another window has this document open too: what each of them types is kept apart.'));
+    this.#windows.addEventListener('kept', () => this.#tellOther());
     addEventListener('focus', () => this.#checkDisk());
     setInterval(() => {
       if (!document.hidden) this.#checkDisk();
@@ -80,45 +72,76 @@ export class Documents extends EventTarget {
     return this.#open.name;
   }
 
-  /** The documents and texts that were put aside, the newest last. */
+  get key() {
+    return this.#open.key;
+  }
+
+  /** All that the browser keeps, the newest first (store.mjs). */
+  kept() {
+    return this.#store.list();
+  }
+
+  rename(key, name) {
+    return this.#store.rename(key, name);
+  }
+
+  /** The texts that were put aside, the newest last. */
   get earlier() {
-    return this.#store.earlier;
+    return this.#earlier.all;
   }
 
   /** Opens the document that the tab had, or that of the bridge. Returns what the browser kept of it, or null. */
   async begin() {
-    if (this.#about.isImage) await this.#beginWithImage();
-    else if (this.#about.name !== null) this.#open = fileDocument(this.#about);
-    const kept = tabDocument.read(this.#about.start);
-    if (kept !== null && kept.slot !== this.#open.slot) {
-      const found = kept.isFile ? await request('read', { name: kept.name }).then(fileDocument).catch(() => null) : elsewhere(kept.name, null);
-      if (found !== null) this.#open = found;
-    }
-    const opened = this.#start();
-    const isNew = (entry) => entry.slot === this.#open.slot && entry.kind !== 'save' && entry.told !== true;
+    await this.#store.begin();
+    await this.#earlier.read();
+    const first = await this.#firstDocument();
+    const tab = tabDocument.read(this.#about.start);
+    const found = tab === null || tab.key === first.key ? null : await this.#found(tab);
+    const opened = await this.#start(found ?? first);
+    const isNew = (entry) => entry.key === this.#open.key && entry.kind !== 'save' && entry.told !== true;
     if (this.earlier.some(isNew)) this.#offerEarlier('');
     return opened;
   }
 
-  async #beginWithImage() {
-    const { name, text, digest } = this.#about;
+  /** What the page was opened on; without that the text that was in no file last. */
+  async #firstDocument() {
+    const { isImage, name, text, digest } = this.#about;
     try {
-      this.#open = imageDocument({ name, text: await sourceOf(text), digest });
+      if (isImage) return elsewhere({ key: `image ${this.#about.path}`, name, text: await sourceOf(text), digest });
     } catch (fault) {
-      notice('upload', `${name} can't be opened: ${fault.message}.`, { bad: true });
+      setTimeout(() => notice('upload', `${name} can't be opened: ${fault.message}.`, { bad: true }));
     }
+    if (name !== null && !isImage) return fileDocument(this.#about);
+    const last = (await this.#store.list()).find((one) => one.name === UNTITLED && !one.isFile);
+    return elsewhere({ key: last?.key, name: UNTITLED });
   }
 
-  /** Shows the document that is open now, with what the browser kept of it, which is returned. */
-  #start() {
-    const { name, slot, isFile, file, digest } = this.#open;
-    this.#store.use(slot);
-    const kept = this.#store.read();
-    this.#savedText = isFile && file !== null ? file.text : null;
+  /** A document that the browser keeps, with its file where that can be read. */
+  async #found({ key, name, isFile }) {
+    const known = (await this.#store.read(key))?.known ?? null;
+    if (!isFile) return elsewhere({ key, name, digest: known });
+    const found = await request('read', { name, key }).catch(() => null);
+    if (found?.path === key) return fileDocument(found);
+    // a file that the browser has to be asked for again, or that is a download, is written as before; one of another folder isn't reached
+    const isOfBrowser = /^(?:handle|own) /.test(key);
+    return isOfBrowser ? { key, name, isFile: true, digest: known, file: null, isUnread: true } : elsewhere({ key, name, digest: known });
+  }
+
+  /** Shows a document with what the browser kept of it, which is returned; null also where another one was opened meanwhile. */
+  async #start(opened) {
+    this.#opening += 1;
+    const opening = this.#opening;
+    const kept = await this.#store.read(opened.key);
+    if (opening !== this.#opening) return null;
+    this.#open = opened;
+    const { key, name, isFile, file, digest, isUnread = false } = opened;
+    this.#store.use(key, kept);
+    this.#savedText = isFile && file !== null ? file.text : isUnread && kept?.isSaved ? kept.text : null;
     this.#toldDigest = digest;
-    tabDocument.write({ start: this.#about.start, name, slot, isFile });
+    this.#isThere = file !== null || isUnread || !isFile;
+    tabDocument.write({ start: this.#about.start, key, name, isFile });
+    takeAllAway();
     this.#showName();
-    for (const told of ['kept', 'ends', 'save', 'disk']) takeAway(told);
     if (file?.hasStrayCr) notice('ends', 'A CR in this file stands elsewhere than at the end of each line: it is shown as the end of a line, and saved as LF.');
     const isKept = kept !== null && kept.text !== file?.text;
     if (isKept && file !== null && (digest === null || kept.known !== digest)) {
@@ -132,6 +155,8 @@ export class Documents extends EventTarget {
       this.#take({ ...(kept ?? {}), ...(file ?? readFile(kept?.text ?? '')), form: file === null ? kept?.form : undefined });
     }
     this.#isFirst = false;
+    this.#store.opened();
+    this.#windows.use(key);
     return kept;
   }
 
@@ -143,7 +168,7 @@ export class Documents extends EventTarget {
 
   #tellKept(file) {
     const { isFile } = this.#open;
-    const origin = isFile ? 'text of the file' : 'source of the image';
+    const origin = isFile ? 'text of the file' : /\.(?:asm|s|txt)$/i.test(this.#open.name) ? 'text that was opened' : 'source of the image';
     const takeFile = () => this.#replace(file.text, file, `The text is now the ${origin}.`);
     notice('kept', `This text was kept by the browser and isn't in ${isFile ? 'the' : 'a'} file yet.`, {
       choices: [['Go on', () => {}], [`Take the ${origin}`, takeFile]],
@@ -153,20 +178,24 @@ export class Documents extends EventTarget {
   // Other documents and texts -------------------------------------------------------------------------------------------------
 
   /** Opens another document in place of this one, whose text is kept. */
-  open(document, why) {
-    this.#store.keep();
+  async open(opened, why) {
+    await this.#store.keep();
     const { text } = this.#model;
     const isLost = text !== this.#savedText && text !== this.#open.file?.text;
     if (isLost) this.#putAside(this.#model, 'not saved when another file was opened');
-    this.#open = document;
-    const kept = this.#start();
+    const kept = await this.#start(opened);
     if (isLost) this.#offerEarlier(why);
     this.dispatchEvent(new Event('open'));
     return kept;
   }
 
   openFile(found) {
-    this.open(fileDocument(found), `${found.name} is open now.`);
+    return this.open(fileDocument(found), `${found.name} is open now.`);
+  }
+
+  /** Opens a document that the browser keeps. */
+  async openKept(row) {
+    return this.open(await this.#found(row), `${row.name} is open now.`);
   }
 
   /** Whether this is a new document without a text. */
@@ -175,17 +204,16 @@ export class Documents extends EventTarget {
   }
 
   /** A first text: of a file that isn't there yet, or of a document of that name. */
-  startFrom(name, byteString) {
-    if (!this.#open.isFile || !this.isBlank) this.openText(name, byteString);
+  async startFrom(name, byteString) {
+    if (!this.#open.isFile || !this.isBlank) await this.openText(name, byteString);
     else this.#editor.replace(0, 0, readFile(byteString).text);
   }
 
-  setBreakpoints(lines) {
-    this.#editor.breakpoints.set(lines);
-  }
-
-  openText(name, byteString) {
-    this.open(elsewhere(name, readFile(byteString)), `${name} is open now. Save asks for a name.`);
+  /** A text that was handed to the page: one that it had before, of the same name and bytes, is the same document; any other is a new one. */
+  async openText(name, byteString) {
+    const digest = digestOf(byteString);
+    const before = (await this.#store.list()).find((one) => one.name === name && !one.isFile && one.known === digest);
+    await this.open(elsewhere({ key: before?.key, name, text: byteString, digest }), `${name} is open now. Save asks for a name.`);
   }
 
   /** Another text takes the place of the author's, as an edit that can be undone. */
@@ -197,36 +225,37 @@ export class Documents extends EventTarget {
   }
 
   #putAside({ text, form }, why, kind = 'text') {
-    const { name, slot, isFile } = this.#open;
-    this.#store.putEarlier({ text, form, name, slot, isFile, why, kind });
+    const { key, name, isFile } = this.#open;
+    this.#earlier.put({ text, form, key, name, isFile, why, kind });
   }
 
   #offerEarlier(why) {
-    const { earlier } = this;
-    takeAway('aside');
-    const place = earlier.findLastIndex(({ kind }) => kind !== 'save');
-    if (place < 0) return;
-    this.#store.markTold();
-    const of = earlier[place].slot === this.#open.slot ? 'the text that you had before' : `your text of ${earlier[place].name}`;
-    notice('aside', `${why} This browser keeps ${of}.`.trim(), {
-      choices: [['Take it back', () => this.takeBack(place)], ['Earlier texts …', () => byId('show-earlier').click()], ['Close', () => {}]],
-    });
+    this.#earlier.offer(why, this.#open.key, (place) => this.takeBack(place));
   }
 
   /** Takes an earlier text back, into its own document. */
   async takeBack(place) {
-    const { text, form, name, slot, isFile } = this.#store.takeEarlier(place);
+    const { text, form, name = UNTITLED, key, isFile } = this.#earlier.take(place);
     takeAway('aside');
-    if (slot !== this.#open.slot && slot !== undefined) {
-      const found = isFile ? await request('read', { name }).then(fileDocument).catch(() => null) : null;
-      this.open(found ?? elsewhere(name ?? UNTITLED, null), `${name} is open again.`);
-    }
+    if (key !== this.#open.key && key !== undefined) await this.open(await this.#found({ key, name, isFile }), `${name} is open again.`);
     if (text !== this.#model.text) this.#replace(text, form, 'The text was taken back.');
   }
 
   drop(place) {
-    this.#store.takeEarlier(place);
-    takeAway('aside');
+    this.#earlier.drop(place);
+  }
+
+  /** Deletes a document that the browser keeps, with its earlier texts. */
+  async remove(key) {
+    await this.#earlier.forget(key);
+    await this.#store.remove(key);
+  }
+
+  /** Another window has kept this document: its text can be taken. */
+  async #tellOther() {
+    const kept = await this.#store.read(this.#open.key);
+    if (kept === null || kept.text === this.#model.text) return;
+    notice('window', 'Another window has changed this text.', { choices: [['Take its text', () => this.#replace(kept.text, kept.form, 'The text is now that of the other window.')], ['Keep mine', () => {}]] });
   }
 
   // Saving --------------------------------------------------------------------------------------------------------------------
@@ -238,56 +267,85 @@ export class Documents extends EventTarget {
     byId('save').textContent = isFile ? 'Save' : 'Save …';
   }
 
+  /** Whether the file has the text, as far as it is known. */
+  get #isSaved() {
+    return this.#open.isFile && this.#isThere && this.#savedText === this.#model.text;
+  }
+
   tellState() {
-    const saved = this.#savedText === this.#model.text ? 'saved' : 'not saved; kept in this browser';
-    setText(byId('file-state'), this.#open.isFile ? saved : 'not in a file; kept in this browser');
+    const isGone = !this.#isThere && this.#savedText !== null;
+    setText(byId('file-state'), stateText({ isFile: this.#open.isFile, isGone, isSaved: this.#isSaved, isFull: this.#store.isFull }));
+  }
+
+  #tellFull() {
+    this.tellState();
+    tellFull(this.#store.isFull);
   }
 
   /** Writes the file of the title; where there is none, asks for its name. */
   save() {
-    if (this.#open.isFile) return this.#write(this.#open.name, this.#open.digest);
-    return this.saveAs();
+    const { isFile, name, key, digest } = this.#open;
+    return isFile ? this.#write({ name, key }, this.#isThere ? digest : null) : this.saveAs();
   }
 
   async saveAs() {
-    const { name: own, isFile, digest } = this.#open;
+    const { name: own, key, isFile, digest } = this.#open;
     const asked = await this.#askName(isFile ? own : sourceName(own));
-    const name = asked === null || asked === own || this.#about.picks ? asked : asSource(asked);
-    if (name !== null) await this.#write(name, isFile && name === own ? digest : null);
+    if (asked === null) return;
+    const isOwn = isFile && asked.name === own && (asked.key === undefined || asked.key === key);
+    const name = isOwn || this.#about.picks ? asked.name : asSource(asked.name);
+    await this.#write({ name, key: asked.key ?? (this.#about.picks ? undefined : key) }, isOwn ? digest : null);
   }
 
   /** Writes a file, where it is still the one that is known. */
-  async #write(name, known) {
-    const { text, form } = this.#model;
+  async #write({ name, key }, known) {
+    const { document: number, text, form } = this.#model;
     try {
-      const reply = await request('save', { name, text: writeFile(text, form), known });
-      if (reply.saved) this.#saved(text, reply);
+      const reply = await request('save', { name, key, text: writeFile(text, form), known });
+      // what is saved meanwhile is of another document
+      if (number !== this.#model.document) return;
+      if (reply.saved) await this.#saved(text, reply);
       else this.#askToOverwrite(reply);
     } catch (fault) {
-      notice('save', `It wasn't saved: ${fault.message}. Nothing is lost: the text is kept in this browser.`, { bad: true });
+      const kept = this.#store.isFull ? 'Nothing keeps the text but this window.' : 'Nothing is lost: the text is kept in this browser.';
+      notice('save', `It wasn't saved: ${fault.message}. ${kept}`, { bad: true });
     }
   }
 
-  #saved(text, { name, path, digest }) {
-    if (this.#savedText !== null && this.#savedText !== text && path === this.#open.slot) {
+  async #saved(text, { name, path, digest }) {
+    const before = this.#open;
+    const isMoved = path !== before.key;
+    const kept = isMoved ? await this.#store.read(path) : null;
+    if (before !== this.#open) return;
+    if (this.#savedText !== null && this.#savedText !== text && path === this.#open.key) {
       this.#putAside({ text: this.#savedText, form: this.#model.form }, 'in the file before you saved', 'save');
     }
-    if (path !== this.#open.slot) this.#store.use(path);
-    this.#open = { name, slot: path, isFile: true, digest, file: { text, ...this.#model.form } };
+    this.#open = { key: path, name, isFile: true, digest, file: { text, ...this.#model.form } };
+    if (isMoved) {
+      this.#store.use(path, kept);
+      this.#windows.use(path);
+    }
     this.#savedText = text;
     this.#toldDigest = digest;
-    tabDocument.write({ start: this.#about.start, name, slot: path, isFile: true });
+    this.#isThere = true;
+    tabDocument.write({ start: this.#about.start, key: path, name, isFile: true });
     for (const told of ['save', 'kept', 'disk']) takeAway(told);
     this.#showName();
     this.tellState();
-    this.#store.keep();
+    this.#store.touch();
+    await this.#store.keep();
+    // what was in no file is in this one now
+    if (isMoved && !before.isFile) await this.#store.remove(before.key).catch(() => {});
   }
 
   #askToOverwrite({ name, path, text, digest }) {
-    const isOwn = path === this.#open.slot;
+    const isOwn = path === this.#open.key;
+    const number = this.#model.document;
     const overwrite = () => {
-      if (text !== null) this.#store.putEarlier({ ...withForm(text), name, slot: path, isFile: true, why: 'in the file before it was written over', kind: 'text' });
-      return this.#write(name, digest);
+      // asked of another document by now
+      if (number !== this.#model.document) return undefined;
+      if (text !== null) this.#earlier.put({ ...withForm(text), name, key: path, isFile: true, why: 'in the file before it was written over', kind: 'text' });
+      return this.#write({ name, key: path }, digest);
     };
     const told = isOwn ? `${name} was changed by another program since you opened it.` : `There is a file ${name} already.`;
     notice('save', `${told} It wasn't saved.`, { bad: true, choices: [['Write mine over it', overwrite], ['Leave it', () => {}]] });
@@ -297,9 +355,12 @@ export class Documents extends EventTarget {
   async #checkDisk() {
     if (!this.#open.isFile || this.#isLooking) return;
     this.#isLooking = true;
-    const found = await request('read', { name: this.#open.name }).catch(() => null);
+    const { name, key } = this.#open;
+    const found = await request('read', { name, key }).catch(() => null);
     this.#isLooking = false;
-    if (found === null || found.path !== this.#open.slot || found.digest === this.#toldDigest || found.text === null) return;
+    if (found === null || found.path !== this.#open.key || key !== this.#open.key) return;
+    this.#setThere(found.text !== null);
+    if (found.digest === this.#toldDigest || found.text === null) return;
     this.#toldDigest = found.digest;
     if (this.#model.text === this.#savedText) {
       this.#follow(found);
@@ -314,6 +375,13 @@ export class Documents extends EventTarget {
     notice('disk', `${found.name} was changed by another program.`, { choices: [['Take its text', take], ['Keep mine', () => {}]] });
   }
 
+  #setThere(isThere) {
+    if (isThere === this.#isThere) return;
+    this.#isThere = isThere;
+    this.tellState();
+    if (!isThere) notice('disk', `${this.#open.name} was deleted or moved by another program. Save writes it again.`);
+  }
+
   /** The text becomes that of the file, as an edit that can be undone. */
   #follow(found) {
     this.#putAside(this.#model, 'in the file before another program changed it', 'save');
@@ -326,9 +394,4 @@ export class Documents extends EventTarget {
     takeAway('disk');
     notice('followed', `${found.name} was saved by another program: its text is here now. Undo brings the one before back.`);
   }
-}
-
-function withForm(byteString) {
-  const { text, encoding, lineEnd } = readFile(byteString);
-  return { text, form: { encoding, lineEnd } };
 }

@@ -12,7 +12,7 @@ import { writeFile } from './text_form.mjs';
 
 const LARGEST_FILE = 2_000_000;
 
-/** Asks under which name to save; null where the author gives none. */
+/** Asks under which name to save (`name`); null where the author gives none. */
 export function askName(name) {
   const dialog = byId('save-as');
   const field = dialog.querySelector('[name=name]');
@@ -21,25 +21,28 @@ export function askName(name) {
   dialog.showModal();
   field.select();
   return new Promise((done) => {
-    dialog.addEventListener('close', () => done(dialog.returnValue === 'save' && field.value !== '' ? field.value : null), { once: true });
+    dialog.addEventListener('close', () => done(dialog.returnValue === 'save' && field.value !== '' ? { name: field.value } : null), { once: true });
   });
 }
 
-/** Has the author choose a file to save to by the browser's own file access; null where none is chosen. */
+/** Has the author choose a file to save to by the browser's own file access (`name` and `key`); null where none is chosen. */
 export async function chooseName(name) {
-  return (await request('choose', { name })).name;
+  const chosen = await request('choose', { name });
+  return chosen.name === null ? null : chosen;
 }
 
 export class FileDialogs {
   #about;
   #documents;
   #model;
+  #editor;
   #workbench;
 
-  constructor(about, { documents, model, workbench }) {
+  constructor(about, { documents, model, editor, workbench }) {
     this.#about = about;
     this.#documents = documents;
     this.#model = model;
+    this.#editor = editor;
     this.#workbench = workbench;
     for (const place of document.querySelectorAll('.folder')) place.textContent = about.folder;
     this.#listen();
@@ -89,17 +92,17 @@ export class FileDialogs {
     const button = element('button', { type: 'button' }, name, element('span', { className: 'hint', textContent: `${grouped(size)} bytes` }));
     button.addEventListener('click', () => {
       byId('open').close();
-      this.#openNamed(name);
+      this.#openNamed({ name });
     });
     return button;
   }
 
   /** A file of the folder, which is saved there again. */
-  async #openNamed(name) {
+  async #openNamed({ name, key }) {
     await this.#try(name, async () => {
-      const found = await request('read', { name });
+      const found = await request('read', { name, key });
       if (found.text === null) throw new Error('there is no such file any more');
-      if (kindOf(name) === 'source' && !this.#holdsGame(found.text)) this.#documents.openFile(found);
+      if (kindOf(name) === 'source' && !this.#holdsGame(found.text)) await this.#documents.openFile(found);
       else await this.#openContent(name, found.text);
     });
   }
@@ -108,8 +111,8 @@ export class FileDialogs {
   async #pick() {
     byId('open').close();
     await this.#try('The file', async () => {
-      const { name } = await request('pick');
-      if (name !== null) await this.#openNamed(name);
+      const picked = await request('pick');
+      if (picked.name !== null) await this.#openNamed(picked);
     });
   }
 
@@ -143,7 +146,7 @@ export class FileDialogs {
     const source = kind === 'image' ? await sourceOf(content) : content;
     const game = readGame(source);
     if (game !== null) await this.#checkKeys(game.keys);
-    this.#documents.openText(name, game?.source ?? source);
+    await this.#documents.openText(name, game?.source ?? source);
     if (game !== null) this.#takeGame(game);
   }
 
@@ -151,7 +154,7 @@ export class FileDialogs {
     const known = Object.fromEntries(Object.entries(options).filter(([name]) => this.#about.options.includes(name)));
     this.#model.setOptions({ rate: '10', ...known });
     this.#model.setLook(look);
-    this.#documents.setBreakpoints(breakLines);
+    this.#editor.breakpoints.set(breakLines);
     this.#model.setKeys(readKeys(keys));
     this.#model.setStep(step);
   }

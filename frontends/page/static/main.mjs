@@ -12,6 +12,7 @@ import { Coverage } from './coverage.mjs';
 import { Crashes } from './crashes.mjs';
 import { CrashesView } from './crashes_view.mjs';
 import { DisassemblyView } from './disassembly_view.mjs';
+import { DocumentList } from './document_list.mjs';
 import { Documents } from './documents.mjs';
 import { byId } from './dom.mjs';
 import { Drawing } from './drawing.mjs';
@@ -146,8 +147,9 @@ class Page {
   #makeFiles() {
     const asks = this.#about.picks ? chooseName : askName;
     this.documents = new Documents(this.#about, { model: this.model, editor: this.editor, askName: asks, optionsFor: (of) => optionsOf(this.#about, of) });
-    const parts = { documents: this.documents, model: this.model, workbench: this.workbench };
+    const parts = { documents: this.documents, model: this.model, editor: this.editor, workbench: this.workbench };
     this.files = new FileDialogs(this.#about, parts);
+    this.documentList = new DocumentList(this.documents);
     this.exports = new Exports(parts);
     this.gameExport = new GameExport(parts);
     this.start = new StartPage({ documents: this.documents, editor: this.editor });

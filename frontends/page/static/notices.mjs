@@ -34,6 +34,14 @@ export function takeAway(name) {
   for (const row of place.querySelectorAll('.notice')) if (row.dataset.name === name) remove(row);
 }
 
+/** Notices that are told of the page, and not of a document. */
+const OF_THE_PAGE = ['full', 'fault', 'ended'];
+
+/** Another document is open: what was told of the one before goes. */
+export function takeAllAway() {
+  for (const row of place.querySelectorAll('.notice')) if (!OF_THE_PAGE.includes(row.dataset.name)) remove(row);
+}
+
 function remove(row) {
   row.remove();
   count();

@@ -1,7 +1,8 @@
 // What goes wrong between the page and the program, as the author is told of it.
 
 import { BridgeFault } from './bridge.mjs';
-import { notice } from './notices.mjs';
+import { byId } from './dom.mjs';
+import { notice, takeAway } from './notices.mjs';
 import { ProgramEnded } from './workbench.mjs';
 
 /** What ended a program: its own status, or a signal of the system. */
@@ -20,4 +21,14 @@ export function tellFault(fault, again) {
   const kind = fault instanceof BridgeFault ? 'The program refused' : fault instanceof ProgramEnded ? 'No answer' : 'An error of this page';
   notice('fault', `${kind}: ${fault.message}. Nothing is lost; change something, or try again.`, { bad: true, choices: [['Try again', again]] });
   if (!(fault instanceof BridgeFault || fault instanceof ProgramEnded)) console.error(fault);
+}
+
+/** The browser has no room for what is to be kept, or has it again. */
+export function tellFull(isFull) {
+  if (!isFull) {
+    takeAway('full');
+    return;
+  }
+  const choices = [['Documents …', () => byId('show-documents').click()], ['Close', () => {}]];
+  notice('full', 'This browser has no room left, and keeps nothing more: save or download the text, or delete documents.', { bad: true, choices });
 }

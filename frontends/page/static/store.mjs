@@ -1,202 +1,170 @@
-// What the browser keeps of each file: the text, the keys, the settings, the step and what can be undone; and earlier texts.
+// What the browser keeps of each document: the text with what can be undone of it, the keys, the settings and the step, in one piece.
 
-import { KeyHistory } from './key_history.mjs';
-import { KeyScript, readKeys, writeKeys } from './key_script.mjs';
-import { lookOf } from './look.mjs';
-import { TextHistory } from './text_history.mjs';
+import { inStore, readAll, readOne, remove, taken } from './database.mjs';
+import { documentOf, recordOf, sizeOf } from './kept_document.mjs';
+import { dropPending, keepPending, takeOver } from './old_storage.mjs';
 
-const PREFIX = 'chipbench-page ';
-const EARLIER = 'chipbench-page, earlier';
 const LATER_MILLISECONDS = 300;
-const MOST_EARLIER = 20;
-const MOST_SAVES = 10;
-const MOST_EARLIER_CHARACTERS = 1_500_000;
+const TAB = 'chipbench-page document';
 
-export class Store {
-  #slot = null;
-  #timer = null;
+/** The parts of a record that are the author's work: another window's are not written over unasked. */
+const workOf = ({ text, form, keys, known }) => JSON.stringify([text, form, keys, known]);
+
+export class Store extends EventTarget {
   #model;
-  #known;
-  #onFull;
+  #about;
   #onOther;
-  /** What was kept when this window read or wrote last, undefined before; and of what it wrote the work, and of that the text. */
-  #seen = undefined;
-  #work = null;
-  #text = null;
+  #timer = null;
+  #writing = Promise.resolve();
+  /** Of the document that is open: its key, the stamp that was read or written last, and the work that was. */
+  #open = null;
+  #isChanged = false;
+
+  /** Whether the browser had no room, or no database, when something was written last. */
+  isFull = false;
 
   /**
-   * `known()` is the digest of the file that the text was last the same as. `onFull()` is called when the browser has no room left,
-   * `onOther()` when the text of another window was put aside for that of this one.
+   * `about()` says what the open document is: `key`, `name`, `isFile`, `known`, the digest of the file that its text was last the same
+   * as, and `isSaved`. `onOther(record)` is told of what another window kept where this one writes over it.
    */
-  constructor(model, { known, onFull, onOther }) {
+  constructor(model, { about, onOther }) {
+    super();
     this.#model = model;
-    this.#known = known;
-    this.#onFull = onFull;
+    this.#about = about;
     this.#onOther = onOther;
-    model.addEventListener('change', () => {
-      this.#timer ??= setTimeout(() => this.keep(), LATER_MILLISECONDS);
+    model.addEventListener('change', () => this.#changed());
+    document.addEventListener('visibilitychange', () => {
+      if (document.hidden) this.keep();
     });
-    addEventListener('pagehide', () => this.keep());
+    addEventListener('pagehide', () => {
+      if (this.#isChanged && this.#open !== null) keepPending(this.#record());
+    });
+    addEventListener('beforeunload', (event) => {
+      if (this.isFull) event.preventDefault();
+    });
   }
 
-  /** From now on the work is kept under this name. */
-  use(slot) {
-    this.#slot = slot;
-    this.#seen = undefined;
-    this.#work = null;
-    this.#text = null;
-    this.#takeOver(`${PREFIX}${slot}, aside`);
+  /** Takes over what earlier versions kept. */
+  async begin() {
+    await takeOver().catch(() => {});
   }
 
-  /** Texts that an earlier version of the page put aside for this document are earlier texts like the others. */
-  #takeOver(name) {
-    const texts = [parsed(content(name))].flat().filter((one) => typeof one?.text === 'string');
-    for (const { text, form } of texts) this.putEarlier({ text, form: formOf(form), slot: this.#slot, why: 'put aside before' });
-    try {
-      localStorage.removeItem(name);
-    } catch {
-      // they are taken over again the next time
-    }
+  #changed() {
+    if (this.#open === null) return;
+    this.#isChanged = true;
+    this.#timer ??= setTimeout(() => this.keep(), LATER_MILLISECONDS);
   }
 
-  /** Keeps what the author has; but where another window has kept its own since, only once something is changed in this one. */
+  /** Reads what was kept under a key, or null. */
+  async read(key) {
+    const record = await readOne('documents', key).catch(() => undefined);
+    const kept = documentOf(record);
+    return kept === null ? null : { ...kept, stamp: record.stamp };
+  }
+
+  /** From now on the work is kept under this key; `kept` is what was read of it, or null. */
+  use(key, kept) {
+    this.#open = { key, stamp: kept?.stamp, work: null };
+    this.#isChanged = false;
+  }
+
+  /** The model has the document: what is changed from now on is this window's own work. */
+  opened() {
+    this.#open.work = workOf(this.#record());
+  }
+
+  /** Something that is kept beside the model's part has changed. */
+  touch() {
+    this.#isChanged = true;
+  }
+
+  #record() {
+    const record = { ...this.#about(), ...recordOf(this.#model), time: Date.now(), stamp: `${Date.now()} ${Math.random()}` };
+    return { ...record, size: sizeOf(record) };
+  }
+
+  /** Keeps what the author has; resolves once it is written, or can't be. */
   keep() {
     clearTimeout(this.#timer);
     this.#timer = null;
-    if (this.#slot === null) return;
-    const { text, form, keys, options, look, step, played, breakLines, textHistory, keyHistory } = this.#model;
-    const work = { text, form, keys: writeKeys(keys), known: this.#known() };
-    const isChanged = JSON.stringify(work) !== this.#work;
-    const kept = content(PREFIX + this.#slot);
-    const isOther = kept !== this.#seen && this.#seen !== undefined;
-    if (isOther && !isChanged) return;
-    if (isOther) this.#putOtherAside(parsed(kept), text);
-    this.#work = JSON.stringify(work);
-    this.#text = text;
-    this.#seen = this.#write(PREFIX + this.#slot, { ...work, options, look, step, played, breakLines });
-    this.#write(`${PREFIX}${this.#slot}, history`, { text: textHistory, keys: keyHistory });
+    if (this.#open === null || !this.#isChanged) return this.#writing;
+    this.#isChanged = false;
+    const [open, record] = [this.#open, this.#record()];
+    this.#writing = this.#writing.then(() => this.#write(open, record));
+    return this.#writing;
   }
 
-  #putOtherAside(other, text) {
-    if (typeof other?.text !== 'string' || other.text === text || other.text === this.#text) return;
-    this.putEarlier({ text: other.text, form: formOf(other.form), slot: this.#slot, why: 'kept by another window' });
-    this.#onOther();
-  }
-
-  /** Returns what is kept now. */
-  #write(name, value) {
+  async #write(open, record) {
     try {
-      localStorage.setItem(name, JSON.stringify(value));
+      const { other, isWritten } = await inStore('documents', 'readwrite', (store, give) => {
+        taken(store.get(record.key), (there) => {
+          const isOther = there !== undefined && open.stamp !== undefined && there.stamp !== open.stamp;
+          // what another window has kept stays until something is changed in this one
+          const stays = isOther && open.work === workOf(record);
+          if (!stays) store.put(record);
+          give({ other: isOther && !stays && there.text !== record.text ? there : null, isWritten: !stays });
+        });
+      });
+      if (isWritten) {
+        open.stamp = record.stamp;
+        open.work = workOf(record);
+        dropPending(record.key);
+      }
+      if (other !== null) this.#onOther(other);
+      this.#setFull(false);
+      if (isWritten) this.dispatchEvent(new Event('kept'));
     } catch {
-      this.#onFull();
+      if (open === this.#open) this.#isChanged = true;
+      this.#setFull(true);
     }
-    return content(name);
   }
 
-  /** What was kept, or null. What can't be read of it is left out. */
-  read() {
-    this.#seen = content(PREFIX + this.#slot);
-    const kept = parsed(this.#seen);
-    if (typeof kept?.text !== 'string') return null;
-    const history = parsed(content(`${PREFIX}${this.#slot}, history`));
-    return {
-      text: kept.text,
-      form: formOf(kept.form),
-      known: typeof kept.known === 'string' ? kept.known : null,
-      keys: keysOf(kept.keys),
-      options: optionsOf(kept.options),
-      look: lookOf(kept.look),
-      step: Number.isSafeInteger(kept.step) ? kept.step : 0,
-      played: Number.isSafeInteger(kept.played) && kept.played > 0 ? kept.played : 0,
-      breakLines: Array.isArray(kept.breakLines) ? kept.breakLines.filter((line) => Number.isSafeInteger(line) && line > 0) : [],
-      textHistory: TextHistory.of(history?.text, kept.text),
-      keyHistory: KeyHistory.of(history?.keys),
-    };
+  #setFull(isFull) {
+    if (isFull === this.isFull) return;
+    this.isFull = isFull;
+    this.dispatchEvent(new Event('full'));
   }
 
-  /** The texts that others took the place of, until they are dropped; the newest is the last. */
-  get earlier() {
-    const kept = parsed(content(EARLIER));
-    return [kept].flat().filter((one) => typeof one?.text === 'string').map((one) => ({ ...one, form: formOf(one.form) }));
+  /** All documents that are kept, the newest first: `key`, `name`, `isFile`, `known`, `time` and `size`. */
+  async list() {
+    const all = await readAll('documents').catch(() => []);
+    const rows = all.filter((one) => typeof one.key === 'string' && typeof one.text === 'string');
+    return rows.map(({ key, name, isFile, known, time, size, text }) => ({ key, name: String(name ?? key), isFile: isFile === true, known: known ?? null, time: time ?? 0, size: size ?? text.length, isEmpty: text.trim() === '' })).sort((one, other) => other.time - one.time);
   }
 
-  /** Puts a text aside, with the slot that it belongs to and why it was put aside. */
-  putEarlier(entry) {
-    if (entry.text.trim() === '') return;
-    const others = this.earlier.filter((one) => one.text !== entry.text || one.slot !== entry.slot);
-    const all = newest([...others, { ...entry, time: Date.now() }]);
-    let size = all.reduce((sum, one) => sum + one.text.length, 0);
-    while (all.length > 1 && size > MOST_EARLIER_CHARACTERS) size -= all.shift().text.length;
-    this.#write(EARLIER, all);
+  /** Deletes a document that isn't open. */
+  async remove(key) {
+    await remove('documents', key);
+    await remove('handles', key).catch(() => {});
+    if (this.isFull) {
+      this.#isChanged = true;
+      await this.keep();
+    }
   }
 
-  /** The author was told of these texts: a reload isn't to tell of them again. */
-  markTold() {
-    this.#write(EARLIER, this.earlier.map((one) => ({ ...one, told: true })));
+  /** Gives a document that is in no file another name. */
+  async rename(key, name) {
+    await inStore('documents', 'readwrite', (store) => {
+      taken(store.get(key), (record) => {
+        if (record !== undefined) store.put({ ...record, name });
+      });
+    });
   }
-
-  /** Takes one of them out, by its place, and returns it. */
-  takeEarlier(place) {
-    const { earlier } = this;
-    const [taken] = earlier.splice(place, 1);
-    this.#write(EARLIER, earlier);
-    return taken;
-  }
-}
-
-/** The newest of the texts, and of those that a save took the place of. */
-function newest(entries) {
-  const isSave = ({ kind }) => kind === 'save';
-  const kept = new Set([...entries.filter(isSave).slice(-MOST_SAVES), ...entries.filter((entry) => !isSave(entry)).slice(-MOST_EARLIER)]);
-  return entries.filter((entry) => kept.has(entry));
-}
-
-function content(name) {
-  try {
-    return localStorage.getItem(name);
-  } catch {
-    return null;
-  }
-}
-
-function parsed(text) {
-  try {
-    return JSON.parse(text);
-  } catch {
-    return null;
-  }
-}
-
-function formOf(form) {
-  return { encoding: form?.encoding === 'latin-1' ? 'latin-1' : 'utf-8', lineEnd: form?.lineEnd === '\r\n' ? '\r\n' : '\n' };
-}
-
-function keysOf(text) {
-  try {
-    return readKeys(text);
-  } catch {
-    return new KeyScript();
-  }
-}
-
-function optionsOf(options) {
-  if (typeof options !== 'object' || options === null) return {};
-  return Object.fromEntries(Object.entries(options).filter(([, value]) => typeof value === 'string' && /^[\w=,+-]{1,8192}$/.test(value)));
 }
 
 /** What a tab shows of which start of the bridge: a reload of the tab comes back to it. */
 export const tabDocument = {
   read(start) {
     try {
-      const kept = parsed(sessionStorage.getItem(`${PREFIX}document`));
-      return kept?.start === start && typeof kept.name === 'string' ? kept : null;
+      const kept = JSON.parse(sessionStorage.getItem(TAB));
+      return kept?.start === start && typeof kept.key === 'string' ? kept : null;
     } catch {
       return null;
     }
   },
   write(kept) {
     try {
-      sessionStorage.setItem(`${PREFIX}document`, JSON.stringify(kept));
+      sessionStorage.setItem(TAB, JSON.stringify(kept));
     } catch {
       // the tab then comes back to SOURCE
     }

@@ -10,6 +10,7 @@ import traceback
 from pathlib import Path
 
 from browser_files import FileTests
+from browser_kept import KeptTests
 from browser_layout import LayoutTests
 from browser_page import PROVED, TOP
 from browser_play import PlayTests
@@ -33,16 +34,17 @@ OF_THE_BRIDGE = {
         "reload", "save", "open_takes_the_title", "an_image", "save_as", "text_before_a_save", "a_file_that_changes_on_the_disk", "a_file_that_cannot_be_saved",
         "a_full_disk", "a_hundred_connections", "an_address_without_its_last_slash", "faulty_arguments", "the_file_that_a_browser_is_given", "texts_of_two_windows",
         "a_bridge_that_is_gone", "a_file_is_followed", "a_name_without_an_end",
+        "a_text_of_another_folder_is_not_written_here", "a_file_that_is_deleted",
         "the_text_before_is_told_once", "notices_go",
     )
 }  # fmt: skip
 
 
 # Tests of what the page in one file alone has.
-OF_ONE_FILE = {"test_files_without_a_bridge"}
+OF_ONE_FILE = {"test_files_without_a_bridge", "test_a_file_handle_is_kept"}
 
 
-class Tests(SourceTests, TypingTests, RunTests, FileTests, ShapeTests, LayoutTests, PlayTests, SpeedTests, StaleTests):
+class Tests(SourceTests, TypingTests, RunTests, FileTests, ShapeTests, LayoutTests, PlayTests, SpeedTests, StaleTests, KeptTests):
     """Each method whose name begins with `test_` is one test."""
 
 

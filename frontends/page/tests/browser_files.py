@@ -553,47 +553,40 @@ class FileTests(PageTests):
     def test_garbage_in_the_storage(self) -> None:
         """What the browser kept may be anything: the page comes up, and shows the text that there is."""
         with self.page("CLS\n") as browser:
-            browser.wait("Object.keys(localStorage).some((key) => key.endsWith('game.asm'))")
-            name = "Object.keys(localStorage).find((key) => key.endsWith('game.asm'))"
-            good = {"text": "LD V0, 7 ; mine\n", "known": browser.value(f"JSON.parse(localStorage[{name}]).known")}
-            for kept, shown in (
-                ("{{{", "CLS\n"),
-                ("null", "CLS\n"),
-                ("[1, 2]", "CLS\n"),
-                (json.dumps({"text": 5}), "CLS\n"),
-                (json.dumps({**good, "keys": 5, "form": 7, "step": "x", "options": [1]}), "LD V0, 7 ; mine\n"),
-                (json.dumps({**good, "keys": "nonsense", "form": {"encoding": "x"}, "step": -5, "options": {"rate": "abc", "x": "y"}}), "LD V0, 7 ; mine\n"),
-                (json.dumps({**good, "options": {"rate": "99999"}, "step": 1e300}), "LD V0, 7 ; mine\n"),
+            self.wait_kept("CLS\n")
+            for change, shown in (
+                ("for (const name of Object.keys(record)) if (!['key', 'name'].includes(name)) delete record[name]", "CLS\n"),
+                ("record.text = 5", "CLS\n"),
+                ("Object.assign(record, { text: 'LD V0, 7 ; mine\\n', keys: 5, form: 7, step: 'x', options: [1], history: 5 })", "LD V0, 7 ; mine\n"),
+                ("Object.assign(record, { keys: 'nonsense', form: { encoding: 'x' }, step: -5, options: { rate: 'abc', x: 'y' }, history: { text: { done: [5] } } })", "LD V0, 7 ; mine\n"),
+                ("Object.assign(record, { options: { rate: '99999' }, step: 1e300 })", "LD V0, 7 ; mine\n"),
             ):
-                browser.value(
-                    f"{{ const name = {name}; addEventListener('pagehide', () => {{ localStorage[name] = {json.dumps(kept)}; localStorage[`${{name}}, history`] = '{{\"text\":{{\"done\":[5]}}}}';"
-                    "localStorage['chipbench-page, earlier'] = '[7, {}]'; localStorage['chipbench-page, appearance'] = '5'; }); }"
-                )
+                known = "record.known = record.isFile ? record.known : null" if self.is_one_file else ""
+                self.put_kept(f"{change}; {known}; localStorage['chipbench-page, earlier'] = '[7, {{}}]'; localStorage['chipbench-page, appearance'] = '5'")
                 self.reload()
                 if self.is_one_file and shown == "CLS\n":
                     # the text stood in the storage alone
-                    assert self.source() == "", (kept, self.source())
+                    assert self.source() == "", (change, self.source())
+                    self.put_kept("Object.assign(record, { text: 'CLS\\n' })")
+                    self.reload()
                     continue
-                assert self.source() == shown, (kept, self.source())
+                assert self.source() == shown, (change, self.source())
                 self.step(1)
                 assert self.registers()["pc"] == "0202"
-                self.browser.console = [line for line in self.browser.console if "400" not in line]
 
     def test_texts_of_two_windows(self) -> None:
         """What another window keeps of a text isn't lost to what this one keeps."""
-        kept = "localStorage[Object.keys(localStorage).find((key) => key.endsWith('game.asm'))]"
         with self.page("CLS\n") as browser:
-            browser.wait("Object.keys(localStorage).some((key) => key.endsWith('game.asm'))")
-            other = "{ const kept = JSON.parse(%s); kept.text = 'LD V0, 1 ; theirs\\n'; %s = JSON.stringify(kept); }" % (kept, kept)
-            browser.value(other)
+            self.wait_kept("CLS\n")
+            self.put_kept("record.text = 'LD V0, 1 ; theirs\\n'")
             self.step(5)
             time.sleep(0.5)
-            assert "theirs" in browser.value(kept)
+            assert "theirs" in self.kept()["text"]
             self.put_line(1, "LD V0, 2 ; mine")
-            browser.wait(f"{kept}.includes('mine')")
+            self.wait_kept("LD V0, 2 ; mine\n")
             assert "Another window" in self.text_of("#notices")
             self.put_line(1, "LD V0, 3 ; mine")
-            browser.wait(f"{kept}.includes('V0, 3')")
+            self.wait_kept("LD V0, 3 ; mine\n")
             self.notice_button("Take it back")
             assert browser.value("document.getElementById('source-text').value") == "LD V0, 1 ; theirs\n"
             self.notice_button("Take it back")

@@ -46,6 +46,27 @@ POINTS = """(() => {
     }
     return rows;
 })()"""
+# resolves when the database of the page is empty, and stays so
+EMPTY = """new Promise((done, fail) => {
+    const opening = indexedDB.open('chipbench-page');
+    opening.onerror = () => fail(opening.error);
+    opening.onsuccess = () => {
+        IDBObjectStore.prototype.put = () => {};
+        const names = [...opening.result.objectStoreNames];
+        const clearing = opening.result.transaction(names, 'readwrite');
+        for (const name of names) clearing.objectStore(name).clear();
+        clearing.oncomplete = () => { opening.result.close(); done(); };
+    };
+})"""
+# what the database of the page has of a document: `%s` is a condition on `record`
+KEPT = """new Promise((done, fail) => {
+    const opening = indexedDB.open('chipbench-page');
+    opening.onerror = () => fail(opening.error);
+    opening.onsuccess = () => {
+        const reading = opening.result.transaction('documents').objectStore('documents').getAll();
+        reading.onsuccess = () => { opening.result.close(); done(reading.result.find((record) => %s) ?? null); };
+    };
+})"""
 # resolves when the page has shown the answer to all that was changed
 REST = """new Promise((done) => {
     const { viewer } = chipbenchPage;
@@ -113,6 +134,8 @@ class PageTests:
         clear = "localStorage.clear(); sessionStorage.clear();"
         try:
             self.begin(self.page_folder.resolve().as_uri())
+            # what is kept goes, and nothing is kept from then on
+            self.browser.value(EMPTY)
             self.browser.value(f"{clear} addEventListener('pagehide', () => {{ {clear} }})")
             self.browser.open("about:blank")
             self.begin(self.address)
@@ -179,6 +202,24 @@ class PageTests:
     def starts(self) -> int:
         """How often the program was started since the page was opened; by the page in one file also on what it was opened on."""
         return self.browser.value("chipbenchPage.workbench.starts") - self.starts_before
+
+    def kept(self, name: str = "game.asm") -> Any:
+        """What the browser keeps of the document of that name, or none."""
+        return self.browser.value(KEPT % f"record.name === {json.dumps(name)}")
+
+    def wait_kept(self, text: str, name: str = "game.asm") -> None:
+        """Waits until the browser keeps that text."""
+        wait_for(lambda: (self.kept(name) or {}).get("text") == text, f"{name} is kept with that text")
+
+    def put_kept(self, change: str, name: str = "game.asm") -> None:
+        """Changes what the browser keeps of a document, as another window would: `change` is a statement about `record`."""
+        self.browser.value(
+            "new Promise((done) => { const opening = indexedDB.open('chipbench-page'); opening.onsuccess = () => {"
+            "const writing = opening.result.transaction('documents', 'readwrite'); const store = writing.objectStore('documents');"
+            f"store.getAll().onsuccess = ({{ target }}) => {{ const record = target.result.find((one) => one.name === {json.dumps(name)});"
+            f"record.stamp = `of a test ${{Math.random()}}`; {change}; store.put(record); }};"
+            "writing.oncomplete = () => { opening.result.close(); done(); }; }; })"
+        )
 
     def rest(self) -> None:
         self.browser.value(REST)

@@ -193,11 +193,9 @@ class RunTests(PageTests):
     def test_events_past_the_last_step(self) -> None:
         """What a browser kept for a program with more steps is told."""
         with self.page("LD V0, K\n") as browser:
-            browser.value("chipbenchPage.model.setKeys(chipbenchPage.model.keys.with(3, 5, true)); globalThis.dispatchEvent(new Event('pagehide'))")
-            browser.value(
-                "{ const name = Object.keys(localStorage).find((key) => key.endsWith('game.asm')); const kept = JSON.parse(localStorage[name]);"
-                "kept.keys += '900000000 5 up\\n'; kept.step = 900000000; const text = JSON.stringify(kept); addEventListener('pagehide', () => { localStorage[name] = text; }); }"
-            )
+            browser.value("chipbenchPage.model.setKeys(chipbenchPage.model.keys.with(3, 5, true))")
+            wait_for(lambda: (self.kept() or {}).get("keys") == "3 5 down\n", "the keys are kept")
+            self.put_kept("record.keys += '900000000 5 up\\n'; record.step = 900000000")
             self.reload()
             assert "were left out: 1" in self.text_of("#notices"), self.text_of("#notices")
             places = browser.value("[chipbenchPage.model.step, chipbenchPage.model.lastStep]")
