@@ -1,6 +1,6 @@
 // What the keys of the keyboard and the buttons of the time carry out, by its name.
 
-import { byId } from './dom.mjs';
+import { byId, takesText } from './dom.mjs';
 
 /** `page` has the parts of the page. Returns `act(name)`. */
 export function actionsOf(page) {
@@ -28,12 +28,17 @@ export function actionsOf(page) {
     'on-thousand': move(() => 1000),
     first: move(() => -model.step),
     last: move(() => model.lastStep - model.step),
-    play: () => player.play(player.direction === 0 ? 1 : 0),
+    play: () => {
+      player.play(player.direction === 0 ? 1 : 0);
+      // the game's keys are to reach it, and not a text or a field
+      if (player.direction > 0 && takesText(document.activeElement)) timeline.focus();
+    },
     'play-back': () => player.toggle(-1),
     'event-before': () => model.setStep(model.keys.previous(model.step)?.step ?? model.step),
     'event-after': () => model.setStep(model.keys.next(model.step)?.step ?? model.step),
-    'undo-keys': () => model.undoKeys(),
-    'redo-keys': () => model.redoKeys(),
+    undo: () => (model.lastChange === 'text' ? editor.undo() : model.undoKeys()),
+    redo: () => (model.lastChange === 'text' ? editor.undo(true) : model.redoKeys()),
+    'tell-keys': () => runControl.tell('the game\'s keys are recorded while it plays; with the tab Keys in sight they change this step'),
     breakpoint: () => editor.breakpoints.toggle(editor.line),
     'to-step': () => byId('step').select(),
     'to-source': () => inSource(() => editor.focus()),

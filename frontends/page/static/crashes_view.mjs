@@ -24,8 +24,14 @@ export class CrashesView {
       if (detail === 'keys') this.#draw();
     });
     this.#switch.addEventListener('click', () => (crashes.isBusy ? crashes.stop() : crashes.start()));
-    this.#show.addEventListener('click', () => this.showCrash());
-    this.#mine.addEventListener('click', () => model.undoKeys());
+    this.#show.addEventListener('click', () => {
+      this.showCrash();
+      this.#mine.focus();
+    });
+    this.#mine.addEventListener('click', () => {
+      model.undoKeys();
+      this.#show.focus();
+    });
     this.#draw();
   }
 

@@ -1,7 +1,7 @@
 // The source: its text, what is typed into it, and what is known of its lines. A text area holds the lines around the cursor
 // (text_window.mjs), and rows beside it show all that are in sight (editor_rows.mjs).
 
-import { byId, oncePerFrame } from './dom.mjs';
+import { byId, oncePerFrame, soon } from './dom.mjs';
 import { Breakpoints } from './breakpoints.mjs';
 import { columnOf } from './columns.mjs';
 import { EditorKeys } from './editor_keys.mjs';
@@ -32,6 +32,8 @@ export class Editor extends LineFacts {
   #box = null;
   /** What the area became is known already: the event about it tells others alone. */
   #isOwn = false;
+  /** The text and the selection before a composition that goes on, which is one change; or null. */
+  #composed = null;
 
   breakpoints = new Breakpoints();
 
@@ -45,6 +47,12 @@ export class Editor extends LineFacts {
     this.#area.addEventListener('input', (event) => this.#changed(event.inputType));
     this.#area.addEventListener('beforeinput', (event) => this.#beforeInput(event));
     this.#area.addEventListener('keydown', (event) => this.#pressed(event));
+    this.#area.addEventListener('compositionstart', () => {
+      const { start, end } = this.selection;
+      this.#composed = { text: this.text, selection: [start, end] };
+    });
+    // some browsers tell of the last change after the end
+    this.#area.addEventListener('compositionend', () => soon(() => this.#endComposition()));
     // not every browser tells of a moved cursor by the first of these
     for (const name of ['selectionchange', 'keyup', 'pointerup']) {
       document.addEventListener(name, () => {
@@ -70,6 +78,7 @@ export class Editor extends LineFacts {
 
   /** Another document. Its text isn't told as an edit. */
   #begin() {
+    this.#composed = null;
     this.breakpoints.set(this.#model.breakLines);
     if (this.#model.text === this.#source.text) return;
     this.#source.text = this.#model.text;
@@ -279,9 +288,17 @@ export class Editor extends LineFacts {
     this.#window.flush();
   }
 
+  #endComposition() {
+    if (this.#composed === null) return;
+    const { text, selection } = this.#composed;
+    this.#composed = null;
+    const { start, end } = this.selection;
+    this.#model.textHistory.record(text, this.text, { selectionBefore: selection, selectionAfter: [start, end], time: performance.now(), isTyped: false });
+  }
+
   #taken(was, change, inputType) {
     const { start, end } = this.selection;
-    this.#model.textHistory.add(change, {
+    if (this.#composed === null) this.#model.textHistory.add(change, {
       selectionBefore: [this.#before.start, this.#before.end],
       selectionAfter: [start, end],
       time: performance.now(),

@@ -20,7 +20,7 @@ export class EditorKeys {
     const { key, shiftKey } = event;
     if (control) return this.#pressWithControl(event);
     if (key === 'PageDown' || key === 'PageUp') return this.#movePage(key === 'PageDown' ? 1 : -1, shiftKey);
-    if (key === 'Tab') return shiftKey ? false : this.#indent();
+    if (key === 'Tab') return shiftKey ? this.#outdentLines() : this.#indent();
     if (key === 'Enter') return this.#breakLine();
     if (key === 'Backspace') return this.#outdent();
     return false;
@@ -80,6 +80,22 @@ export class EditorKeys {
     const indented = text.slice(first, last).replace(/^(?=.)/gm, ' '.repeat(TAB));
     this.#editor.replace(first, last, indented);
     this.#editor.select(first, first + indented.length);
+    return true;
+  }
+
+  /** Takes as much of an indent out of the cursor's line, or of all lines that are chosen. */
+  #outdentLines() {
+    const { start, end } = this.#editor.selection;
+    const { text } = this.#editor;
+    const first = this.#editor.lineOf(start).start;
+    const last = end > start && text[end - 1] === '\n' ? end - 1 : Math.max(end, first);
+    const lineEnd = text.indexOf('\n', last);
+    const lines = text.slice(first, lineEnd < 0 ? text.length : lineEnd);
+    const without = lines.replace(new RegExp(`^(?: {1,${TAB}}|\\t)`, 'gm'), '');
+    if (without === lines) return true;
+    this.#editor.replace(first, first + lines.length, without);
+    if (lines.includes('\n')) this.#editor.select(first, first + without.length);
+    else this.#editor.select(...Array(2).fill(Math.max(first, start - lines.length + without.length)));
     return true;
   }
 

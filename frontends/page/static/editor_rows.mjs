@@ -26,7 +26,8 @@ export class EditorRows {
   /** The rows that are marked as those of the line that pc is at. */
   #marked = [];
   /** A hundred columns, to know how wide one is. */
-  #measure = element('span', { className: 'measure', textContent: '0'.repeat(100) });
+  #hundred = element('span', { textContent: '0'.repeat(100) });
+  #measure = element('div', { className: 'measure' }, this.#hundred);
 
   /** `content` is the editor: the lines, and what is known of each. */
   constructor(content) {
@@ -34,7 +35,7 @@ export class EditorRows {
   }
 
   measureColumn() {
-    return this.#measure.getBoundingClientRect().width / 100;
+    return this.#hundred.getBoundingClientRect().width / 100;
   }
 
   /** Draws the rows that are in sight. */

@@ -45,6 +45,9 @@ export class FileDialogs {
     this.#editor = editor;
     this.#workbench = workbench;
     for (const place of document.querySelectorAll('.folder')) place.textContent = about.folder;
+    // a page without a bridge has no folder
+    for (const place of document.querySelectorAll('.with-folder')) place.hidden = about.isLoose === true;
+    for (const place of document.querySelectorAll('.without-folder')) place.hidden = about.isLoose !== true;
     this.#listen();
   }
 

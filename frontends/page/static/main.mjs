@@ -28,6 +28,7 @@ import { Findings } from './findings.mjs';
 import { GameExport } from './game_export.mjs';
 import { Keypad } from './keypad.mjs';
 import { showLicences } from './licences.mjs';
+import { pressInMenu } from './menus.mjs';
 import { MemoryView } from './memory_view.mjs';
 import { Model } from './model.mjs';
 import { notice } from './notices.mjs';
@@ -197,7 +198,8 @@ class Page {
     byId('show-help').addEventListener('click', () => byId('help').showModal());
     byId('licences').addEventListener('toggle', showLicences);
     for (const menu of document.querySelectorAll('.menu')) this.#listenToMenu(menu);
-    listen({ player: this.player, look: () => this.model.look, act: (name) => this.#act(name) });
+    const editsKeys = () => this.appearance.tab === 'keys';
+    listen({ player: this.player, look: () => this.model.look, act: (name) => this.#act(name), editsKeys });
   }
 
   #listenToStep(field) {
@@ -219,16 +221,12 @@ class Page {
     menu.addEventListener('click', ({ target }) => {
       if (target.closest('button') !== null) menu.open = false;
     });
-    menu.addEventListener('keydown', (event) => {
-      if (event.key !== 'Escape' || !menu.open) return;
-      event.preventDefault();
-      menu.open = false;
-      menu.querySelector('summary').focus();
-    });
+    menu.addEventListener('keydown', (event) => pressInMenu(menu, event));
   }
 
   #changed(what) {
     if (what === 'text') this.documents.tellState();
+    if (what === 'refused') notice('keys', 'The program takes no more than 10,000 key events: nothing was changed.', { bad: true });
     if (what === 'keys') this.keypad.show(this.model.keys, this.model.step);
     if (what === 'document') {
       this.player.play(0);

@@ -7,6 +7,8 @@ import { lookOf, USUAL_LOOK } from './look.mjs';
 import { TextHistory } from './text_history.mjs';
 import { programLines } from './text_form.mjs';
 
+/** So many key events the program takes (docs/FORMATS.md: N9). */
+export const MOST_EVENTS = 10_000;
 /** So many texts of a document have the same lines again after an undo. */
 const MOST_TEXTS = 16;
 
@@ -31,6 +33,8 @@ export class Model extends EventTarget {
   breakLines = [];
   textHistory = new TextHistory();
   keyHistory = new KeyHistory();
+  /** What was changed last, `text` or `keys`: undo takes that back. */
+  lastChange = 'keys';
 
   /**
    * The work that the program is asked about: the document, its lines as bytes, those of them that no program takes (`refused`, codes by
@@ -68,6 +72,7 @@ export class Model extends EventTarget {
     this.text = text;
     this.form = { encoding, lineEnd };
     this.#wanted = null;
+    this.lastChange = 'text';
     this.#changed('text');
   }
 
@@ -76,16 +81,24 @@ export class Model extends EventTarget {
     this.document += 1;
     this.#wanted = null;
     this.#linesOf.clear();
-    Object.assign(this, { text, form, keys, textHistory, keyHistory, options, look: lookOf(look), played, breakLines, flag: null });
+    Object.assign(this, { text, form, keys, textHistory, keyHistory, options, look: lookOf(look), played, breakLines, flag: null, lastChange: 'keys' });
     this.step = this.#wholeStep(step);
     for (const what of ['document', 'look', 'options', 'text', 'keys', 'step', 'flag', 'played', 'breakpoints']) this.#changed(what);
   }
 
-  /** `group` says of which `play` or `move` the change is a part (key_history.mjs). */
+  /**
+   * `group` says of which `play` or `move` the change is a part (key_history.mjs). More events than the program takes are refused: then
+   * nothing is changed, and false is returned.
+   */
   setKeys(keys, group = {}) {
-    if (keys === this.keys) return;
+    if (keys === this.keys) return true;
+    if (keys.size > MOST_EVENTS && keys.size > this.keys.size) {
+      this.#changed('refused');
+      return false;
+    }
     this.keyHistory.record(this.keys, keys, group);
     this.#takeKeys(keys);
+    return true;
   }
 
   /** The keys at the start: there is nothing to undo. */
@@ -103,6 +116,7 @@ export class Model extends EventTarget {
 
   #takeKeys(keys) {
     this.keys = keys;
+    this.lastChange = 'keys';
     if (this.#wanted !== null) this.#wanted = { ...this.#wanted, keys };
     this.#changed('keys');
   }

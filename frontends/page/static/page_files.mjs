@@ -136,7 +136,7 @@ const described = (name, path, text) => ({ name, path, text, digest: text === nu
 /** The requests about files of a page in one file, for its carrier. A tab that is loaded anew comes back to what it had open. */
 export function ownRequests({ examples, documents, game }) {
   const files = new PageFiles(examples);
-  const about = { name: null, path: null, text: null, digest: null, isImage: false, start: 'one file', folder: 'this browser', settings: {} };
+  const about = { name: null, path: null, text: null, digest: null, isImage: false, start: 'one file', folder: 'this browser', isLoose: true, settings: {} };
   return {
     about: async () => ({ ...about, picks: files.picks }),
     files: async () => ({ folder: about.folder, files: files.list() }),

@@ -1,6 +1,7 @@
 // Plays the run at the rate's speed, forwards and backwards, a frame at a time; and records keys that are pressed while it plays.
 
 import { grouped } from './dom.mjs';
+import { MOST_EVENTS } from './model.mjs';
 
 const FRAMES_A_SECOND = 60;
 const LONGEST_GAP = 0.25;
@@ -123,6 +124,12 @@ export class Player extends EventTarget {
       return;
     }
     if (step >= lastStep) return;
+    // the release is an event too: where the program doesn't take both, the play goes no further
+    if (keys.size + 2 > MOST_EVENTS) {
+      this.play(0);
+      this.#tell(`paused: there are ${grouped(keys.size)} key events, and the program takes no more than ${grouped(MOST_EVENTS)}`);
+      return;
+    }
     this.#pressed.set(key, step);
     this.#record(keys.with(step, key, true));
   }

@@ -38,7 +38,11 @@ export class PropertiesView {
       if (detail === 'keys' || detail === 'text') this.#draw();
     });
     this.#switch.addEventListener('click', () => (properties.isBusy ? properties.stop() : properties.start()));
-    this.#mine.addEventListener('click', () => model.undoKeys());
+    this.#mine.addEventListener('click', () => {
+      const line = this.#shown?.line;
+      model.undoKeys();
+      this.#rows.querySelector(`[data-line="${line}"]`)?.focus();
+    });
   }
 
   /** Draws the panel, which came into sight, or whose machine is another one. */
@@ -54,6 +58,7 @@ export class PropertiesView {
     this.#shown = answer;
     this.#model.setStep(answer.step);
     this.#draw();
+    this.#mine.focus();
   }
 
   /** The values at the step that is shown, where the play is that of an answer. */
@@ -97,6 +102,7 @@ export class PropertiesView {
     const show = element('button', { type: 'button', className: 'bordered', textContent: 'Show', title: 'Loads the keys, and goes to the step', disabled: isShown });
     show.setAttribute('aria-label', `Show the play of line ${line}`);
     show.hidden = answer?.keys === undefined;
+    show.dataset.line = line;
     show.addEventListener('click', () => this.#show(answer));
     const isWrong = fault !== undefined || (answer !== undefined && isBad(answer));
     const values = isShown ? [element('p', { className: 'values' })] : [];

@@ -37,10 +37,11 @@ const BY_NAME = {
 };
 
 /**
- * Calls `act(name)` for the keys above; the sixteen keys go to the player. While the run plays, so do the arrow keys, by the look
- * of the game; without such a look they do nothing then, so that none of them ends the play.
+ * Calls `act(name)` for the keys above; the sixteen keys go to the player while the run plays, and where `editsKeys()` says that they
+ * are being edited. While it plays, so do the arrow keys, by the look of the game; without such a look they do nothing then, so that
+ * none of them ends the play.
  */
-export function listen({ player, look, act }) {
+export function listen({ player, look, act, editsKeys }) {
   const down = new Map();
   const isBusy = (event) => event.defaultPrevented || event.isComposing || document.querySelector('dialog[open]') !== null;
   const press = (event, key) => {
@@ -49,10 +50,13 @@ export function listen({ player, look, act }) {
     down.set(event.code, key);
     player.press(key);
   };
-  // before a timeline or a list of tabs takes the arrows
+  const hasModifier = (event) => event.ctrlKey || event.altKey || event.metaKey;
+  /** A list takes no letters from a game that plays. */
+  const isTyped = (target) => takesText(target) && !(target instanceof HTMLSelectElement && player.direction > 0);
+  // before a timeline or a list of tabs takes the arrows, or a list a letter
   document.addEventListener('keydown', (event) => {
-    if (isBusy(event) || player.direction <= 0 || takesText(event.target) || event.ctrlKey || event.altKey || event.metaKey || event.shiftKey) return;
-    const key = mappedKey(look(), event.code);
+    if (isBusy(event) || player.direction <= 0 || isTyped(event.target) || hasModifier(event) || event.shiftKey) return;
+    const key = mappedKey(look(), event.code) ?? (event.target instanceof HTMLSelectElement ? keyOf(event.code) : null);
     if (key === null && !ARROWS.includes(event.code)) return;
     event.stopPropagation();
     if (key === null) event.preventDefault();
@@ -67,8 +71,10 @@ export function listen({ player, look, act }) {
       return;
     }
     const key = keyOf(event.code);
-    if (key === null || event.ctrlKey || event.altKey || event.metaKey || takesText(event.target)) return;
-    press(event, key);
+    if (key === null || hasModifier(event) || takesText(event.target)) return;
+    // a run that stands is changed where its keys are in sight
+    if (player.direction > 0 || editsKeys()) press(event, key);
+    else act('tell-keys');
   });
   document.addEventListener('keyup', (event) => {
     const key = down.get(event.code);
@@ -92,8 +98,8 @@ function actionOf(event) {
   const withControl = { KeyS: 'save', KeyF: 'find', KeyH: 'replace', KeyG: 'to-line' }[event.code];
   if (control && !event.altKey && !event.shiftKey && withControl !== undefined) return withControl;
   if (event.key === 'Enter' && event.altKey && inText) return 'fix';
-  if (control && !event.altKey && event.code === 'KeyZ') return inText ? undefined : event.shiftKey ? 'redo-keys' : 'undo-keys';
-  if (control && !event.altKey && event.code === 'KeyY') return inText ? undefined : 'redo-keys';
+  if (control && !event.altKey && event.code === 'KeyZ') return inText ? undefined : event.shiftKey ? 'redo' : 'undo';
+  if (control && !event.altKey && event.code === 'KeyY') return inText ? undefined : 'redo';
   if (control || event.metaKey) return undefined;
   if (event.key === 'Escape' && inText) return 'to-timeline';
   const byPlace = BY_PLACE[event.code];

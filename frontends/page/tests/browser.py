@@ -20,6 +20,7 @@ from browser_source import SourceTests
 from browser_speed import SpeedTests
 from browser_stale import StaleTests
 from browser_typing import TypingTests
+from browser_way import WayTests
 from chromium import Chromium
 from driver import Browser
 from firefox import Firefox
@@ -44,7 +45,7 @@ OF_THE_BRIDGE = {
 OF_ONE_FILE = {"test_files_without_a_bridge", "test_a_file_handle_is_kept"}
 
 
-class Tests(SourceTests, TypingTests, RunTests, FileTests, ShapeTests, LayoutTests, PlayTests, SpeedTests, StaleTests, KeptTests):
+class Tests(SourceTests, TypingTests, RunTests, FileTests, ShapeTests, LayoutTests, PlayTests, SpeedTests, StaleTests, KeptTests, WayTests):
     """Each method whose name begins with `test_` is one test."""
 
 
