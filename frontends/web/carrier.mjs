@@ -23,8 +23,9 @@ class Workers {
   #worker(kind) {
     if (!this.#workers.has(kind)) {
       const worker = this.#begin();
-      const isSession = kind === 'session';
-      worker.postMessage({ kind: isSession ? 'session' : 'program', bytes: isSession ? this.#modules.session : this.#modules.program });
+      const name = kind === 'session' ? 'session' : 'program';
+      // a module may come later than the page
+      const ready = Promise.resolve(this.#modules[name]).then((bytes) => worker.postMessage({ kind: name, bytes }));
       const waiting = new Map();
       worker.onmessage = ({ data }) => {
         const { answered, tell } = waiting.get(data.number) ?? {};
@@ -34,7 +35,7 @@ class Workers {
           answered?.(data);
         }
       };
-      this.#workers.set(kind, { worker, waiting });
+      this.#workers.set(kind, { worker, waiting, ready });
     }
     return this.#workers.get(kind);
   }
@@ -54,13 +55,14 @@ class Workers {
 
   /** `tell` is told how far a run is; a run with one may take any time. */
   async ask(kind, name, body, tell) {
-    const { worker, waiting } = this.#worker(kind);
+    const { worker, waiting, ready } = this.#worker(kind);
     this.#number += 1;
     const number = this.#number;
     const late = tell === undefined ? setTimeout(() => this.end(kind), 1000 * SECONDS) : null;
     const { reply, refused } = await new Promise((answered) => {
       waiting.set(number, { answered, tell });
-      worker.postMessage({ number, name, body });
+      const refuse = (fault) => answered({ refused: { status: 0, text: fault.message } });
+      ready.then(() => worker.postMessage({ number, name, body })).catch(refuse);
     });
     clearTimeout(late);
     if (refused) throw new BridgeFault(refused.status, refused.text);
@@ -111,7 +113,7 @@ class LongRuns {
 /**
  * Has the page's requests about the program carried out by workers, and those about files by `own`, which are functions by the names of
  * requests: `about`, `files`, `read`, `save`, and where the browser's file access is used `pick` and `choose`; `game`, the page of an
- * exported game; `text`, a document or an example by its name. `begin()` begins a worker; `modules` are the bytes of the WebAssembly modules.
+ * exported game; `text`, a document or an example by its name. `begin()` begins a worker; `modules` are the bytes of the WebAssembly modules, or promises of them.
  */
 export function carryByWorkers(begin, modules, own) {
   const workers = new Workers(begin, modules);

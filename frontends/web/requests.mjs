@@ -48,7 +48,7 @@ export function argumentsOf(options) {
 function settingsOf({ rate, tape, profile, quirks, every }) {
   const settings = {};
   if (rate !== undefined) settings.rate = Number(rate);
-  if (tape !== undefined) settings.tape = Uint8Array.from(tape.match(/../g) ?? [], (digits) => parseInt(digits, 16));
+  if (tape !== undefined) settings.tape = Uint8Array.from(tape.match(/../g) ?? [], (/** @type {any} */ digits) => parseInt(digits, 16));
   if (profile !== undefined) settings.profile = profile;
   if (quirks !== undefined) settings.quirks = quirks;
   if (every !== undefined) settings.spacing = Number(every);

@@ -36,7 +36,7 @@ const ERRORS = {
   ENOTSUP: [95, 'Operation not supported'],
   EDQUOT: [122, 'Disk quota exceeded'],
 };
-const TEXTS = new Map(Object.values(ERRORS));
+const TEXTS = new Map(/** @type {[number, string][]} */ (Object.values(ERRORS)));
 const EMPTY_PATH = 0x1000;
 const NO_FOLLOW = 0x100;
 const OPEN = { write: 1, readAndWrite: 2, create: 0o100, exclusive: 0o200, truncate: 0o1000, append: 0o2000 };
@@ -60,6 +60,9 @@ export function run(module, host) {
 }
 
 class System {
+  /** @type {any} */
+  exports = null;
+
   constructor(host) {
     this.host = host;
     this.error = 0;
@@ -83,7 +86,7 @@ class System {
   }
 
   // What a call answers, or -1 where the host refuses it. `wide` is of calls that answer 64 bits.
-  guarded(call, refused = -1) {
+  guarded(call, /** @type {any} */ refused = -1) {
     try {
       return call() ?? 0;
     } catch (error) {

@@ -8,6 +8,7 @@ export class BridgeFault extends Error {
   }
 }
 
+/** @type {(name: string, body: any) => Promise<any>} */
 let carrier = async () => {
   throw new BridgeFault(0, 'nothing carries requests yet');
 };

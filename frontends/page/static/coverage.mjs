@@ -100,8 +100,9 @@ export class Coverage {
       const line = map.lineAt(pc);
       if (line !== null && (covered.get(line) ?? -1) < last) covered.set(line, last);
     }
-    const told = [...covered].map(([line, last]) => [line, `executed, last at step ${grouped(last)}${last === step ? ', this one' : ''}`]);
-    this.#page.findings.take('covered', wanted, new Map(told));
+    const told = new Map();
+    for (const [line, last] of covered) told.set(line, `executed, last at step ${grouped(last)}${last === step ? ', this one' : ''}`);
+    this.#page.findings.take('covered', wanted, told);
     const isWhole = this.#steps.count > step;
     this.#button.title = isWhole ? `${grouped(covered.size)} lines are executed up to step ${grouped(step)}` : `looked at up to step ${grouped(this.#steps.count)}`;
   }

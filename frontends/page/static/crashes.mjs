@@ -28,7 +28,7 @@ export function readExplored(output) {
 /** What is found has `crash`, `within` and `others`, and `keys`, the script under which it stops. */
 export class Crashes extends BackgroundSearch {
   /** An empty source is not searched: it stops at once. */
-  constructor({ model, findings, hasRun, ask }) {
+  constructor({ model, findings, hasRun, ask = undefined }) {
     super({ model, findings, command: 'explore', hindrance: async () => (model.text.trim() === '' ? 'empty' : (await hasRun()) ? null : 'faulty'), ask });
   }
 

@@ -4,8 +4,6 @@ const NAME = 'chipbench-page';
 const VERSION = 1;
 const STORES = { documents: 'key', handles: 'key', earlier: 'id' };
 
-let opened = null;
-
 function open() {
   return new Promise((done, fail) => {
     const request = indexedDB.open(NAME, VERSION);
@@ -17,12 +15,16 @@ function open() {
   });
 }
 
+/** It is opened at once: the first document is read from it. */
+const opened = open();
+// a browser without a database tells so where something is to be kept
+opened.catch(() => {});
+
 /**
  * Has `act(store, give)` read and change a store in one transaction, and resolves with what it gave once all of it is written. What can't
  * be written, such as where there is no room left, is thrown, and nothing of it is.
  */
 export async function inStore(name, mode, act) {
-  opened ??= open();
   const base = await opened;
   return new Promise((done, fail) => {
     const transaction = base.transaction(name, mode);

@@ -18,6 +18,9 @@ export function fileDocument({ name, path, text, digest }) {
 /** A text that is in no file that can be written. */
 export const elsewhere = ({ key = newKey(), name, text = null, digest = null }) => ({ key, name, isFile: false, digest, file: text === null ? null : readFile(text) });
 
+/** The key of the source of an image that the bridge was started on. */
+export const imageKey = (path) => `image ${path}`;
+
 /** A name as a source has one, so that Open lists the file. */
 export const asSource = (name) => (/\.(asm|s|txt)$/i.test(name) ? name : `${name}.asm`);
 

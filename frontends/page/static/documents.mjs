@@ -1,7 +1,7 @@
 // The author's document: the file that it is of, what the browser kept of it, saving, and other documents in its place.
 
 import { request } from './bridge.mjs';
-import { asSource, elsewhere, fileDocument, sourceName, stateText, UNTITLED, withForm } from './document_kinds.mjs';
+import { asSource, elsewhere, fileDocument, imageKey, sourceName, stateText, UNTITLED, withForm } from './document_kinds.mjs';
 import { byId, setText } from './dom.mjs';
 import { EarlierTexts } from './earlier_texts.mjs';
 import { sourceOf } from './image_source.mjs';
@@ -93,11 +93,10 @@ export class Documents extends EventTarget {
   /** Opens the document that the tab had, or that of the bridge. Returns what the browser kept of it, or null. */
   async begin() {
     await this.#store.begin();
-    await this.#earlier.read();
-    const first = await this.#firstDocument();
     const tab = tabDocument.read(this.#about.start);
-    const found = tab === null || tab.key === first.key ? null : await this.#found(tab);
-    const opened = await this.#start(found ?? first);
+    const { isImage, path } = this.#about;
+    const opened = await this.#start(tab === null || tab.key === (isImage ? imageKey(path) : path) ? await this.#firstDocument() : await this.#found(tab));
+    await this.#earlier.read();
     const isNew = (entry) => entry.key === this.#open.key && entry.kind !== 'save' && entry.told !== true;
     if (this.earlier.some(isNew)) this.#offerEarlier('');
     return opened;
@@ -107,7 +106,7 @@ export class Documents extends EventTarget {
   async #firstDocument() {
     const { isImage, name, text, digest } = this.#about;
     try {
-      if (isImage) return elsewhere({ key: `image ${this.#about.path}`, name, text: await sourceOf(text), digest });
+      if (isImage) return elsewhere({ key: imageKey(this.#about.path), name, text: await sourceOf(text), digest });
     } catch (fault) {
       setTimeout(() => notice('upload', `${name} can't be opened: ${fault.message}.`, { bad: true }));
     }
@@ -160,7 +159,9 @@ export class Documents extends EventTarget {
     return kept;
   }
 
-  #take({ text, form, encoding, lineEnd, options: kept, look, keys = new KeyScript(), step = 0, played = 0, breakLines = [], textHistory = new TextHistory(), keyHistory = new KeyHistory() }) {
+  /** @param {any} contents what a document has */
+  #take(contents) {
+    const { text, form, encoding, lineEnd, options: kept, look, keys = new KeyScript(), step = 0, played = 0, breakLines = [], textHistory = new TextHistory(), keyHistory = new KeyHistory() } = contents;
     const options = this.#optionsFor({ kept, isFirst: this.#isFirst, isNew: text === '' && this.#open.file === null });
     this.#model.startWith({ text, form: form ?? { encoding, lineEnd }, keys, step, played, breakLines, textHistory, keyHistory, options, look });
     this.tellState();

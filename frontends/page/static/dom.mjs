@@ -1,5 +1,6 @@
 // Small helpers for elements.
 
+/** @type {(id: string) => any} an element of the page, which has what its kind has */
 export const byId = (id) => document.getElementById(id);
 
 /** An element with properties, and children that are elements or texts. */

@@ -101,7 +101,7 @@ export class FileDialogs {
   }
 
   /** A file of the folder, which is saved there again. */
-  async #openNamed({ name, key }) {
+  async #openNamed({ name, key = undefined }) {
     await this.#try(name, async () => {
       const found = await request('read', { name, key });
       if (found.text === null) throw new Error('there is no such file any more');

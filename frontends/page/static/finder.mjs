@@ -98,7 +98,7 @@ async function bisected(search, wanted) {
 }
 
 /** Looks at one part of the run after another. `look(first, last)` tells which step has it, or null, and where the machine stopped. */
-async function inParts(look, { from, forward, lastStep, progress = () => true }) {
+async function inParts(look, { from, forward, lastStep, progress = (_part) => true }) {
   let [low, high] = forward ? [from + 1, lastStep] : [0, from - 1];
   const count = high - low + 1;
   for (let size = FIRST_PART; low <= high; size = Math.min(LARGEST_PART, 2 * size)) {

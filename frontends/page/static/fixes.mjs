@@ -6,6 +6,7 @@ import { tokensOf } from './language.mjs';
 export const BYTE_ORDER_MARK = '\ufeff';
 
 /** What a sentence of help offers, of its line and of the place of the fault there; null where that is nothing. */
+/** @type {[RegExp, (found: any, place: any, line: string) => any][]} */
 const OFFERS = [
   [/^did you mean (\w+)\?$/, written],
   [/^\w+ is written (\w+) here$/, written],

@@ -97,5 +97,5 @@ export function readKeys(text) {
     if (!isEvent) throw new Error(`line ${place + 1} of the keys: expected STEP KEY down or STEP KEY up, as in "10 4 down"; found "${line.slice(0, 60)}"`);
     return [event];
   });
-  return new KeyScript(new Map(events.map((event) => [`${event.step} ${event.key}`, event])).values());
+  return new KeyScript([...new Map(events.map((event) => [`${event.step} ${event.key}`, event])).values()]);
 }

@@ -12,11 +12,14 @@ export const MNEMONICS = [...new Set(INSTRUCTIONS.map(mnemonicOf))];
 export const REGISTERS = [...Array.from({ length: 16 }, (_, number) => `V${number.toString(16).toUpperCase()}`), ...PARTS];
 export { DIRECTIVES };
 
-const KINDS = new Map([
-  ...MNEMONICS.map((word) => [word, 'mnemonic']),
-  ...Object.keys(DIRECTIVES).map((word) => [word, 'directive']),
-  ...REGISTERS.map((word) => [word, 'register']),
-]);
+/** @type {(word: string, kind: string) => [string, string]} */
+const pair = (word, kind) => [word, kind];
+const KIND_ROWS = [
+  ...MNEMONICS.map((word) => pair(word, 'mnemonic')),
+  ...Object.keys(DIRECTIVES).map((word) => pair(word, 'directive')),
+  ...REGISTERS.map((word) => pair(word, 'register')),
+];
+const KINDS = new Map(KIND_ROWS);
 
 const TOKEN = /(?<comment>;.*)|(?<text>'[^']*'?|"[^"]*"?)|(?<number>[0-9#@$][A-Za-z0-9_.]*)|(?<word>[A-Za-z_][A-Za-z0-9_]*)|(?<sign>[^\s])/g;
 

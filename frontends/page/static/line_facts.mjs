@@ -13,6 +13,17 @@ export class LineFacts extends EventTarget {
   /** The line that pc is at, or null. */
   here = null;
 
+  /** The lines of the source. */
+  get lines() {
+    return [];
+  }
+
+  /** What is known of the lines has changed. */
+  factsChanged() {}
+
+  /** pc is at another line. */
+  hereChanged() {}
+
   /** The lines with a fault, in order. */
   get faultLines() {
     return [...this.#faults.keys()].sort((one, other) => one - other);

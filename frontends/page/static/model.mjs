@@ -22,6 +22,7 @@ export class Model extends EventTarget {
   form = { encoding: 'utf-8', lineEnd: '\n' };
   keys = new KeyScript();
   options = {};
+  /** @type {{ screen: string, arrows: string, letters: boolean }} */
   look = USUAL_LOOK;
   step = 0;
   lastStep = 100_000;

@@ -1,7 +1,7 @@
 // What earlier versions of the page kept in the browser's small storage is taken over into the database, once; and what a window that
 // is closed had not written yet.
 
-import { inStore, taken } from './database.mjs';
+import { inStore, readOne, taken } from './database.mjs';
 import { formOf } from './kept_document.mjs';
 
 const PREFIX = 'chipbench-page ';
@@ -36,6 +36,7 @@ const putRecord = (record, isNewer) =>
 
 /** Takes all over that the small storage has; what the database has no room for stays there. */
 export async function takeOver(storage = localStorage) {
+  if (!Object.keys(storage).some((name) => name.startsWith(PREFIX) || name.startsWith(PENDING) || name === EARLIER)) return;
   const slots = Object.keys(storage).filter((name) => name.startsWith(PREFIX) && !/, (?:history|aside)$/.test(name));
   for (const name of slots) {
     const slot = name.slice(PREFIX.length);
@@ -63,9 +64,20 @@ async function takeEarlier(storage) {
 async function takePending(storage) {
   for (const name of Object.keys(storage).filter((one) => one.startsWith(PENDING))) {
     const record = parsed(storage.getItem(name));
-    if (typeof record?.key === 'string' && typeof record.text === 'string') await putRecord(record, true);
+    if (typeof record?.key === 'string' && typeof record.text === 'string') await takeWork(record);
     storage.removeItem(name);
   }
+}
+
+/** Takes the work of a window that was closed; what another window has kept since is put aside. */
+async function takeWork({ before, ...record }) {
+  const there = await readOne('documents', record.key);
+  if (there !== undefined && there.stamp !== before && there.text !== record.text) {
+    const { text, form, key, name, isFile } = there;
+    const time = Date.now();
+    await inStore('earlier', 'readwrite', (store) => store.put({ text, form: formOf(form), key, name, isFile, why: 'kept by another window', time, id: `${time} ${Math.random()}` }));
+  }
+  await putRecord(record, true);
 }
 
 /** Keeps what isn't written yet of a window that is being closed, which has no time for the database. */

@@ -100,7 +100,7 @@ export class PageFiles {
   }
 
   /** Writes a file where it is still the one that is known; without file access it is a download. */
-  async save({ name, key, text, known }) {
+  async save({ name, key = undefined, text, known }) {
     if (!this.picks) return this.#download(name, key ?? name, text);
     const handle = key === undefined ? undefined : await this.#handleOf(key);
     if (handle === undefined) {

@@ -13,7 +13,7 @@ const SEEDS = 9999;
  * The settings of a document: those that were kept of it; of the first document of the page also those that the command line says.
  * A new game has a seed, so that its random bytes aren't all zero.
  */
-export function optionsOf({ settings, options }, { kept, isFirst, isNew }) {
+export function optionsOf({ settings, options }, { kept = undefined, isFirst = false, isNew = false }) {
   const said = isFirst ? settings : {};
   const taken = { rate: '10', ...kept, ...said };
   if ('seed' in said) delete taken.tape;
@@ -31,7 +31,7 @@ export async function findLastStep(about, { model, workbench }, isAgain = false)
     await workbench.answers({ ...wanted, lines, refused: new Map(), keys: new KeyScript() }, []);
     model.setLastStep(workbench.lastStep);
   } catch (fault) {
-    const isRefused = (fault instanceof ProgramEnded || fault instanceof BridgeFault) && !isAgain && fault.status !== 0;
+    const isRefused = !isAgain && fault.status !== 0 && (fault instanceof ProgramEnded || fault instanceof BridgeFault);
     if (isRefused && JSON.stringify(model.options) !== JSON.stringify({ rate: '10', ...about.settings })) {
       notice('settings', `The settings that this browser kept were left out: ${fault.message}.`);
       model.setOptions(optionsOf(about, { isFirst: true }));

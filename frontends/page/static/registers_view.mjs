@@ -4,7 +4,9 @@ import { byId, element, setText, setTitle } from './dom.mjs';
 import { hex } from './answers.mjs';
 
 /** The fields that are shown, in order: a name, its text in the registers of a machine, and what it means where the name doesn't say. */
+/** @type {any[]} */
 const SMALL = Array.from({ length: 16 }, (_, number) => [`V${hex(number, 1).toUpperCase()}`, ({ v }) => hex(v[number], 2)]);
+/** @type {any[]} */
 const OTHERS = [
   ['pc', ({ pc }) => hex(pc, 4), '', ({ pc }) => pc],
   ['I', ({ i }) => hex(i, 4), '', ({ i }) => i],
@@ -14,6 +16,7 @@ const OTHERS = [
   ['state', ({ state }) => state, 'run, or why it stopped'],
 ];
 /** What an edit may change besides. */
+/** @type {any[]} */
 const ELSEWHERE = [['size', ({ size }) => size], ['flags', ({ flags }) => flags.join()], ['stack', ({ stack }) => stack.join()]];
 /** Those for which a phone has no room. */
 const FEW = ['rnd', 'state'];

@@ -2,6 +2,8 @@
 
 import { BridgeFault } from './bridge.mjs';
 import { carryByWorkers } from './carrier.mjs';
+// the database is opened while the rest is fetched
+import './database.mjs';
 
 /** Something that the bridge serves, or null where it has no such thing. */
 async function served(name, take) {
@@ -10,7 +12,12 @@ async function served(name, take) {
 }
 
 const textOf = (name) => served(name, (reply) => reply.text());
-const bytesOf = async (name) => new Uint8Array(await served(name, (reply) => reply.arrayBuffer()));
+
+async function bytesOf(name) {
+  const bytes = await served(name, (reply) => reply.arrayBuffer());
+  if (bytes === null) throw new BridgeFault(0, `the bridge gives no ${name}`);
+  return new Uint8Array(bytes);
+}
 
 /** A request that the bridge answers. */
 async function posted(name, body = {}) {
@@ -39,7 +46,7 @@ async function game() {
 
 const posts = Object.fromEntries(['about', 'files', 'read', 'save'].map((name) => [name, (body) => posted(name, body)]));
 const own = { ...posts, game, text: async ({ name }) => ({ text: await textOf(name) }) };
-const [session, program] = await Promise.all(['session.wasm', 'chipbench.wasm'].map(bytesOf));
+const [session, program] = ['session.wasm', 'chipbench.wasm'].map(bytesOf);
 const plain = { createScriptURL: (address) => address };
 const addresses = globalThis.trustedTypes?.createPolicy('worker', plain) ?? plain;
 carryByWorkers(() => new Worker(addresses.createScriptURL('worker.mjs'), { type: 'module' }), { session, program }, own);

@@ -15,6 +15,7 @@ export function readSpriteLine(line) {
 }
 
 function byteOf(operand) {
+  /** @type {[RegExp, number][]} */
   const forms = [[/^\$([01.]{1,8})$/, 2], [/^#([0-9a-f]{1,2})$/i, 16], [/^([0-9]{1,3})$/, 10], [/^@([0-7]{1,3})$/, 8]];
   for (const [form, base] of forms) {
     const found = form.exec(operand);

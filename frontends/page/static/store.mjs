@@ -36,12 +36,17 @@ export class Store extends EventTarget {
     document.addEventListener('visibilitychange', () => {
       if (document.hidden) this.keep();
     });
-    addEventListener('pagehide', () => {
-      if (this.#isChanged && this.#open !== null) keepPending(this.#record());
-    });
+    addEventListener('pagehide', () => this.#leave());
     addEventListener('beforeunload', (event) => {
       if (this.isFull) event.preventDefault();
     });
+  }
+
+  /** The window is being closed: work that isn't written yet is kept where it can be at once. */
+  #leave() {
+    if (!this.#isChanged || this.#open === null) return;
+    const record = this.#record();
+    if (workOf(record) !== this.#open.work) keepPending({ ...record, before: this.#open.stamp });
   }
 
   /** Takes over what earlier versions kept. */

@@ -18,7 +18,7 @@ function isUtf8(bytes) {
 }
 
 export function toBytes(byteString) {
-  return Uint8Array.from(byteString, (character) => character.charCodeAt(0));
+  return Uint8Array.from(/** @type {any} */ (byteString), (/** @type {any} */ character) => character.charCodeAt(0));
 }
 
 export function toByteString(bytes) {

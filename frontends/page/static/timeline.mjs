@@ -52,7 +52,8 @@ export class Timeline {
     this.#closeUp.focus();
   }
 
-  /** The first and the last step of the close-up. */
+  /** The first and the last step of the close-up.
+   * @returns {[number, number]} */
   get window() {
     return this.#width === null ? [0, this.#span] : [this.#from, this.#from + this.#width];
   }
@@ -119,6 +120,7 @@ export class Timeline {
 
   /** An edge of the part that is shown is moved, or the part as a whole; elsewhere, or where all is shown, the step. */
   #grabOverview(event) {
+    /** @type {[number, number]} */
     const range = [0, this.#span];
     const stepOf = (now) => this.#stepUnder(this.#overview, range, now);
     const edge = this.#edgeNear(event);

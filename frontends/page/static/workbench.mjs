@@ -31,7 +31,7 @@ export class Workbench {
   starts = 0;
 
   /** `onEnded(status, text)` is told when the program ended by itself. `ask` carries out requests. */
-  constructor({ onEnded = () => {}, ask = request } = {}) {
+  constructor({ onEnded = (_status, _text) => {}, ask = request } = {}) {
     this.#onEnded = onEnded;
     this.#request = ask;
   }

@@ -561,14 +561,14 @@ class FileTests(PageTests):
                 ("Object.assign(record, { keys: 'nonsense', form: { encoding: 'x' }, step: -5, options: { rate: 'abc', x: 'y' }, history: { text: { done: [5] } } })", "LD V0, 7 ; mine\n"),
                 ("Object.assign(record, { options: { rate: '99999' }, step: 1e300 })", "LD V0, 7 ; mine\n"),
             ):
+                # what the page itself writes comes before
+                time.sleep(0.6)
                 known = "record.known = record.isFile ? record.known : null" if self.is_one_file else ""
                 self.put_kept(f"{change}; {known}; localStorage['chipbench-page, earlier'] = '[7, {{}}]'; localStorage['chipbench-page, appearance'] = '5'")
                 self.reload()
                 if self.is_one_file and shown == "CLS\n":
                     # the text stood in the storage alone
                     assert self.source() == "", (change, self.source())
-                    self.put_kept("Object.assign(record, { text: 'CLS\\n' })")
-                    self.reload()
                     continue
                 assert self.source() == shown, (change, self.source())
                 self.step(1)
