@@ -44,7 +44,8 @@ export class Store extends EventTarget {
 
   /** The window is being closed: work that isn't written yet is kept where it can be at once. */
   #leave() {
-    if (!this.#isChanged || this.#open === null) return;
+    if (this.#open === null) return;
+    // what is being written may never be
     const record = this.#record();
     if (workOf(record) !== this.#open.work) keepPending({ ...record, before: this.#open.stamp });
   }

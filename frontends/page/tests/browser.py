@@ -14,6 +14,7 @@ from browser_kept import KeptTests
 from browser_layout import LayoutTests
 from browser_page import PROVED, TOP
 from browser_play import PlayTests
+from browser_random import RandomTests
 from browser_run import RunTests
 from browser_shape import ShapeTests
 from browser_source import SourceTests
@@ -45,7 +46,7 @@ OF_THE_BRIDGE = {
 OF_ONE_FILE = {"test_files_without_a_bridge", "test_a_file_handle_is_kept"}
 
 
-class Tests(SourceTests, TypingTests, RunTests, FileTests, ShapeTests, LayoutTests, PlayTests, SpeedTests, StaleTests, KeptTests, WayTests):
+class Tests(SourceTests, TypingTests, RunTests, FileTests, ShapeTests, LayoutTests, PlayTests, SpeedTests, StaleTests, KeptTests, WayTests, RandomTests):
     """Each method whose name begins with `test_` is one test."""
 
 
