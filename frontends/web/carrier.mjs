@@ -95,7 +95,7 @@ class LongRuns {
   #start(body) {
     this.#stop();
     this.#number += 1;
-    const told = { step: 0, states: 0, output: '', result: null };
+    const told = { isBegun: false, step: 0, states: 0, output: '', result: null };
     this.#told = told;
     const take = (result) => {
       told.result = result;

@@ -10,6 +10,8 @@ globalThis.onmessage = ({ data }) => {
     return;
   }
   const tell = (progress) => globalThis.postMessage({ number: data.number, progress });
+  // a worker that begins, or has another request before, makes nobody's time shorter
+  tell({ isBegun: true });
   try {
     globalThis.postMessage({ number: data.number, reply: requests[data.name](data.body, tell) });
   } catch (error) {

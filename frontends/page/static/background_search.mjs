@@ -125,20 +125,22 @@ export class BackgroundSearch extends EventTarget {
     this.#of = wanted;
     this.#take(wanted, { name: 'searches' });
     try {
-      await this.#follow(wanted, round, performance.now() + most);
+      await this.#follow(wanted, round, most);
     } catch (fault) {
       if (round === this.#round) this.#take(wanted, { name: 'failed', why: fault.message });
     }
   }
 
-  /** Tells how far the search is until it ends, or until the time that it has is over. */
-  async #follow(wanted, round, deadline) {
+  /** Tells how far the search is until it ends, or until the time that it has once it has begun is over. */
+  async #follow(wanted, round, most) {
+    let deadline = Infinity;
     const { lines, options } = wanted;
     let told = await this.#ask(this.#command, { action: 'start', source: lines.map((line) => `${line}\n`).join(''), options });
     while (told.number !== null && told.result === null) {
       if (round !== this.#round) return;
       this.#number = told.number;
       this.#take(wanted, { name: 'searches', step: told.step, states: told.states, found: this.read(told, false) });
+      if (told.isBegun !== false && deadline === Infinity) deadline = performance.now() + most;
       if (performance.now() > deadline) {
         this.#end();
         return;

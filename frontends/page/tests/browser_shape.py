@@ -48,10 +48,13 @@ class ShapeTests(PageTests):
             assert browser.value("document.getElementById('source-text').value").startswith("        ; A ball")
             browser.press("Escape")
             assert browser.value("document.activeElement.id") == "close-up"
+            # a run that stands is changed where its keys are in sight
+            self.tab("keys")
             browser.press("5", "KeyW")
             assert browser.value("chipbenchPage.model.keys.at(1, 5)?.down") is True
             browser.press("z", "KeyZ", CONTROL)
             assert browser.value("chipbenchPage.model.keys.size") == 0
+            self.tab("words")
             browser.press("?", "Slash", SHIFT)
             assert browser.value("document.getElementById('help').open")
             self.picture("help")

@@ -162,7 +162,7 @@ class SourceTests(PageTests):
             self.rest()
             browser.value("chipbenchPage.editor.goToLine(2)")
             x, y = browser.value("(() => { const b = document.querySelectorAll('#colours div')[1].getBoundingClientRect(); return [b.x, b.y]; })()")
-            width = browser.value("document.querySelector('#marks .measure').getBoundingClientRect().width / 100")
+            width = browser.value("document.querySelector('#marks .measure span').getBoundingClientRect().width / 100")
             browser.mouse("mouseMoved", x + 12.5 * width, y + 10, 0)
             browser.wait("/^LOOP = 512 .*line 1$/.test(document.getElementById('hover').textContent)")
             browser.mouse("mouseMoved", x + 9.5 * width, y + 10, 0)

@@ -19,8 +19,12 @@ LONG = "LD V0, 1\nDB " + ",".join(["1"] * 120) + "\nLD V1, 2\n"
 
 class StaleTests(PageTests):
     def found(self) -> None:
-        """Waits for a crash and a broken property."""
+        """Waits for a crash and a broken property, as an author does who asks for them."""
         for name in ("crashes", "properties"):
+            self.tab(name)
+            self.browser.wait(f"document.getElementById('{name}-switch').textContent === 'Search'", 60.0)
+            if self.browser.value(f"document.getElementById('{name}-badge').hidden"):
+                self.press_button(f"#{name}-switch")
             self.browser.wait(f"!document.getElementById('{name}-badge').hidden", 60.0)
 
     def check_nothing_found(self) -> None:

@@ -161,7 +161,7 @@ class TypingTests(PageTests):
         with self.page(LONG) as browser:
             x, y, width = browser.value(
                 "(() => { const b = document.querySelector('#colours div').getBoundingClientRect();"
-                "return [b.x + 0.6 * document.querySelector('#marks .measure').getBoundingClientRect().width / 100, b.y, document.querySelector('#marks .measure').getBoundingClientRect().width / 100]; })()"
+                "return [b.x + 0.6 * document.querySelector('#marks .measure span').getBoundingClientRect().width / 100, b.y, document.querySelector('#marks .measure span').getBoundingClientRect().width / 100]; })()"
             )
             browser.mouse("mouseMoved", x + 4 * width, y + 50, 0)
             browser.mouse("mousePressed", x + 4 * width, y + 50)
