@@ -60,7 +60,7 @@ export class Documents extends EventTarget {
     });
     this.#store.addEventListener('full', () => this.#tellFull());
     this.#store.addEventListener('kept', () => this.#windows.kept());
-    this.#windows.addEventListener('other', () => notice('window', 'Another window has this document open too: what each of them types is kept apart.'));
+    this.#windows.addEventListener('other', () => notice('window', 'Another window has this document open too. What one of them keeps takes the place of what the other kept, which is then an earlier text.'));
     this.#windows.addEventListener('kept', () => this.#tellOther());
     addEventListener('focus', () => this.#checkDisk());
     setInterval(() => {

@@ -93,6 +93,8 @@ class PageTests:
         self.bridge: subprocess.Popen[str] | None = None
         self.path = self.folder / "none.asm"
         self.address = ""
+        #: Where the pages of this run were: they ask of nowhere else.
+        self.origins: set[str] = set()
         self.starts_before = 0
 
     @contextlib.contextmanager
@@ -111,16 +113,17 @@ class PageTests:
     def page_on(self, opened: list[str], words: tuple[str, ...]) -> Iterator[Browser]:
         with self.one_file_on(opened, words) if self.is_one_file else self.bridge_on(opened, words) as browser:
             yield browser
-            origin = self.address.split("/")[2]
             for line in browser.console:
                 raise AssertionError(f"the page complained: {line}")
             for request in browser.requests:
                 parts = urllib.parse.urlsplit(request)
-                assert parts.netloc == origin or parts.scheme in ("about", "blob", "data"), f"a request to {request}"
+                assert parts.netloc in self.origins or parts.scheme in ("about", "blob", "data"), f"a request to {request}"
 
     def begin(self, address: str) -> None:
         """Opens the page, as each test finds it."""
         self.address = address
+        # a worker of the page before may be told of late
+        self.origins.add(address.split("/")[2])
         self.browser.console.clear()
         self.browser.requests.clear()
         self.browser.size(1600, 1000)
