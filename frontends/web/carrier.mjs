@@ -24,8 +24,8 @@ class Workers {
     if (!this.#workers.has(kind)) {
       const worker = this.#begin();
       const name = kind === 'session' ? 'session' : 'program';
-      // a module may come later than the page
-      const ready = Promise.resolve(this.#modules[name]).then((bytes) => worker.postMessage({ kind: name, bytes }));
+      // a module may come later than the page; it is compiled once for all workers
+      const ready = Promise.resolve(this.#modules[name]).then((module) => worker.postMessage({ kind: name, module }));
       const waiting = new Map();
       worker.onmessage = ({ data }) => {
         const { answered, tell } = waiting.get(data.number) ?? {};
@@ -113,7 +113,7 @@ class LongRuns {
 /**
  * Has the page's requests about the program carried out by workers, and those about files by `own`, which are functions by the names of
  * requests: `about`, `files`, `read`, `save`, and where the browser's file access is used `pick` and `choose`; `game`, the page of an
- * exported game; `text`, a document or an example by its name. `begin()` begins a worker; `modules` are the bytes of the WebAssembly modules, or promises of them.
+ * exported game; `text`, a document or an example by its name. `begin()` begins a worker; `modules` are the WebAssembly modules, or promises of them.
  */
 export function carryByWorkers(begin, modules, own) {
   const workers = new Workers(begin, modules);

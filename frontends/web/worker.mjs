@@ -5,8 +5,8 @@ const KINDS = { session: SessionRequests, program: ProgramRequests };
 let requests = null;
 
 globalThis.onmessage = ({ data }) => {
-  if (data.bytes) {
-    requests = new KINDS[data.kind](new WebAssembly.Module(data.bytes));
+  if (data.module) {
+    requests = new KINDS[data.kind](data.module);
     return;
   }
   const tell = (progress) => globalThis.postMessage({ number: data.number, progress });

@@ -13,10 +13,10 @@ async function served(name, take) {
 
 const textOf = (name) => served(name, (reply) => reply.text());
 
-async function bytesOf(name) {
-  const bytes = await served(name, (reply) => reply.arrayBuffer());
-  if (bytes === null) throw new BridgeFault(0, `the bridge gives no ${name}`);
-  return new Uint8Array(bytes);
+async function moduleOf(name) {
+  const module = await served(name, (reply) => WebAssembly.compileStreaming(reply));
+  if (module === null) throw new BridgeFault(0, `the bridge gives no ${name}`);
+  return module;
 }
 
 /** A request that the bridge answers. */
@@ -46,7 +46,7 @@ async function game() {
 
 const posts = Object.fromEntries(['about', 'files', 'read', 'save'].map((name) => [name, (body) => posted(name, body)]));
 const own = { ...posts, game, text: async ({ name }) => ({ text: await textOf(name) }) };
-const [session, program] = ['session.wasm', 'chipbench.wasm'].map(bytesOf);
+const [session, program] = ['session.wasm', 'chipbench.wasm'].map(moduleOf);
 const plain = { createScriptURL: (address) => address };
 const addresses = globalThis.trustedTypes?.createPolicy('worker', plain) ?? plain;
 carryByWorkers(() => new Worker(addresses.createScriptURL('worker.mjs'), { type: 'module' }), { session, program }, own);
