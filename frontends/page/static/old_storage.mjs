@@ -69,10 +69,15 @@ async function takePending(storage) {
   }
 }
 
-/** Takes the work of a window that was closed; what another window has kept since is put aside. */
-async function takeWork({ before, ...record }) {
+/**
+ * Takes what a window had that was closed. What another window has kept since stays where this one had done no work, and else is put
+ * aside.
+ */
+async function takeWork({ before, isWork, ...record }) {
   const there = await readOne('documents', record.key);
-  if (there !== undefined && there.stamp !== before && there.text !== record.text) {
+  const isOther = there !== undefined && there.stamp !== before && there.stamp !== record.stamp;
+  if (isOther && !isWork) return;
+  if (isOther && there.text !== record.text) {
     const { text, form, key, name, isFile } = there;
     const time = Date.now();
     await inStore('earlier', 'readwrite', (store) => store.put({ text, form: formOf(form), key, name, isFile, why: 'kept by another window', time, id: `${time} ${Math.random()}` }));

@@ -19,6 +19,7 @@ export class Store extends EventTarget {
   /** Of the document that is open: its key, the stamp that was read or written last, and the work that was. */
   #open = null;
   #isChanged = false;
+  #isWriting = false;
 
   /** Whether the browser had no room, or no database, when something was written last. */
   isFull = false;
@@ -42,12 +43,11 @@ export class Store extends EventTarget {
     });
   }
 
-  /** The window is being closed: work that isn't written yet is kept where it can be at once. */
+  /** The window is being closed: what isn't written yet, or is being written, is kept where it can be at once. */
   #leave() {
-    if (this.#open === null) return;
-    // what is being written may never be
+    if (this.#open === null || !(this.#isChanged || this.#isWriting)) return;
     const record = this.#record();
-    if (workOf(record) !== this.#open.work) keepPending({ ...record, before: this.#open.stamp });
+    keepPending({ ...record, before: this.#open.stamp, isWork: workOf(record) !== this.#open.work });
   }
 
   /** Takes over what earlier versions kept. */
@@ -101,6 +101,7 @@ export class Store extends EventTarget {
   }
 
   async #write(open, record) {
+    this.#isWriting = true;
     try {
       const { other, isWritten } = await inStore('documents', 'readwrite', (store, give) => {
         taken(store.get(record.key), (there) => {
@@ -122,6 +123,8 @@ export class Store extends EventTarget {
     } catch {
       if (open === this.#open) this.#isChanged = true;
       this.#setFull(true);
+    } finally {
+      this.#isWriting = false;
     }
   }
 
