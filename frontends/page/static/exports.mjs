@@ -38,8 +38,10 @@ export class Exports {
     return this.#documents.name.replace(/\.[^.]*$/, '');
   }
 
-  async #answers(questions) {
-    const answers = await this.#workbench.answers(this.#model.wanted, questions);
+  /** Answers about some work; null where there is no run, or where another document is open by now. */
+  async #answers(questions, wanted = this.#model.wanted) {
+    const answers = await this.#workbench.answers(wanted, questions);
+    if (wanted.document !== this.#model.document) return null;
     takeAway('export');
     if (answers.some((answer) => refusal(answer) !== null)) {
       notice('export', 'There is no run, since some line has a fault.');
@@ -79,11 +81,13 @@ export class Exports {
   async #animation(from, to) {
     const [first, last] = [Math.min(from, to), Math.max(from, to)];
     const every = TICKS_A_PICTURE * this.#model.rate;
+    // all pictures are of one text, whatever is typed meanwhile
+    const { wanted } = this.#model;
     const count = Math.min(MOST_PICTURES, Math.floor((last - first) / every) + 1);
     const steps = Array.from({ length: count }, (_, place) => first + place * every);
     const frames = [];
     for (let start = 0; start < count; start += BATCH) {
-      const answers = await this.#answers(steps.slice(start, start + BATCH).map((step) => `screen ${step}`));
+      const answers = await this.#answers(steps.slice(start, start + BATCH).map((step) => `screen ${step}`), wanted);
       if (answers === null) return;
       frames.push(...answers.map((answer) => pixelsOf(readScreen(answer).rows)));
     }

@@ -211,7 +211,10 @@ export class FileDialogs {
   }
 
   async #downloadImage() {
-    const [image] = await this.#workbench.answers(this.#model.wanted, ['image']);
+    const { wanted } = this.#model;
+    const [image] = await this.#workbench.answers(wanted, ['image']);
+    // another document is open by now
+    if (wanted.document !== this.#model.document) return;
     takeAway('image');
     if (refusal(image) !== null) notice('image', 'There is no image, since some line has a fault.');
     else this.#download('ch8', String.fromCharCode(...readBytes(image)));

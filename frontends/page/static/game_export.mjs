@@ -31,6 +31,8 @@ export class GameExport {
       const { template, module } = await request('game');
       if (template === null) throw new Error('the parts of its page are not there');
       const { tape } = options.seed === undefined ? { tape: options.tape ?? '00' } : await request('tape', { seed: options.seed });
+      // another document is open by now
+      if (wanted.document !== this.#model.document) return;
       const title = this.#documents.name.replace(/\.[^.]*$/, '');
       const source = wanted.lines.map((line) => `${line}\n`).join('');
       download(`${title}.html`, new TextEncoder().encode(gamePage(template, { title, source, options, tape, look, module })));

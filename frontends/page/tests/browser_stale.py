@@ -166,3 +166,21 @@ class StaleTests(PageTests):
             browser.wait("/VF := 0/.test(document.getElementById('line-state').textContent)")
             browser.value("chipbenchPage.model.setOptions({ rate: '10', profile: 'schip' })")
             browser.wait("/VF stays/.test(document.getElementById('line-state').textContent)")
+
+    def test_an_export_is_of_its_document(self) -> None:
+        """The image of one document isn't downloaded under the name of another, which was opened meanwhile."""
+        place = self.folder / "downloads"
+        place.mkdir(exist_ok=True)
+        with self.page("CLS\n", "first.asm") as browser:
+            (self.folder / "second.asm").write_text("RET\n")
+            browser.downloads(place)
+            browser.value(
+                "{ const { workbench } = chipbenchPage; const answers = workbench.answers.bind(workbench); workbench.answers = async (wanted, questions) => {"
+                "const found = await answers(wanted, questions); if (questions[0] === 'image') await new Promise((done) => { globalThis.goOn = done; }); return found; }; }"
+            )
+            browser.value("document.getElementById('download-image').click()")
+            browser.wait("globalThis.goOn !== undefined")
+            self.open_named("second.asm")
+            browser.value("goOn()")
+            time.sleep(0.5)
+            assert sorted(one.name for one in place.iterdir()) == []
