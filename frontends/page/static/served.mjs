@@ -44,8 +44,11 @@ async function game() {
   return { template, module: address.slice(address.indexOf(',') + 1) };
 }
 
-const posts = Object.fromEntries(['about', 'files', 'read', 'save'].map((name) => [name, (body) => posted(name, body)]));
-const own = { ...posts, game, text: async ({ name }) => ({ text: await textOf(name) }) };
+// asked at once, while the modules of the page are fetched
+const about = posted('about');
+about.catch(() => {});
+const posts = Object.fromEntries(['files', 'read', 'save'].map((name) => [name, (body) => posted(name, body)]));
+const own = { ...posts, about: () => about, game, text: async ({ name }) => ({ text: await textOf(name) }) };
 const [session, program] = ['session.wasm', 'chipbench.wasm'].map(moduleOf);
 const plain = { createScriptURL: (address) => address };
 const addresses = globalThis.trustedTypes?.createPolicy('worker', plain) ?? plain;
