@@ -2,16 +2,20 @@
 
 from __future__ import annotations
 
-from collections.abc import Callable, Iterator, Sequence
-from typing import Any, AnyStr
+from collections.abc import Callable, Iterator
+from typing import Any
 
 from chipbench import Bench, ChipbenchError, ListingLine, Symbol, join_lines, read_listing_line, to_bytes
+
+# modules of the server take the limits from here too
+from chipbench_lines import LINE_BYTES as LINE_BYTES
+from chipbench_lines import MOST_LINES, line_edits
+from chipbench_lines import over_limits as over_limits
+from chipbench_lines import same_ends as same_ends
 
 from .language import Line, read_line
 from .positions import Columns
 
-LINE_BYTES = 200
-MOST_LINES = 4000
 # More edits than this are slower than a restart of the session.
 MOST_EDITS = 500
 
@@ -24,53 +28,6 @@ class OverLimits(Exception):
     def __init__(self, lines: list[tuple[int, str, str]]) -> None:
         super().__init__("the document is over the limits of a source")
         self.lines = lines
-
-
-def over_limits(lines: Sequence[bytes]) -> list[tuple[int, str, str]]:
-    """The lines over 200 bytes, and the first line over 4,000."""
-    found = [
-        (number, "O1", f"the line has {len(line)} bytes; a source's line has at most {LINE_BYTES}")
-        for number, line in enumerate(lines)
-        if len(line) > LINE_BYTES
-    ]
-    if len(lines) > MOST_LINES:
-        found.append((MOST_LINES, "O2", f"the source has {len(lines)} lines; at most {MOST_LINES} are allowed"))
-    return found
-
-
-def same_ends(old: Sequence[AnyStr], new: Sequence[AnyStr]) -> tuple[int, int]:
-    """How many lines are equal at the beginning, and how many of the others at the end.
-
-    >>> same_ends("abcd", "abxyd")
-    (2, 1)
-    >>> same_ends("aa", "aaa")
-    (2, 0)
-    """
-    least = min(len(old), len(new))
-    first = 0
-    while first < least and old[first] == new[first]:
-        first += 1
-    last = 0
-    while last < least - first and old[-1 - last] == new[-1 - last]:
-        last += 1
-    return first, last
-
-
-def line_edits(old: Sequence[bytes], new: Sequence[bytes]) -> list[bytes]:
-    """Commands that make the new lines of the old ones: what is equal at both ends stays.
-
-    >>> line_edits([b"A", b"B", b"C"], [b"A", b"X", b"Y", b"C"])
-    [b'rep 2 X', b'ins 3 Y']
-    >>> line_edits([b"A", b"B", b"C"], [b"C"])
-    [b'del 2', b'del 1']
-    """
-    first, last = same_ends(old, new)
-    old_end, new_end = len(old) - last, len(new) - last
-    both = min(old_end, new_end)
-    edits = [b"rep %d %s" % (place + 1, new[place]) for place in range(first, both) if old[place] != new[place]]
-    edits += [b"del %d" % (place + 1) for place in range(old_end - 1, both - 1, -1)]
-    edits += [b"ins %d %s" % (place + 1, new[place]) for place in range(both, new_end)]
-    return edits
 
 
 def ended(line: str) -> bytes:

@@ -12,7 +12,7 @@ from pathlib import Path
 
 from chipbench import Bench, Fault, Refused, State, Symbol, join_lines, refusal, split_lines
 from chipbench_files import FileError, read_file, replace_file
-from chipbench_lsp.document import LINE_BYTES, line_edits, over_limits, same_ends
+from chipbench_lines import LINE_BYTES, line_edits, over_limits, same_ends
 
 from .console import state_folder
 from .values import Mistake, Values, counted

@@ -26,7 +26,8 @@ def copied_server() -> str:
     """A copy of the server for these tests, beside which Python may keep it compiled."""
     folder = tempfile.TemporaryDirectory(prefix="chipbench-tests-")
     atexit.register(folder.cleanup)
-    shutil.copy(SERVER.parent / "chipbench.py", folder.name)
+    for module in SERVER.parent.glob("chipbench*.py"):
+        shutil.copy(module, folder.name)
     copied = shutil.copytree(SERVER, Path(folder.name) / SERVER.name, ignore=shutil.ignore_patterns("__pycache__"))
     return str(copied)
 

@@ -16,6 +16,7 @@ sys.path.insert(0, str(Path(__file__).resolve().parent))
 
 from programs import PYTHON, TOP, NeedsProgram  # noqa: E402
 
+import chipbench_lines  # noqa: E402
 from chipbench_shell import game, session, shell, values, views  # noqa: E402
 
 PAGE = (TOP / "docs/SHELL.md").read_text(encoding="utf-8")
@@ -38,7 +39,7 @@ TASKS = {
 
 def load_tests(loader: unittest.TestLoader, tests: unittest.TestSuite, pattern: str | None) -> unittest.TestSuite:
     """The docstrings of the shell are tests too; they need no program."""
-    for module in (game, session, shell, values, views):
+    for module in (chipbench_lines, game, session, shell, values, views):
         tests.addTests(doctest.DocTestSuite(module))
     return tests
 
