@@ -5,7 +5,9 @@ from __future__ import annotations
 import argparse
 import os
 import sys
+from collections.abc import Callable
 from pathlib import Path
+from typing import NoReturn
 
 sys.path.insert(0, str(Path(__file__).resolve().parent.parent))
 
@@ -14,7 +16,23 @@ from chipbench_files import FileError, read_file  # noqa: E402
 from chipbench_shell.console import Console, OutputGone  # noqa: E402
 from chipbench_shell.game import Game, Settings  # noqa: E402
 from chipbench_shell.shell import Shell  # noqa: E402
-from chipbench_shell.values import Mistake  # noqa: E402
+from chipbench_shell.values import Mistake, near  # noqa: E402
+
+
+IMAGE_NAMES = (".ch8", ".c8", ".rom", ".sc8", ".xo8")
+#: Control characters that a source may have in its lines and between them.
+TEXT_CONTROLS = b"\t\n\r\f\x1b"
+
+
+class Parser(argparse.ArgumentParser):
+    """The options. What is wrong with them is told in one line that says what would be right."""
+
+    def error(self, message: str) -> NoReturn:
+        unknown = message.removeprefix("unrecognized arguments: ")
+        if unknown != message:
+            known = [name for action in self._actions for name in action.option_strings]
+            message = f"no option {unknown.split()[0]}{near(unknown.split()[0], known)}"
+        self.exit(2, f"{self.prog}: {message}; {self.prog} --help lists the options\n")
 
 
 def tape_of(text: str) -> bytes:
@@ -24,8 +42,19 @@ def tape_of(text: str) -> bytes:
         raise argparse.ArgumentTypeError(f"not bytes in hexadecimal: {text}") from None
 
 
+def number_of(example: str) -> Callable[[str], int]:
+    """Reads a whole number from 0 on, in decimal. What is wrong is told with an example."""
+
+    def read(text: str) -> int:
+        if not (text.isascii() and text.isdecimal()):
+            raise argparse.ArgumentTypeError(f"expected a whole number from 0 on, in decimal, as in {example}; found {text}")
+        return int(text)
+
+    return read
+
+
 def parser() -> argparse.ArgumentParser:
-    words = argparse.ArgumentParser(
+    words = Parser(
         prog="chipbench-shell",
         usage="%(prog)s [SOURCE | --image FILE] [OPTIONS]",
         description="A shell beside a source: goes to any step of its run, forward and back, and edits lines and keys.",
@@ -40,19 +69,43 @@ def parser() -> argparse.ArgumentParser:
     words.add_argument("--echo", action="store_true", help="print each command before its answer, where it isn't typed")
     words.add_argument("--quiet", action="store_true", help="print no line at the start")
     words.add_argument("--program", metavar="PATH", help="the chipbench to run (default: $CHIPBENCH, or the installed one)")
-    words.add_argument("--rate", metavar="N", type=int, help="how many steps lie between two ticks of the timers")
+    rate, seed, every = number_of("--rate 10"), number_of("--seed 7"), number_of("--every 1000")
+    words.add_argument("--rate", metavar="N", type=rate, help="how many steps lie between two ticks of the timers")
     words.add_argument("--tape", metavar="HEX", type=tape_of, help="the random bytes")
-    words.add_argument("--seed", metavar="N", type=int, help="a number that makes the random bytes")
+    words.add_argument("--seed", metavar="N", type=seed, help="a number that makes the random bytes")
     words.add_argument("--profile", metavar="NAME", help="such as schip or vip")
     words.add_argument("--quirks", metavar="LIST", help="what differs from the profile, such as shift=vy,edges=wrap")
-    words.add_argument("--every", metavar="P", type=int, help="how many steps lie between two checkpoints")
+    words.add_argument("--every", metavar="P", type=every, help="how many steps lie between two checkpoints")
     return words
+
+
+def is_text(content: bytes) -> bool:
+    """Whether a file can be a source: it has no control characters but those of lines."""
+    return not any(byte < 32 and byte not in TEXT_CONTROLS for byte in content)
+
+
+def kind_warning(words: argparse.Namespace, image: bytes | None) -> str | None:
+    """What to say where a source is taken for an image, or the other way around."""
+    if image is not None:
+        is_source = is_text(image) and b"\n" in image
+        return f"{words.image} is a text, not an image: chipbench-shell {words.image} opens a source" if is_source else None
+    if words.source is None:
+        return None
+    content = read_file(Path(words.source))
+    if content is not None and not is_text(content):
+        return f"{words.source} is not a text; if it is an image, type chipbench-shell --image {words.source}"
+    if content is None and words.source.lower().endswith(IMAGE_NAMES):
+        return f"there is no file {words.source}, and its name is that of an image: chipbench-shell --image FILE opens one"
+    return None
 
 
 def opened(words: argparse.Namespace) -> Game:
     """The game that the arguments name."""
     settings = Settings(words.profile, words.rate, words.tape, words.seed, words.every, words.quirks)
     image = needed(words.image) if words.image is not None else None
+    warning = kind_warning(words, image)
+    if warning is not None:
+        print(f"chipbench-shell: warning: {warning}", file=sys.stderr)
     game = Game(Path(words.source) if words.source is not None else None, image, settings, words.program)
     try:
         if words.keys is not None:
@@ -77,7 +130,8 @@ def main(arguments: list[str]) -> int:
     try:
         game = opened(words)
     except (ChipbenchError, FileError, Mistake) as error:
-        print(f"chipbench-shell: {error}", file=sys.stderr)
+        # of what the program says on its arguments the first part is enough: its help isn't the shell's
+        print(f"chipbench-shell: {str(error).partition(chr(10) * 2)[0]}", file=sys.stderr)
         return 3 if isinstance(error, FileError) else 2
     console = Console(words.echo)
     try:

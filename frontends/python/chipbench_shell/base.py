@@ -8,8 +8,10 @@ from chipbench import Refused, State, sentences
 
 from . import views
 from .console import Console
-from .game import Game
+from .game import Game, counted
 from .values import Mistake
+
+WORD_BYTES = 2
 
 
 class Snapshot:
@@ -47,8 +49,14 @@ class Commands:
         number = self.game.line_at(state.pc)
         if number is None:
             return f"step {state.step}, {state.pc:04x}: {self.instruction(state)}"
-        text = self.game.bench.listing[number - 1].text.strip()
-        return f"step {state.step}, {state.pc:04x}, line {number}: {views.printable(text)}"
+        line = self.game.bench.listing[number - 1]
+        here = f"step {state.step}, {state.pc:04x}, line {number}: {views.printable(line.text.strip())}"
+        past = state.pc - (line.address or 0)
+        if past == 0 and len(line.code) == WORD_BYTES and not line.more:
+            return here
+        # an instruction has a line of two bytes: this one is data, or pc is at an odd address
+        where = f"pc is {counted(past, 'byte')} past the start of this line" if past else "pc is at this data"
+        return f"{here}; {where}, and {self.instruction(state)} comes next"
 
     def instruction(self, state: State) -> str:
         words = self.game.bench.words(state.step, state.pc, 1) if state.pc < 4095 else []

@@ -7,6 +7,7 @@ from pathlib import Path
 
 from chipbench import to_bytes, to_text
 
+from .advice import BREAK_WORDS
 from .base import Commands, Snapshot
 from .game import counted
 from .values import Mistake
@@ -75,6 +76,8 @@ class Edits(Commands):
         words = self.words_of(text, 2, "delete LINE [LAST]")
         if not words:
             raise Mistake("delete takes a line: delete 12, delete 12 14")
+        if words[0].lower() in BREAK_WORDS and words[0].upper() not in self.game.symbols():
+            raise Mistake("delete removes lines: clear removes all breakpoints, clear PLACE those at a place")
         first, last = self.game.line_number(words[0]), self.game.line_number(words[-1])
         if last < first:
             raise Mistake(f"line {last} stands before line {first}")
@@ -152,7 +155,10 @@ class Edits(Commands):
 
     def _key(self, text: str) -> int:
         is_letter = re.fullmatch("[A-Fa-f]", text) is not None and text.upper() not in self.game.symbols()
-        key = int(text, 16) if is_letter else self.game.values().number(text)
+        try:
+            key = int(text, 16) if is_letter else self.game.values().number(text)
+        except Mistake:
+            raise Mistake(f"no key {text}: the keys are 0 to 9 and A to F, as in press 4") from None
         if key > LAST_KEY:
             raise Mistake(f"no key {key}: the keys are 0 to 15, or 0 to 9 and A to F")
         return key

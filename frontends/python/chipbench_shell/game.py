@@ -14,6 +14,7 @@ from chipbench import Bench, Fault, Refused, State, Symbol, join_lines, refusal,
 from chipbench_files import FileError, read_file, replace_file
 from chipbench_lines import LINE_BYTES, line_edits, over_limits, same_ends
 
+from .advice import for_register
 from .console import state_folder
 from .values import Mistake, Values, counted
 
@@ -192,6 +193,9 @@ class Game:
         if plain.isdecimal():
             number = self.line_number(plain)
             return self.address_of_line(number), number
+        registers = self.values().sum(plain).registers
+        if registers:
+            raise Mistake(for_register(registers[0][1], "place"))
         return self.values().address(plain), None
 
     def address_of_line(self, number: int) -> int:

@@ -215,7 +215,14 @@ class Looks(Commands):
         word = "".join(words).lower()
         if hasattr(self, f"do_{word}") and word not in SESSION_WORDS:
             raise Mistake(f"{word} is a command: help {word} says what it does")
-        self.say(*self._run(["explain", *(word.upper() for word in words)]).splitlines())
+        try:
+            page = self._run(["explain", *(word.upper() for word in words)])
+        except Mistake:
+            raise Mistake(
+                f"no page on {word.upper()}: explain takes a code such as F9, W4 or S2, and without one it lists them; "
+                "docs/MACHINE.md has the instructions"
+            ) from None
+        self.say(*page.splitlines())
 
     def _run(self, arguments: list[str]) -> str:
         status, output, errors = run_once([self.game.bench.program, *arguments], seconds=CHECK_SECONDS)

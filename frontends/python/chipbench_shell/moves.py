@@ -3,17 +3,16 @@
 from __future__ import annotations
 
 import bisect
-from collections.abc import Callable
+import re
 
 from chipbench import State
 
+from . import advice
 from .base import Commands
-from .game import Breakpoint
-from .search import COLUMNS, LAST_STEP, Found, Search, Test, depth_of, may_write
-from .values import Condition, Mistake, Subject
+from .game import Breakpoint, counted
+from .search import LAST_STEP, Found, Search, Test, at_address, not_deeper, register_test
+from .values import REGISTERS, Condition, Mistake, Subject
 
-# how many writes without a change are looked at before the shell says at which step it is
-TOLD_STEPS = 1000
 # the low byte of the instruction that sets a timer: FX15 and FX18
 SETTING_BYTES = {"DT": 0x15, "ST": 0x18}
 
@@ -22,31 +21,6 @@ def sets_timer(state: State, timer: str) -> bool:
     """Whether the instruction that comes next sets a timer. Otherwise only a tick changes it."""
     high, low = state.memory[state.pc : state.pc + 2]
     return high >> 4 == 0xF and low == SETTING_BYTES[timer]
-
-
-def register_test(condition: Condition) -> Test:
-    """Whether a comparison of a register holds at a line of a trace."""
-    name = condition.subject.register
-    assert name is not None
-    column = COLUMNS[name]
-    return lambda line: condition.holds(int(line[column], 16))
-
-
-def not_deeper(depth: int) -> Test:
-    """Whether the call stack has at most so many return addresses."""
-    return lambda line: depth_of(line) <= depth
-
-
-def becomes(test: Test, is_now: bool) -> Test:
-    """Whether a test holds at a line and didn't hold at the one before, where it is given line after line."""
-    held = is_now
-
-    def has_become(line: bytes) -> bool:
-        nonlocal held
-        before, held = held, test(line)
-        return held and not before
-
-    return has_become
 
 
 class Moves(Commands):
@@ -72,6 +46,9 @@ class Moves(Commands):
 
         Makes N steps, or one.
         """
+        meant = advice.STEP_WORDS.get((text.split() or [""])[0].lower())
+        if meant is not None and text.upper() not in self.game.symbols():
+            raise Mistake(meant)
         self._check_is_running()
         self.go(self.game.step + self._count(text, "step [N]"))
 
@@ -91,6 +68,8 @@ class Moves(Commands):
         """
         if not text:
             raise Mistake("goto takes a step: goto 1000")
+        if text.upper() in REGISTERS and text.upper() not in self.game.symbols():
+            raise Mistake(advice.for_register(text.upper(), "step"))
         self.go(self.game.step_number(text))
 
     def do_next(self, text: str) -> None:
@@ -130,37 +109,20 @@ class Moves(Commands):
         if not text:
             raise Mistake("until takes a place or a comparison: until LOOP, until V3 = 5")
         condition = self.game.values().condition(text)
-        if condition is None:
-            address, _ = self.game.place(text)
-            wanted = b"%04x" % address
-            self._take(self._first(lambda line: line.startswith(wanted)), f"{text} isn't reached")
-            self.show_place()
+        if condition is not None:
+            self._until_condition(condition)
             return
-        self._until_condition(condition)
-
-    def _until_condition(self, condition: Condition) -> None:
-        state = self.game.state()
-        failed = f"{condition} doesn't become true"
-        is_now = condition.holds(condition.subject.value(state))
-        if condition.subject.register is not None:
-            self._take(self._first(becomes(register_test(condition), is_now)), failed)
-        else:
-            self._take_written(condition.subject, condition.holds, is_now, failed)
+        meant = advice.with_sign(text)
+        if meant is not None:
+            raise Mistake(f"a comparison has a sign: until {meant}")
+        address, _ = self.game.place(text)
+        self._take(self._first(at_address(address)), f"{text} isn't reached")
         self.show_place()
 
-    def _take_written(self, subject: Subject, holds: Callable[[int], bool], is_now: bool, failed: str) -> None:
-        """Goes behind the first step that writes a byte so that a test of its value holds which didn't hold before."""
-        step = self.game.step
-        for step, line in self.search().lines(self.game.step):
-            # the last line of a trace is of a step that isn't made
-            if step == LAST_STEP or not may_write(line, subject.address):
-                continue
-            value = self.game.bench.ask(f"mem {step + 1} {subject.address} 1")
-            before, is_now = is_now, holds(int(value, 16))
-            if is_now and not before:
-                self.game.step = step + 1
-                return
-        self._refuse(Found(None, step, self.game.state(step).stopped is not None), failed)
+    def _until_condition(self, condition: Condition) -> None:
+        self._check_is_running()
+        self._take(self.search().first_true(condition), f"{condition} doesn't become true")
+        self.show_place()
 
     def do_watch(self, text: str) -> None:
         """watch SUBJECT
@@ -175,14 +137,8 @@ class Moves(Commands):
             self._until_condition(condition)
             return
         subject = self.game.values().subject(text)
-        old = self.game.state()
-        value = subject.value(old)
-        failed = f"{subject.shown} doesn't change"
-        if subject.register is not None:
-            column, now = COLUMNS[subject.register], b"%0*x" % (subject.digits, value)
-            self._take(self._first(lambda line: line[column] != now), failed)
-        else:
-            self._take_written(subject, lambda written: written != value, False, failed)
+        self._check_is_running()
+        self._take(self.search().first_change(subject), f"{subject.shown} doesn't change")
         self._tell_change(subject, self.game.step - 1)
         self.show_place()
 
@@ -201,26 +157,11 @@ class Moves(Commands):
         if not text:
             raise Mistake("who takes a register or a byte of the memory: who V3, who [#300]")
         subject = self.game.values().subject(text)
-        found = self._last_change(subject)
+        found = self.search().last_change(subject)
         if found is None:
             raise Mistake(f"{subject.shown} hasn't changed since step 0")
         self.game.step = found
         self._tell_change(subject, found)
-
-    def _last_change(self, subject: Subject) -> int | None:
-        now = self.game.step
-        value = subject.value(self.game.state())
-        if subject.register is not None:
-            column, shown = COLUMNS[subject.register], b"%0*x" % (subject.digits, value)
-            return self.search().last(lambda line: line[column] != shown, now)
-        steps = [step for step, _ in self.search().writes(subject.address, 0, now) if step < now]
-        for number, step in enumerate(reversed(steps), 1):
-            if number % TOLD_STEPS == 0:
-                self.console.report(step)
-            first, second = (self.game.bench.ask(f"mem {at} {subject.address} 1") for at in (step, step + 1))
-            if first != second:
-                return step
-        return None
 
     # -- breakpoints
 
@@ -228,15 +169,18 @@ class Moves(Commands):
         """break [PLACE [if SUBJECT = NUMBER]]
 
         Sets a breakpoint at a place, as for until. With `if` the breakpoint counts only where a comparison of a register
-        holds. NUMBER is worked out each time a search begins, so a register there has the value of that moment. Without a
-        place it lists the breakpoints.
+        holds. Both of its sides are read at each step: break LOOP if V3 = V4. Without a place it lists the breakpoints.
         """
         if not text:
             self.say(*(f"breakpoint {point}" for point in self.game.breakpoints) if self.game.breakpoints else ["no breakpoints"])
             return
-        place, _, condition = (part.strip() for part in text.partition(" if "))
+        meant = advice.for_break(text)
+        if meant is not None:
+            raise Mistake(meant)
+        place, *conditions = (part.strip() for part in re.split(r"\sif(?:\s|$)", text, maxsplit=1, flags=re.IGNORECASE))
         address, line = self.game.place(place)
-        if condition:
+        condition = "".join(conditions)
+        if conditions:
             self._register_condition(condition)
         point = Breakpoint(place, line, condition)
         if point not in self.game.breakpoints:
@@ -246,7 +190,8 @@ class Moves(Commands):
     def _register_condition(self, text: str) -> Condition:
         condition = self.game.values().condition(text)
         if condition is None or condition.subject.register is None:
-            raise Mistake("behind `if` stands a comparison of a register: break LOOP if V3 = 5")
+            meant = advice.with_sign(text)
+            raise Mistake(f"behind `if` stands a comparison of a register: break LOOP if {meant or 'V3 = 5'}")
         return condition
 
     def do_clear(self, text: str) -> None:
@@ -255,8 +200,10 @@ class Moves(Commands):
         Removes the breakpoints at a place, or all.
         """
         if not text:
+            removed = list(map(str, self.game.breakpoints))
             self.game.breakpoints.clear()
-            self.say("no breakpoints")
+            told = f"{counted(len(removed), 'breakpoint')} removed: {', '.join(removed)}" if removed else "there was no breakpoint to remove"
+            self.say(told)
             return
         left = [point for point in self.game.breakpoints if text not in (point.place, str(point))]
         if len(left) == len(self.game.breakpoints):
@@ -276,10 +223,10 @@ class Moves(Commands):
     def _breakpoint_test(self) -> Test:
         tests = []
         for point in self.game.breakpoints:
-            address = b"%04x" % self._address_of(point)
+            is_there = at_address(self._address_of(point))
             holds = register_test(self._register_condition(point.condition)) if point.condition else None
-            tests.append((address, holds))
-        return lambda line: any(line.startswith(address) and (holds is None or holds(line)) for address, holds in tests)
+            tests.append((is_there, holds))
+        return lambda line: any(is_there(line) and (holds is None or holds(line)) for is_there, holds in tests)
 
     def do_continue(self, text: str) -> None:
         """continue

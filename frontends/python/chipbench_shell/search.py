@@ -13,9 +13,12 @@ from pathlib import Path
 from chipbench import ChipbenchError, Ended, join_lines
 
 from .game import Game
+from .values import Condition, ReadRegister, Subject, register_value
 
 LAST_STEP = 1_000_000
 BLOCK = 1 << 18
+# how many writes without a change are looked at before the shell says at which step it is
+TOLD_STEPS = 1000
 # how long a search goes on before it says at which step it is, and how often it does so
 SILENT_SECONDS, TOLD_SECONDS = 0.7, 0.2
 
@@ -55,6 +58,53 @@ def may_write(line: bytes, address: int) -> bool:
     """Whether the step may write a byte: `LD B, Vx` and `LD [I], Vx` write at most 16 bytes from I on. Whether one does is for the
     program to say."""
     return line[WORD][2:] in (b"33", b"55") and (address - int(line[COLUMNS["I"]], 16)) % 4096 < 16
+
+
+def registers_of(line: bytes) -> ReadRegister:
+    """The registers at a line of a trace."""
+    return lambda name: int(line[COLUMNS[name]], 16)
+
+
+def at_address(address: int) -> Test:
+    """Whether the instruction at an address comes next."""
+    wanted = b"%04x" % address
+    return lambda line: line.startswith(wanted)
+
+
+def not_deeper(depth: int) -> Test:
+    """Whether the call stack has at most so many return addresses."""
+    return lambda line: depth_of(line) <= depth
+
+
+def register_test(condition: Condition) -> Test:
+    """Whether a comparison of a register holds at a line of a trace: both of its sides are read there."""
+    name = condition.subject.register
+    assert name is not None
+    return lambda line: condition.holds(int(line[COLUMNS[name]], 16), registers_of(line))
+
+
+def becomes(test: Test, is_now: bool) -> Test:
+    """Whether a test holds at a line and didn't hold at the one before, where it is given line after line."""
+    held = is_now
+
+    def has_become(line: bytes) -> bool:
+        nonlocal held
+        before, held = held, test(line)
+        return held and not before
+
+    return has_become
+
+
+def becomes_of_byte(condition: Condition, is_now: bool) -> Callable[[int, bytes], bool]:
+    """Whether a comparison of a byte holds and didn't hold where it was tested last."""
+    held = is_now
+
+    def has_become(value: int, line: bytes) -> bool:
+        nonlocal held
+        before, held = held, condition.holds(value, registers_of(line))
+        return held and not before
+
+    return has_become
 
 
 class Search:
@@ -130,9 +180,55 @@ class Search:
                 found = step
         return found
 
-    def writes(self, address: int, first: int, last: int = LAST_STEP) -> Iterator[Line]:
-        """The steps that may write a byte."""
-        return ((step, line) for step, line in self.lines(first, last) if may_write(line, address))
+    # -- a register, or a byte of the memory
+
+    def first_true(self, condition: Condition) -> Found:
+        """The first step after the current one at which a comparison becomes true."""
+        state = self._game.state()
+        subject = condition.subject
+        is_now = condition.holds(subject.value(state), lambda name: register_value(state, name))
+        if subject.register is not None:
+            return self.first(becomes(register_test(condition), is_now), state.step)
+        return self._first_of_byte(subject, becomes_of_byte(condition, is_now), bool(condition.right.registers))
+
+    def first_change(self, subject: Subject) -> Found:
+        """The first step after the current one at which a register or a byte has another value."""
+        state = self._game.state()
+        value = subject.value(state)
+        if subject.register is None:
+            return self._first_of_byte(subject, lambda now, _: now != value, False)
+        column, shown = COLUMNS[subject.register], b"%0*x" % (subject.digits, value)
+        return self.first(lambda line: line[column] != shown, state.step)
+
+    def _first_of_byte(self, subject: Subject, test: Callable[[int, bytes], bool], needs_each_line: bool) -> Found:
+        """The first step after the current one at which a test of a byte's value and of the line holds. Unless it needs each line,
+        only those behind a step that may write the byte are tested."""
+        here = step = self._game.step
+        value, is_written, line = subject.value(self._game.state()), False, b""
+        for step, line in self.lines(here):
+            if is_written:
+                value = self._byte(step, subject.address)
+            if step > here and (is_written or needs_each_line) and test(value, line):
+                return Found(step, step, False)
+            is_written = may_write(line, subject.address)
+        return Found(None, step, not line.endswith(b" run"))
+
+    def _byte(self, step: int, address: int) -> int:
+        return int(self._game.bench.ask(f"mem {step} {address} 1"), 16)
+
+    def last_change(self, subject: Subject) -> int | None:
+        """The last step before the current one that changed a register or a byte; None where none did."""
+        state = self._game.state()
+        if subject.register is not None:
+            column, shown = COLUMNS[subject.register], b"%0*x" % (subject.digits, subject.value(state))
+            return self.last(lambda line: line[column] != shown, state.step)
+        written = [step for step, line in self.lines(0, state.step) if step < state.step and may_write(line, subject.address)]
+        for number, step in enumerate(reversed(written), 1):
+            if number % TOLD_STEPS == 0:
+                self._report(step)
+            if self._byte(step, subject.address) != self._byte(step + 1, subject.address):
+                return step
+        return None
 
 
 def start(arguments: list[str], errors: int) -> subprocess.Popen[bytes]:

@@ -26,6 +26,13 @@ SESSION_WORDS = {
 }
 # words that the shell has too, with the number of arguments that makes them the session's
 SHARED = {"regs": 1, "screen": 1, "dis": 3}
+#: What shows the same at the current step.
+HERE = {
+    "mem": "x ADDRESS [N] shows the bytes at this step",
+    "regs": "regs alone shows the registers at this step",
+    "screen": "screen alone draws the screen at this step",
+    "dis": "dis [ADDRESS [N]] shows the instructions at this step",
+}
 LINES = ("ins", "rep", "del")
 KEPT = ("down", "up")
 PLAIN = re.compile(r"[0-9]+|#[0-9A-Fa-f]+")
@@ -59,7 +66,7 @@ class SessionWords(Commands):
 
     def session_command(self, line: str) -> None:
         """Prints the answer of the session to a command, and tells what a refusal means."""
-        command = self._with_numbers(line.lstrip())
+        command, unknown = self._with_numbers(line.lstrip())
         before = self.game.edition()
         try:
             answer = self.game.bench.exchange([command])[0].decode("utf-8", "surrogateescape")
@@ -67,21 +74,32 @@ class SessionWords(Commands):
             self.game.note(before)
         self.say(*answer.encode("utf-8", "surrogateescape").decode("utf-8", "replace").removesuffix("\n").split("\n"))
         if answer.startswith("no "):
-            raise Mistake(self.game.sentence(answer[3:].strip()))
+            raise Mistake(self._refusal(answer[3:].strip(), command.split()[0], unknown))
 
-    def _with_numbers(self, line: str) -> str:
-        """The command with numbers for names. What has no value stays, and the session says what is wrong with it."""
+    def _refusal(self, code: str, word: str, unknown: str) -> str:
+        """What a refusal means; for a command that isn't read also its form, and the name in it that isn't known."""
+        said = self.game.sentence(code)
+        if code != "C1" or word not in SESSION_WORDS:
+            return said
+        here = f"; {HERE[word]}" if word in HERE else ""
+        return f"{said}: expected {SESSION_WORDS[word]}{f'; {unknown}' if unknown else ''}{here}"
+
+    def _with_numbers(self, line: str) -> tuple[str, str]:
+        """The command with numbers for names, and what is wrong with the first one that has no value. That one stays, and the
+        session refuses it."""
         word, *arguments = line.split(" ", 2) if line.startswith(("ins ", "rep ")) else line.split()
         if word not in SESSION_WORDS or not arguments:
-            return line
+            return line, ""
         count = 1 if word in LINES else len(arguments)
-        numbers = [self._number(word, argument) for argument in arguments[:count]]
-        return " ".join([word, *numbers, *arguments[count:]])
+        unknown = ""
+        for place, argument in enumerate(arguments[:count]):
+            try:
+                arguments[place] = self._number(word, argument)
+            except Mistake as mistake:
+                unknown = unknown or str(mistake)
+        return " ".join([word, *arguments]), unknown
 
     def _number(self, word: str, argument: str) -> str:
         if PLAIN.fullmatch(argument) or argument in KEPT or not argument:
             return argument
-        try:
-            return str(self.game.line_number(argument) if word in LINES else self.game.values().number(argument))
-        except Mistake:
-            return argument
+        return str(self.game.line_number(argument) if word in LINES else self.game.values().number(argument))

@@ -13,6 +13,7 @@ from collections.abc import Callable, Iterator
 from chipbench import ChipbenchError, Refused, sentences
 from chipbench_files import FileError
 
+from . import advice
 from .base import Snapshot
 from .console import Console, History, OutputGone
 from .edits import Edits
@@ -46,6 +47,8 @@ REPEATED = {"step", "back", "next", "finish", "until", "continue", "reverse", "w
 # commands behind which a name of the source may stand
 WITH_NAMES = {"until", "break", "clear", "list", "x", "dis", "print", "edit", "insert", "delete", "goto", "watch", "who"}
 PROMPT = "> "
+#: The answers to the question at the end.
+ANSWERS = {"yes": "writes the lines to the file, and ends", "no": "ends without writing them", "stay": "goes back to the shell"}
 FORM_WIDTH = 26
 
 
@@ -73,6 +76,8 @@ def command_named(word: str) -> str:
         raise Mistake(f"'{word}' begins several commands: {', '.join(found)}")
     if small in OUTSIDE:
         raise Mistake(f"'{small}' isn't a command of the shell: save, and run `chipbench {small}` outside of it")
+    if small in advice.OTHER_WORDS:
+        raise Mistake(f"no command '{word}': {advice.OTHER_WORDS[small]}")
     raise Mistake(f"no command '{word}'{near(small, [*COMMANDS, *SESSION_WORDS])}; help lists the commands")
 
 
@@ -174,13 +179,27 @@ class Shell(Moves, Looks, Edits, SessionWords, cmd.Cmd):
         word, text = self._split(line)
         if word.startswith("#") or not word:
             return
-        name = command_named(word)
+        try:
+            name = command_named(word)
+        except Mistake:
+            self._check_is_no_value(line.strip())
+            raise
         # what stands behind a line's number is text, blanks included
         given = text if name in ("edit", "insert") else text.strip()
         self._last_command = name
         if name in REPEATED:
             self._repeated = line
         getattr(self, f"do_{name}")(given)
+
+    def _check_is_no_value(self, text: str) -> None:
+        """Refuses a register, a byte or a name that is typed alone, or with a value that it should get."""
+        shown, *given = (part.strip() for part in text.split("=", 1))
+        is_named = shown.upper() in (*REGISTERS, *self.game.symbols())
+        if not is_named and not re.fullmatch(r"\[[^\]]*\]", shown):
+            return
+        if given:
+            raise Mistake(f"{advice.NOTHING_SETS}; until {shown} = {given[0]} goes to where that becomes true")
+        raise Mistake(f"no command '{shown}': print {shown} shows its value")
 
     @staticmethod
     def _split(line: str) -> tuple[str, str]:
@@ -274,8 +293,7 @@ class Shell(Moves, Looks, Edits, SessionWords, cmd.Cmd):
             self.is_ended = True
             return
         try:
-            with self.console.without_history():
-                answer = self.console.read(f"save the edits of {self.game.name}? yes, no, or stay: ").strip().lower()
+            answer = self._ask_for_save()
         except KeyboardInterrupt:
             self.say("")
             return
@@ -284,11 +302,19 @@ class Shell(Moves, Looks, Edits, SessionWords, cmd.Cmd):
             self.say("")
             self.keep_edits()
             return
-        if answer and "yes".startswith(answer):
+        if answer == "yes":
             self.do_save("")
-            self.is_ended = True
-        elif answer and "no".startswith(answer):
-            self.is_ended = True
+        self.is_ended = answer != "stay"
+
+    def _ask_for_save(self) -> str:
+        """The answer to whether the edits are saved: yes, no or stay. It is asked until it has one."""
+        while True:
+            with self.console.without_history():
+                typed = self.console.read(f"save the edits of {self.game.name}? yes, no, or stay: ").strip().lower()
+            answers = [answer for answer in ANSWERS if typed and answer.startswith(typed)]
+            if answers:
+                return answers[0]
+            self.say(*(f"{answer:5} {what}" for answer, what in ANSWERS.items()))
 
     def keep_edits(self) -> None:
         """Writes lines that weren't saved to a file of their own, and says where."""

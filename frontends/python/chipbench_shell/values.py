@@ -80,48 +80,82 @@ class Subject:
         return 4 if self.register in ("I", "PC") else 2
 
 
+#: Gives the value of a register of `REGISTERS`, at a step.
+ReadRegister = Callable[[str], int]
+
+
+@dataclass(frozen=True)
+class Sum:
+    """A number, and registers that are added to it or subtracted from it at each step, as `V4 + 1` has them."""
+
+    number: int
+    registers: tuple[tuple[int, str], ...]
+    shown: str
+
+    def value(self, read: ReadRegister) -> int:
+        return self.number + sum(sign * read(name) for sign, name in self.registers)
+
+    def __str__(self) -> str:
+        return self.shown if self.registers else str(self.number)
+
+
 @dataclass(frozen=True)
 class Condition:
-    """A comparison of a subject with a number."""
+    """A comparison of a subject with a sum; registers in it have their values of the same step."""
 
     subject: Subject
     sign: str
-    number: int
+    right: Sum
 
-    def holds(self, value: int) -> bool:
-        return COMPARED[self.sign](value, self.number)
+    def holds(self, value: int, read: ReadRegister) -> bool:
+        """Whether it holds where the subject has a value, and the registers those that `read` gives."""
+        return COMPARED[self.sign](value, self.right.value(read))
 
     def __str__(self) -> str:
-        return f"{self.subject.shown} {self.sign} {self.number}"
+        return f"{self.subject.shown} {self.sign} {self.right}"
 
 
 class Values:
-    """Reads numbers, by the names of the source and the registers of a state; without a state registers have no value."""
+    """Reads numbers, by the names of the source and the registers of a state; without a state a register has no value."""
 
     def __init__(self, symbols: Mapping[str, Symbol], state: State | None) -> None:
         self._symbols = symbols
         self._state = state
 
     def number(self, text: str) -> int:
-        """The value of a sum, such as `5`, `#2a0`, `LOOP+2` or `I`."""
-        value, place, sign = 0, 0, 1
-        while True:
-            found = TERM.match(text, place)
-            if found is None:
-                raise Mistake(f"'{text.strip()}' is not a number: 100, #2a0, 0x2a0, a name, a register, or a sum of these")
-            value += sign * self._term(found)
-            place = found.end()
-            if place == len(text):
-                break
-            if text[place] not in "+-":
-                raise Mistake(f"'{text.strip()}' is not a number: only + and - may stand between its parts")
-            sign = 1 if text[place] == "+" else -1
-            place += 1
+        """The value of a sum now, such as `5`, `#2a0`, `LOOP+2` or `I`."""
+        found = self.sum(text)
+        state = self._state
+        if state is None and found.registers:
+            raise Mistake(f"{found.registers[0][1]} has no value while a line has a fault")
+        value = found.value(lambda name: register_value(state, name) if state is not None else 0)
         if value < 0:
             raise Mistake(f"'{text.strip()}' is below 0")
         return value
 
-    def _term(self, found: re.Match[str]) -> int:
+    def sum(self, text: str) -> Sum:
+        """A sum of numbers, names and registers, whose registers are read later."""
+        number, place, sign = 0, 0, 1
+        registers: list[tuple[int, str]] = []
+        while True:
+            found = TERM.match(text, place)
+            if found is None:
+                raise Mistake(f"'{text.strip()}' is not a number: 100, #2a0, 0x2a0, a name, a register, or a sum of these")
+            term = self._term(found)
+            if isinstance(term, str):
+                registers.append((sign, term))
+            else:
+                number += sign * term
+            place = found.end()
+            if place == len(text):
+                return Sum(number, tuple(registers), text.strip())
+            if text[place] not in "+-":
+                raise Mistake(f"'{text.strip()}' is not a number: only + and - may stand between its parts")
+            sign = 1 if text[place] == "+" else -1
+            place += 1
+
+    def _term(self, found: re.Match[str]) -> int | str:
+        """A number, or the name of a register."""
         if found["hexadecimal"]:
             return int(found["hexadecimal"], 16)
         if found["decimal"]:
@@ -130,9 +164,7 @@ class Values:
         if name in self._symbols:
             return self._symbols[name].value
         if name in REGISTERS:
-            if self._state is None:
-                raise Mistake(f"{name} has no value while a line has a fault")
-            return register_value(self._state, name)
+            return name
         raise Mistake(f"no name {found['word']} in the source{near(name, [*self._symbols, *REGISTERS])}")
 
     def address(self, text: str) -> int:
@@ -161,4 +193,7 @@ class Values:
         found = COMPARISON.search(text)
         if found is None:
             return None
-        return Condition(self.subject(text[: found.start()]), found[1], self.number(text[found.end() :]))
+        right = self.sum(text[found.end() :])
+        if right.number < 0 and not right.registers:
+            raise Mistake(f"'{right.shown}' is below 0")
+        return Condition(self.subject(text[: found.start()]), found[1], right)

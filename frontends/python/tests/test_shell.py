@@ -142,7 +142,7 @@ class Moves(AtTerminal):
             ("c", "step 9, 020c, line 9: UP:     ADD V0, 1"),
             ("clear UP", "no breakpoint at UP any more"),
             ("c", "step 31, 020a, line 8: EXIT"),
-            ("clear", "no breakpoints"),
+            ("clear", "1 breakpoint removed: line 8"),
             ("c", STOPPED),
         )
 
@@ -582,7 +582,10 @@ class SessionWords(AtTerminal):
         self.answers(
             self.opened(),
             ("del 99", "no N1\nN1: no such line"),
-            ("regs nothing", "no C1\nC1: no such command"),
+            (
+                "regs nothing",
+                "no C1\nC1: no such command: expected regs STEP; no name nothing in the source; regs alone shows the registers at this step",
+            ),
             ("kdel 1 1", "no N8\nN8: no such event"),
         )
 

@@ -5,19 +5,18 @@ from __future__ import annotations
 import doctest
 import os
 import re
-import shutil
 import subprocess
 import sys
-import tempfile
 import unittest
 from pathlib import Path
 
 sys.path.insert(0, str(Path(__file__).resolve().parent))
 
-from programs import PYTHON, TOP, NeedsProgram  # noqa: E402
+from at_pipe import AtPipe  # noqa: E402
+from programs import PYTHON, TOP  # noqa: E402
 
 import chipbench_lines  # noqa: E402
-from chipbench_shell import game, session, shell, values, views  # noqa: E402
+from chipbench_shell import advice, game, session, shell, values, views  # noqa: E402
 
 PAGE = (TOP / "docs/SHELL.md").read_text(encoding="utf-8")
 #: The last line that each task of the page prints, worked by hand: key 4 is down from step 20 on. Before it a round of the loop has
@@ -39,23 +38,9 @@ TASKS = {
 
 def load_tests(loader: unittest.TestLoader, tests: unittest.TestSuite, pattern: str | None) -> unittest.TestSuite:
     """The docstrings of the shell are tests too; they need no program."""
-    for module in (chipbench_lines, game, session, shell, values, views):
+    for module in (advice, chipbench_lines, game, session, shell, values, views):
         tests.addTests(doctest.DocTestSuite(module))
     return tests
-
-
-class AtPipe(NeedsProgram):
-    def setUp(self) -> None:
-        super().setUp()
-        self.folder = Path(tempfile.mkdtemp(prefix="chipbench-shell-test-"))
-        self.addCleanup(shutil.rmtree, self.folder)
-
-    def shell(self, script: str, *arguments: str) -> tuple[int, str, str]:
-        """The status, the output and the errors of the shell on a script."""
-        command = [sys.executable, "-B", str(PYTHON / "chipbench_shell"), "--program", self.program, *arguments]
-        environment = {**os.environ, "XDG_STATE_HOME": str(self.folder / "state"), "LC_ALL": "C.UTF-8"}
-        done = subprocess.run(command, input=script, capture_output=True, text=True, cwd=self.folder, env=environment)
-        return done.returncode, done.stdout, done.stderr
 
 
 class Tasks(AtPipe):
@@ -159,7 +144,7 @@ class Pipes(AtPipe):
             (("--keys", "none.keys"), 3, "there is no file none.keys"),
             ((".",), 3, "is not a file"),
             (("game.asm", "--keys", "game.asm"), 2, "game.asm:1: expected STEP KEY down or STEP KEY up, as in `10 4 down` (KEY is"),
-            (("--bad",), 2, "unrecognized arguments: --bad"),
+            (("--bad",), 2, "no option --bad; chipbench-shell --help lists the options"),
         ):
             with self.subTest(arguments):
                 status, output, errors = self.shell("", *arguments)
