@@ -3,6 +3,7 @@
 from __future__ import annotations
 
 import argparse
+import contextlib
 import os
 import sys
 from collections.abc import Callable
@@ -109,7 +110,7 @@ def opened(words: argparse.Namespace) -> Game:
     game = Game(Path(words.source) if words.source is not None else None, image, settings, words.program)
     try:
         if words.keys is not None:
-            game.read_keys(needed(words.keys), words.keys)
+            game.read_keys(needed(words.keys), Path(words.keys))
     except BaseException:
         game.close()
         raise
@@ -123,7 +124,18 @@ def needed(name: str) -> bytes:
     return content
 
 
+def closed_stream() -> str | None:
+    """Which of the streams is closed that a shell needs. Without standard error, what goes there is dropped."""
+    if sys.stderr is None:
+        sys.stderr = open(os.devnull, "w", encoding="utf-8")
+    return "standard input" if sys.stdin is None else "standard output" if sys.stdout is None else None
+
+
 def main(arguments: list[str]) -> int:
+    closed = closed_stream()
+    if closed is not None:
+        print(f"chipbench-shell: {closed} is closed", file=sys.stderr)
+        return 3
     words = parser().parse_args(arguments)
     if words.source is not None and words.image is not None:
         parser().error("give SOURCE or --image, not both")
@@ -133,18 +145,32 @@ def main(arguments: list[str]) -> int:
         # of what the program says on its arguments the first part is enough: its help isn't the shell's
         print(f"chipbench-shell: {str(error).partition(chr(10) * 2)[0]}", file=sys.stderr)
         return 3 if isinstance(error, FileError) else 2
-    console = Console(words.echo)
     try:
-        shell = Shell(game, console, words.strict)
-        if not words.quiet:
-            console.say(shell.banner())
-        return shell.run()
-    except (OutputGone, OSError):
-        # no more of it is written
-        os.dup2(os.open(os.devnull, os.O_WRONLY), 1)
-        return 3
+        return converse(game, words)
+    except OutputGone as gone:
+        told = str(gone)
+    except OSError as error:
+        told = f"the input can't be read: {error.strerror}"
     finally:
         game.close()
+    # no more of the output is written
+    os.dup2(os.open(os.devnull, os.O_WRONLY), 1)
+    # a terminal that has gone away takes no sentence
+    with contextlib.suppress(OSError):
+        if told:
+            print(f"chipbench-shell: {told}", file=sys.stderr, flush=True)
+    return 3
+
+
+def converse(game: Game, words: argparse.Namespace) -> int:
+    """Reads the commands up to the end, and returns the status."""
+    console = Console(words.echo)
+    shell = Shell(game, console, words.strict)
+    if not words.quiet:
+        console.say(shell.banner())
+    if console.is_terminal:
+        console.say(*shell.left_before())
+    return shell.run()
 
 
 if __name__ == "__main__":

@@ -33,6 +33,18 @@ class Commands:
     game: Game
     console: Console
 
+    def fail(self, text: str) -> None:
+        """Tells a refusal."""
+        raise NotImplementedError
+
+    def keep(self) -> None:
+        """Keeps what isn't saved in files of its own."""
+        raise NotImplementedError
+
+    def save_keys(self, text: str) -> None:
+        """Writes the key events to the file that a text names, or to their own."""
+        raise NotImplementedError
+
     def say(self, *lines: str) -> None:
         self.console.say(*lines)
 

@@ -10,6 +10,8 @@ import sys
 from collections.abc import Iterator
 from pathlib import Path
 
+from .views import printable
+
 try:
     import readline
 except ImportError:  # a Python that was built without it
@@ -28,7 +30,7 @@ def state_folder() -> Path:
 
 
 class OutputGone(Exception):
-    """The terminal has gone away, or who reads the output."""
+    """The output can't be written: the terminal has gone away, or who reads it. The text says why; it is empty for a reader."""
 
 
 class Console:
@@ -76,13 +78,16 @@ class Console:
             for line in lines:
                 sys.stdout.write(line + "\n")
             sys.stdout.flush()
-        except OSError:
-            raise OutputGone from None
+        except OSError as error:
+            is_reader = isinstance(error, BrokenPipeError) or self.is_terminal
+            raise OutputGone("" if is_reader else f"the output can't be written: {error.strerror}") from None
 
     def complain(self, text: str) -> None:
         """A refusal, on standard error; from a pipe or a file with the number of its line."""
         self.end_report()
-        shown = self.paint("error", text) if self.is_terminal else f"line {self.line}: {text}"
+        # what was typed may be in it, whatever characters that has
+        plain = "\n".join(map(printable, text.split("\n")))
+        shown = self.paint("error", plain) if self.is_terminal else f"line {self.line}: {plain}"
         # a failure of standard error is ignored, as by the program
         with contextlib.suppress(OSError):
             sys.stderr.write(shown + "\n")
@@ -113,7 +118,7 @@ class Console:
                 raise EOFError
             line = line.removesuffix("\n").removesuffix("\r")
             if self._echoes:
-                self.say((prompt + line).rstrip())
+                self.say(printable(prompt + line).rstrip())
             return line
         if self._pasted:
             return self._pasted.pop(0)
@@ -151,7 +156,8 @@ class History:
 
     def __init__(self, console: Console) -> None:
         self.path = state_folder() / "history"
-        self._is_kept = console.is_terminal and readline is not None
+        self._is_kept = console.is_terminal and hasattr(readline, "append_history_file")
+        self._length = 0
 
     def load(self) -> None:
         if not self._is_kept:
@@ -160,14 +166,17 @@ class History:
         readline.set_history_length(HISTORY_LINES)
         with contextlib.suppress(OSError, UnicodeDecodeError):
             readline.read_history_file(self.path)
+        self._length = readline.get_current_history_length()
 
-    def save(self) -> None:
-        """Writes the file by a new one. Where it can't be written, the session goes on without it."""
+    def add(self) -> None:
+        """Adds what was typed since to the file. Where it can't be written, the session goes on without it."""
         if not self._is_kept:
             return
-        part = self.path.with_name(f"history.{os.getpid()}")
+        length = readline.get_current_history_length()
+        if length <= self._length:
+            return
         with contextlib.suppress(OSError):
             self.path.parent.mkdir(mode=0o700, parents=True, exist_ok=True)
-            readline.write_history_file(part)
-            part.chmod(0o600)
-            part.replace(self.path)
+            os.close(os.open(self.path, os.O_CREAT | os.O_WRONLY, 0o600))
+            readline.append_history_file(length - self._length, self.path)
+        self._length = length

@@ -5,7 +5,7 @@ from __future__ import annotations
 import re
 from pathlib import Path
 
-from chipbench import to_bytes, to_text
+from chipbench import Refused, to_bytes, to_text
 
 from .advice import BREAK_WORDS
 from .base import Commands, Snapshot
@@ -42,31 +42,38 @@ class Edits(Commands):
         most = len(self.game.bench.lines) + 1
         number, given = self._line_and_text(text, "insert LINE [TEXT]", most)
         if given is not None:
-            texts = [given]
-        else:
-            texts = self._read_lines(number)
-        if not texts:
+            told = f"1 line inserted before line {number}"
+            self.edit(lambda: self.game.bench.insert(number, to_bytes(given)), told)
+            return
+        before, snapshot = self.game.edition(), Snapshot(self.game)
+        try:
+            self._insert_lines(number)
+        finally:
+            count = len(self.game.bench.lines) + 1 - most
+            if self.game.note(before):
+                self.tell_difference(f"{counted(count, 'line')} inserted before line {number}", snapshot)
+        if count == 0:
             raise Mistake("no line was given: nothing is inserted")
 
-        def insert() -> None:
-            for place, line in enumerate(texts, number):
-                self.game.bench.insert(place, to_bytes(line))
-
-        self.edit(insert, f"{counted(len(texts), 'line')} inserted before line {number}")
-
-    def _read_lines(self, number: int) -> list[str]:
-        texts: list[str] = []
+    def _insert_lines(self, number: int) -> None:
+        """Reads lines up to a full stop, and inserts each as it comes, so that one that was typed is lost by nothing."""
+        if self.console.is_terminal:
+            self.say(f"lines before line {number}; a line that is a full stop ends them")
         with self.console.without_history():
-            if self.console.is_terminal:
-                self.say(f"lines before line {number}; a line that is a full stop ends them")
             while True:
                 try:
-                    line = self.console.read(f"{number + len(texts)}: ")
+                    line = self.console.read(f"{number}: ")
                 except EOFError:
-                    return texts
+                    return
                 if line.strip() == END:
-                    return texts
-                texts.append(line)
+                    return
+                try:
+                    self.game.bench.insert(number, to_bytes(line))
+                except Refused as refused:
+                    self.fail(str(refused))
+                    continue
+                number += 1
+                self.keep()
 
     def do_delete(self, text: str) -> None:
         """delete LINE [LAST]
@@ -169,13 +176,28 @@ class Edits(Commands):
         """save [FILE] [over]
 
         Writes the lines to the source's file, or to FILE. What another program has written there since stays, unless
-        `over` is given.
+        `over` is given. `save keys [FILE] [over]` writes the key events, to the file of --keys or to one beside the source.
         """
         words = text.split()
-        is_forced = words[-1:] == ["over"]
+        if words[:1] == ["keys"]:
+            self.save_keys(text.strip().removeprefix("keys"))
+            return
+        path, is_forced = self._target(text)
+        written = self.game.save(path, is_forced)
+        self.say(f"{written}: {counted(len(self.game.bench.lines), 'line')} written")
+
+    def save_keys(self, text: str) -> None:
+        """Writes the key events to the file that a text names, or to their own."""
+        path, is_forced = self._target(text)
+        written = self.game.save_keys(path, is_forced)
+        self.say(f"{written}: {counted(len(self.game.bench.events), 'key event')} written")
+
+    @staticmethod
+    def _target(text: str) -> tuple[Path | None, bool]:
+        """The file that a text names, and whether it may be written over."""
+        is_forced = text.split()[-1:] == ["over"]
         name = text.strip().removesuffix("over").strip() if is_forced else text.strip()
-        path = self.game.save(Path(name) if name else None, is_forced)
-        self.say(f"{path}: {counted(len(self.game.bench.lines), 'line')} written")
+        return (Path(name) if name else None), is_forced
 
     def do_reload(self, text: str) -> None:
         """reload

@@ -3,9 +3,7 @@
 from __future__ import annotations
 
 import difflib
-import itertools
 import os
-import re
 from collections.abc import Sequence
 from dataclasses import dataclass, field
 from pathlib import Path
@@ -15,12 +13,12 @@ from chipbench_files import FileError, read_file, replace_file
 from chipbench_lines import LINE_BYTES, line_edits, over_limits, same_ends
 
 from .advice import for_register
-from .console import state_folder
+from .keeping import Keeper
+from .key_file import command_of, key_file, lines_of
 from .values import Mistake, Values, counted
 
 Events = dict[tuple[int, int], bool]
-# a line of a file of key events whose key is a letter, and what is said where a line is not an event
-KEY_LETTER = re.compile(rb"^(\S+ +)([A-Fa-f])(?= |$)")
+# what is said where a line of a file of key events is not an event
 KEY_LINE = "expected STEP KEY down or STEP KEY up, as in `10 4 down` (KEY is 0 to 15, or A to F)"
 MEMORY_BYTES = 4096
 
@@ -69,6 +67,14 @@ def changed_count(old: Sequence[bytes], new: Sequence[bytes]) -> int:
     return sum(max(i2 - i1, j2 - j1) for tag, i1, i2, j1, j2 in pieces.get_opcodes() if tag != "equal")
 
 
+def write_file(path: Path, content: bytes) -> None:
+    """Writes a file atomically. `FileError` where it can't be written."""
+    try:
+        replace_file(path, content)
+    except OSError as error:
+        raise FileError(f"{path} can't be written: {error.strerror}") from None
+
+
 class Game:
     """A source as it is edited, its file, and the step that is shown."""
 
@@ -88,6 +94,10 @@ class Game:
         self.step = 0
         self.breakpoints: list[Breakpoint] = []
         self.saved: tuple[bytes, ...] | None = tuple(self.bench.lines)
+        self.keys_path: Path | None = None
+        self.saved_events: Events = {}
+        self._keys_content = b""
+        self._keeper = Keeper(path.parent if path is not None else Path())
         # what the file held when its lines were taken or written last, and when it was looked at last
         self._content = self._seen = content
         self._stamp = self._file_stamp()
@@ -112,6 +122,25 @@ class Game:
         """Whether the lines are other ones than the file's."""
         return tuple(self.bench.lines) != self.saved
 
+    @property
+    def has_new_keys(self) -> bool:
+        """Whether the key events are other ones than those of their file; without one, whether there are any."""
+        return self.bench.events != self.saved_events
+
+    @property
+    def keys_name(self) -> Path:
+        """The file of the key events: the one that was read or written, else one beside the source."""
+        if self.keys_path is not None:
+            return self.keys_path
+        return self.path.with_suffix(".keys") if self.path is not None else Path("game.keys")
+
+    @property
+    def unsaved(self) -> str:
+        """What would be lost without saving; empty where nothing would."""
+        lines = f"the edits of {self.name}" if self.is_edited else ""
+        keys = f"the key events for {self.keys_name}" if self.has_new_keys else ""
+        return " and ".join(filter(None, (lines, keys)))
+
     def run_options(self) -> list[str]:
         """The options of a run, as `chipbench trace` takes them."""
         rate = self.settings.rate
@@ -126,19 +155,19 @@ class Game:
 
     def key_lines(self) -> str:
         """The key events as the lines of a file of key events."""
-        events = sorted(self.bench.events.items())
-        return "".join(f"{step} {key} {'down' if down else 'up'}\n" for (step, key), down in events)
+        return "".join(f"{line}\n" for line in lines_of(self.bench.events))
 
-    def read_keys(self, content: bytes, name: str) -> None:
-        """Adds the key events of a file."""
-        lines = [line.partition(b";")[0].strip(b" ") for line in split_lines(content)]
-        for number, line in enumerate(lines, 1):
-            if not line:
+    def read_keys(self, content: bytes, path: Path) -> None:
+        """Adds the key events of a file, and takes it for their file."""
+        for number, line in enumerate(split_lines(content), 1):
+            command = command_of(line)
+            if not command:
                 continue
-            answer = self.bench.exchange([b"kins " + KEY_LETTER.sub(rb"\1#\2", line)])[0]
+            answer = self.bench.exchange([b"kins " + command])[0]
             if answer != b"ok\n":
                 code = answer.split()[1].decode()
-                raise Mistake(f"{name}:{number}: {KEY_LINE if code == 'C1' else self.sentence(code)}")
+                raise Mistake(f"{os.fspath(path)}:{number}: {KEY_LINE if code == 'C1' else self.sentence(code)}")
+        self.keys_path, self._keys_content, self.saved_events = path, content, self.bench.events
 
     def sentence(self, code: str) -> str:
         """A code with its sentence, and where the source's faults are the cause, the first of them."""
@@ -354,25 +383,46 @@ class Game:
             told = "has changed since it was read: reload takes it, " if is_own else "is there already: "
             raise Mistake(f"{target} {told}save {'' if is_own else str(target) + ' '}over writes over it")
         content = self.content()
-        try:
-            replace_file(target, content)
-        except OSError as error:
-            raise FileError(f"{target} can't be written: {error.strerror}") from None
+        write_file(target, content)
         if is_own or self.path is None:
             self.path = target
             self._content, self._seen, self._stamp = content, content, self._file_stamp()
             self.saved = tuple(self.bench.lines)
         return target
 
-    def keep_edits(self) -> Path:
-        """Writes the lines to a new file beside the history, for edits that would be lost otherwise."""
-        folder = state_folder()
-        folder.mkdir(mode=0o700, parents=True, exist_ok=True)
+    def save_keys(self, path: Path | None, is_forced: bool) -> Path:
+        """Writes the key events to their file, or to another one. What is there already stays, unless forced."""
+        target = path or self.keys_name
+        is_own = self.keys_path is not None and target == self.keys_path
+        there = read_file(target)
+        known = self._keys_content if is_own else None
+        if there is not None and there != known and not is_forced:
+            told = "has changed since it was read" if is_own else "is there already"
+            raise Mistake(f"{target} {told}: save keys {target} over writes over it")
+        content = key_file(self._keys_content, self.bench.events)
+        write_file(target, content)
+        if is_own or self.keys_path is None:
+            self.keys_path, self._keys_content, self.saved_events = target, content, self.bench.events
+        return target
+
+    def keep_unsaved(self) -> dict[str, Path]:
+        """Writes what isn't saved to new files beside the history, and returns them by what they have. Files of what was saved since
+        are removed."""
         name = self.path.name if self.path is not None else "source.asm"
-        places = (folder / (f"unsaved-{number}-{name}" if number else f"unsaved-{name}") for number in itertools.count())
-        path = next(place for place in places if not place.exists())
-        replace_file(path, self.content())
-        return path
+        keys = key_file(self._keys_content, self.bench.events) if self.has_new_keys else None
+        wanted = {
+            f"the edits of {self.name}": ("lines", name, self.content() if self.is_edited else None),
+            "the key events": ("keys", self.keys_name.name, keys),
+        }
+        for what, one, content in wanted.values():
+            self._keeper.keep(what, one, content)
+        kept = {told: self._keeper.path(what) for told, (what, _, _) in wanted.items()}
+        return {told: path for told, path in kept.items() if path is not None}
+
+    def drop_unsaved(self) -> None:
+        """Removes the files of what isn't saved: whoever typed it has given it up."""
+        for what in ("lines", "keys"):
+            self._keeper.keep(what, "", None)
 
     def content(self) -> bytes:
         """The lines as a file holds them: with CR where most lines of the file had one."""

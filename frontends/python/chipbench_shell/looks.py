@@ -165,7 +165,7 @@ class Looks(Commands):
         values = self.game.values()
         is_subject = text.startswith("[") or (text.upper() in REGISTERS and text.upper() not in self.game.symbols())
         number = values.subject(text).value(self.game.state()) if is_subject else values.number(text)
-        self.say(f"{text} = {number} = #{number:02x} = ${number:08b}")
+        self.say(f"{views.printable(text)} = {number} = #{number:02x} = ${number:08b}")
 
     def do_backtrace(self, text: str) -> None:
         """backtrace
@@ -178,16 +178,22 @@ class Looks(Commands):
         for address in reversed(state.call_stack):
             # the call stands before the address to which it returns
             number = self.game.line_at(address - 2)
-            source = f", line {number}: {self.game.bench.listing[number - 1].text.strip()}" if number else ""
+            source = f", line {number}: {views.printable(self.game.bench.listing[number - 1].text.strip())}" if number else ""
             self.say(f"called from {address - 2:04x}{source}")
 
     def do_keys(self, text: str) -> None:
-        """keys
+        """keys [> FILE]
 
-        Shows the key events as the lines of a file for --keys. press, release and undo change them, and kdel STEP KEY
-        removes one.
+        Shows the key events as the lines of a file for --keys, or writes them to FILE, as `save keys FILE` does. press, release
+        and undo change them, and kdel STEP KEY removes one.
         """
-        self.words_of(text, 0, "keys")
+        if text.startswith(">"):
+            if not text[1:].strip():
+                raise Mistake("which file? keys > FILE")
+            self.save_keys(text[1:])
+            return
+        if text:
+            raise Mistake(f"keys shows the key events: keys > {text} writes them to a file, press and release add some")
         lines = self.game.key_lines().splitlines()
         self.say(*(lines or ["no key events"]))
 

@@ -6,6 +6,7 @@ import re
 
 from .base import Commands
 from .values import Mistake
+from .views import printable
 
 #: The words and their forms (docs/FORMATS.md).
 SESSION_WORDS = {
@@ -72,7 +73,9 @@ class SessionWords(Commands):
             answer = self.game.bench.exchange([command])[0].decode("utf-8", "surrogateescape")
         finally:
             self.game.note(before)
-        self.say(*answer.encode("utf-8", "surrogateescape").decode("utf-8", "replace").removesuffix("\n").split("\n"))
+        lines = answer.encode("utf-8", "surrogateescape").decode("utf-8", "replace").removesuffix("\n").split("\n")
+        # a source may have bytes that would steer the terminal
+        self.say(*(map(printable, lines) if self.console.is_terminal else lines))
         if answer.startswith("no "):
             raise Mistake(self._refusal(answer[3:].strip(), command.split()[0], unknown))
 

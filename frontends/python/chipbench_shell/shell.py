@@ -13,11 +13,12 @@ from collections.abc import Callable, Iterator
 from chipbench import ChipbenchError, Refused, sentences
 from chipbench_files import FileError
 
-from . import advice
+from . import advice, views
 from .base import Snapshot
 from .console import Console, History, OutputGone
 from .edits import Edits
 from .game import Game, counted
+from .keeping import kept_before
 from .looks import PROFILES, Looks
 from .moves import Moves
 from .session import SESSION_WORDS, SessionWords, is_of_session
@@ -94,6 +95,8 @@ class Shell(Moves, Looks, Edits, SessionWords, cmd.Cmd):
         self._repeated = ""
         self._last_command = ""
         self._is_gone_told = False
+        self._is_given_up = False
+        self._typed = ""
 
     # -- the loop
 
@@ -104,28 +107,30 @@ class Shell(Moves, Looks, Edits, SessionWords, cmd.Cmd):
         state = counted(len(faults), "fault") + ": check shows them" if faults else "no faults"
         return f"{self.game.name}: {lines}, {state}{kind}; help lists the commands"
 
+    def left_before(self) -> list[str]:
+        """Where edits of a source of this name are that an earlier shell has left."""
+        found = kept_before(self.game.path.name if self.game.path is not None else "source.asm")
+        return [f"an earlier shell has left edits that weren't saved in {path}" for path in found[:1]]
+
     def run(self) -> int:
-        """Reads commands up to the end, and returns the status."""
+        """Reads commands up to the end, and returns the status. Whatever ends it, what isn't saved is kept."""
         history = History(self.console)
         history.load()
         with self._completing(), self._signals_taken():
             try:
-                while not self.is_ended:
+                while not self.is_ended and not (self.has_failed and self.is_strict):
                     # Ctrl+C between two commands stops nothing
                     with contextlib.suppress(KeyboardInterrupt):
-                        self._read_one()
-                    if self.has_failed and self.is_strict:
-                        return 1
-            except (OutputGone, OSError):
-                self._keep_quietly()
-                raise
+                        self._read_one(history)
             finally:
-                history.save()
-        return 0
+                is_kept = self._keep_at_end()
+        is_broken = (self.has_failed and self.is_strict) or (is_kept and not self.console.is_terminal)
+        return 1 if is_broken else 0
 
-    def _read_one(self) -> None:
+    def _read_one(self, history: History) -> None:
         try:
             line = self.console.read(PROMPT)
+            history.add()
         except EOFError:
             if self.console.is_terminal:
                 self.say("")
@@ -143,30 +148,31 @@ class Shell(Moves, Looks, Edits, SessionWords, cmd.Cmd):
 
     def onecmd(self, line: str) -> bool:
         """Carries out one line. What is refused is told, and changes nothing."""
-        step, breakpoints = self.game.step, list(self.game.breakpoints)
+        step, breakpoints, self._typed = self.game.step, list(self.game.breakpoints), line
         try:
             self._follow_file()
             self._carry_out(line)
         except KeyboardInterrupt:
             self._check_is_typed()
             self.game.step, self.game.breakpoints = step, breakpoints
-            self._fail(f"stopped; still at step {step}")
+            self.fail(f"stopped; still at step {step}")
         except Refused as refused:
             self.game.step = step
-            self._fail(self.game.sentence(refused.code) if refused.code == "Q1" else str(refused))
+            self.fail(self.game.sentence(refused.code) if refused.code == "Q1" else str(refused))
         except (Mistake, ChipbenchError, FileError) as error:
             self.game.step = step
-            self._fail(str(error))
+            self.fail(str(error))
         except OSError as error:
             self.game.step = step
-            self._fail(f"{error.filename or 'the system'}: {error.strerror}")
+            self.fail(f"{error.filename or 'the system'}: {error.strerror}")
         finally:
             self.console.end_report()
+            self.keep()
         return self.is_ended
 
-    def _fail(self, text: str) -> None:
+    def fail(self, text: str) -> None:
         self.has_failed = True
-        self.console.complain(text)
+        self.console.complain(views.shortened(text, self._typed))
 
     def _carry_out(self, line: str) -> None:
         if not line.strip():
@@ -282,59 +288,74 @@ class Shell(Moves, Looks, Edits, SessionWords, cmd.Cmd):
         return [f"{f'  {form}' if place == 0 else '':<{FORM_WIDTH}}{line}".rstrip() for place, line in enumerate(lines)]
 
     def do_quit(self, text: str) -> None:
-        """quit
+        """quit [yes | no]
 
-        Ends the shell, as Ctrl+D does. It asks first where edits aren't saved.
+        Ends the shell, as Ctrl+D does. It asks first where lines or key events aren't saved; yes saves them, and no gives
+        them up.
         """
-        self._end()
-
-    def _end(self) -> None:
-        if not (self.game.is_edited and self.console.is_terminal):
+        if text and text not in ANSWERS:
+            raise Mistake("quit asks where something isn't saved: quit yes saves it, quit no gives it up")
+        if not self.game.unsaved or (not text and not self.console.is_terminal):
             self.is_ended = True
             return
         try:
-            answer = self._ask_for_save()
+            answer = text or self._ask_for_save()
         except KeyboardInterrupt:
             self.say("")
             return
         except EOFError:
-            self.is_ended = True
             self.say("")
-            self.keep_edits()
+            self.is_ended = True
             return
         if answer == "yes":
-            self.do_save("")
+            self._save_all()
+        elif answer == "no":
+            self._is_given_up = True
         self.is_ended = answer != "stay"
+
+    def _save_all(self) -> None:
+        if self.game.is_edited:
+            self.do_save("")
+        if self.game.has_new_keys:
+            self.save_keys("")
 
     def _ask_for_save(self) -> str:
         """The answer to whether the edits are saved: yes, no or stay. It is asked until it has one."""
         while True:
             with self.console.without_history():
-                typed = self.console.read(f"save the edits of {self.game.name}? yes, no, or stay: ").strip().lower()
+                typed = self.console.read(f"save {self.game.unsaved}? yes, no, or stay: ").strip().lower()
             answers = [answer for answer in ANSWERS if typed and answer.startswith(typed)]
             if answers:
                 return answers[0]
             self.say(*(f"{answer:5} {what}" for answer, what in ANSWERS.items()))
 
-    def keep_edits(self) -> None:
-        """Writes lines that weren't saved to a file of their own, and says where."""
-        if self.game.is_edited:
-            path = self.game.keep_edits()
-            self.console.complain(f"the edits of {self.game.name} are in {path}")
-
-    def _keep_quietly(self) -> None:
-        """Keeps edits that were typed where nobody may be there any more to read where they are."""
+    def keep(self) -> None:
+        """Keeps what was typed at a terminal and isn't saved, so that a shell that is killed loses none of it. A script is there
+        still, so what it has changed is kept at the end alone."""
         if self.console.is_terminal:
-            with contextlib.suppress(OSError, FileError):
-                self.keep_edits()
+            # where no folder can be written, that is told at the end
+            with contextlib.suppress(OSError):
+                self.game.keep_unsaved()
+
+    def _keep_at_end(self) -> bool:
+        """Keeps what isn't saved, unless it was given up, and says where. False where there is nothing to keep."""
+        try:
+            if self._is_given_up:
+                self.game.drop_unsaved()
+                return False
+            kept = self.game.keep_unsaved()
+        except OSError as error:
+            self.console.complain(f"{self.game.unsaved} can't be kept: {error.strerror}")
+            return True
+        for what, path in kept.items():
+            self.console.complain(f"{what} are in {path}")
+        return bool(kept)
 
     @contextlib.contextmanager
     def _signals_taken(self) -> Iterator[None]:
-        """Takes the signals of the terminal. Where it goes away, or the shell is ended from outside, edits that weren't saved are
-        kept."""
+        """Takes the signals of the terminal. Where it goes away, or the shell is ended from outside, `run` keeps what isn't saved."""
 
         def end(number: int, _: object) -> None:
-            self._keep_quietly()
             raise SystemExit(128 + number)
 
         before = {number: signal.signal(number, end) for number in (signal.SIGHUP, signal.SIGTERM)}

@@ -13,6 +13,10 @@ ASCII_LETTERS = " '.:"
 # by the pixels at the upper left, upper right, lower left and lower right, the last one the highest bit
 QUARTER_BLOCKS = " ▘▝▀▖▌▞▛▗▚▐▜▄▙▟█"
 BYTES_OF_ROW = 16
+#: The lone surrogates in which Python has the bytes 128 to 255 that are not UTF-8: their low eight bits are the byte.
+BYTE_SURROGATES = range(0xDC80, 0xDD00)
+#: What is shown of a word that was typed has at most so many characters.
+LONGEST_WORD = 80
 
 
 def rows_of(parts: Sequence[str], count: int) -> list[str]:
@@ -99,9 +103,33 @@ def source_line(line: ListingLine, mark: str, width: int) -> str:
 
 
 def printable(text: str) -> str:
-    """A text without control characters, which could steer the terminal, and without bytes that are not UTF-8."""
-    expanded = text.expandtabs(8)
-    return "".join(letter if letter.isprintable() else f"\\x{ord(letter) & 255:02x}" for letter in expanded)
+    """A text without characters that could steer the terminal, and without bytes that are not UTF-8: these are escaped.
+
+    >>> printable("a\\x1b[2J"), printable("\\u2028"), printable("\\udcff"), printable("\\U000e0001")
+    ('a\\\\x1b[2J', '\\\\u2028', '\\\\xff', '\\\\U000e0001')
+    """
+    return "".join(letter if letter.isprintable() else escaped(ord(letter)) for letter in text.expandtabs(8))
+
+
+def escaped(code: int) -> str:
+    """A character by its number; a byte that is not UTF-8 by its own, which stands in a lone surrogate."""
+    if code in BYTE_SURROGATES:
+        code &= 0xFF
+    if code < 0x100:
+        return f"\\x{code:02x}"
+    return f"\\u{code:04x}" if code < 0x10000 else f"\\U{code:08x}"
+
+
+def shortened(text: str, typed: str) -> str:
+    """A message in which the long words of what was typed are cut.
+
+    >>> len(shortened("no command " + "a" * 100, "a" * 100)) == len("no command ") + LONGEST_WORD
+    True
+    """
+    for word in typed.split():
+        if len(word) > LONGEST_WORD:
+            text = text.replace(word, cut(word, LONGEST_WORD))
+    return text
 
 
 def cut(text: str, width: int) -> str:

@@ -121,6 +121,22 @@ class WrongTurns(AtPipe):
         self.assertEqual(output.splitlines()[2:], told)
 
 
+class Echoes(AtPipe):
+    def test_control_characters_and_long_words_are_not_echoed_raw(self) -> None:
+        for typed, wanted in (
+            ("\x1b[2J", "line 1: no command '\\x1b[2J'; help lists the commands\n"),
+            ("goto \x07", "line 1: '\\x07' is not a number: 100, #2a0, 0x2a0, a name, a register, or a sum of these\n"),
+            ("x \u2028QQ", "line 1: no name QQ in the source\n"),
+            ("press \u0100\u202e", "line 1: no key \u0100\\u202e: the keys are 0 to 9 and A to F, as in press 4\n"),
+            ("y" * 5000, f"line 1: no command '{'y' * 78}..'; help lists the commands\n"),
+            ("until " + "z" * 5000, f"line 1: no name {'z' * 78}.. in the source\n"),
+        ):
+            with self.subTest(typed):
+                _, output, errors = self.shell(typed + "\n", "--echo", "--quiet")
+                self.assertNotRegex(output + errors, "[\x00-\x09\x0b-\x1f\u2028\u202e]")
+                self.assertEqual(errors, wanted)
+
+
 class Arguments(AtPipe):
     def test_numbers_of_options(self) -> None:
         for arguments, example in ((("--seed", "-1"), "--seed 7"), (("--seed", "0x10"), "--seed 7"), (("--rate", "x"), "--rate 10")):

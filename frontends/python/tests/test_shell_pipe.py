@@ -16,7 +16,7 @@ from at_pipe import AtPipe  # noqa: E402
 from programs import PYTHON, TOP  # noqa: E402
 
 import chipbench_lines  # noqa: E402
-from chipbench_shell import advice, game, session, shell, values, views  # noqa: E402
+from chipbench_shell import advice, game, key_file, session, shell, values, views  # noqa: E402
 
 PAGE = (TOP / "docs/SHELL.md").read_text(encoding="utf-8")
 #: The last line that each task of the page prints, worked by hand: key 4 is down from step 20 on. Before it a round of the loop has
@@ -38,7 +38,7 @@ TASKS = {
 
 def load_tests(loader: unittest.TestLoader, tests: unittest.TestSuite, pattern: str | None) -> unittest.TestSuite:
     """The docstrings of the shell are tests too; they need no program."""
-    for module in (advice, chipbench_lines, game, session, shell, values, views):
+    for module in (advice, chipbench_lines, game, key_file, session, shell, values, views):
         tests.addTests(doctest.DocTestSuite(module))
     return tests
 
@@ -58,7 +58,8 @@ class Tasks(AtPipe):
             commands = re.findall("`([^`]*)`", here)
             with self.subTest(task):
                 self.assertTrue(1 <= len(commands) <= 4)
-                status, output, errors = self.shell("\n".join(commands), "score.asm", "--keys", "four.keys", "--strict")
+                script = "\n".join([*commands, "quit no"])
+                status, output, errors = self.shell(script, "score.asm", "--keys", "four.keys", "--strict")
                 self.assertEqual((status, errors, output.splitlines()[-1]), (0, "", TASKS[task]))
 
     def test_the_page_has_each_command(self) -> None:
@@ -111,7 +112,7 @@ class Pipes(AtPipe):
                 self.assertEqual((status, "line 2: " in errors, "V0 = " in output), (1, True, False))
 
     def test_echo(self) -> None:
-        _, output, _ = self.shell("print 5\ninsert 1\n; a\n.\nquit\n", "game.asm", "--echo", "--quiet")
+        _, output, _ = self.shell("print 5\ninsert 1\n; a\n.\nquit no\n", "game.asm", "--echo", "--quiet")
         self.assertEqual(
             output.splitlines(),
             [
@@ -121,7 +122,7 @@ class Pipes(AtPipe):
                 "1: ; a",
                 "2: .",
                 "1 line inserted before line 1; the state at step 0 is as it was",
-                "> quit",
+                "> quit no",
             ],
         )
 
@@ -181,7 +182,7 @@ class Pipes(AtPipe):
         self.assertEqual(Path(self.folder, "game.asm").read_bytes().split(b"\n")[0], b"; \xff")
 
     def test_nothing_is_written_beside(self) -> None:
-        self.shell("delete 1\n", "game.asm")
+        self.shell("delete 1\npress 4\nquit no\n", "game.asm")
         self.assertEqual([path.name for path in self.folder.iterdir()], ["game.asm"])
 
     def test_the_launcher(self) -> None:
