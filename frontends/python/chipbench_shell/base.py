@@ -9,7 +9,7 @@ from chipbench import Refused, State, sentences
 from . import views
 from .console import Console
 from .game import Game, counted
-from .values import Mistake
+from .values import REGISTERS, Mistake
 
 WORD_BYTES = 2
 
@@ -32,9 +32,15 @@ class Commands:
 
     game: Game
     console: Console
+    #: What `display` shows after each move.
+    displayed: tuple[str, ...] = ()
 
     def fail(self, text: str) -> None:
         """Tells a refusal."""
+        raise NotImplementedError
+
+    def carry_out(self, line: str) -> None:
+        """Carries out the command of a line."""
         raise NotImplementedError
 
     def keep(self) -> None:
@@ -75,12 +81,32 @@ class Commands:
         return words[0].text if words else "past the memory"
 
     def show_place(self, old: State | None = None) -> None:
+        """Says where a move has led, which registers have changed since an older state, and what is displayed."""
+        self.show_where(old)
+        self.show_displayed()
+
+    def show_where(self, old: State | None = None) -> None:
         """Says where one is, and which registers have changed since an older state."""
         state = self.game.state()
         changed = views.changes(old, state) if old is not None else ""
         if changed:
             self.say(views.cut(changed, self.console.width) if self.console.is_terminal else changed)
         self.say(views.cut(self.where(state), self.console.width) if self.console.is_terminal else self.where(state))
+
+    def show_displayed(self) -> None:
+        """Shows the values that are displayed after each move."""
+        for text in self.displayed:
+            try:
+                self.say(self.value_text(text))
+            except Mistake as mistake:
+                self.say(f"{views.printable(text)}: {mistake}")
+
+    def value_text(self, text: str) -> str:
+        """A value in decimal, hexadecimal and binary, as `print` shows it."""
+        values = self.game.values()
+        is_subject = text.startswith("[") or (text.upper() in REGISTERS and text.upper() not in self.game.symbols())
+        number = values.subject(text).value(self.game.state()) if is_subject else values.number(text)
+        return f"{views.printable(text)} = {number} = #{number:02x} = ${number:08b}"
 
     # -- edits
 

@@ -42,10 +42,12 @@ class Breakpoint:
     place: str
     line: int | None
     condition: str = ""
+    is_temporary: bool = False
 
     def __str__(self) -> str:
         where = f"line {self.line}" if self.line is not None else self.place
-        return f"{where} if {self.condition}" if self.condition else where
+        once = ", once" if self.is_temporary else ""
+        return (f"{where} if {self.condition}" if self.condition else where) + once
 
 
 @dataclass(frozen=True)
@@ -307,6 +309,10 @@ class Game:
         for answer in self.bench.exchange(edits):
             if answer != b"ok\n":
                 raise Mistake(self.sentence(answer.split()[1].decode()))
+
+    def opened_anew(self) -> Bench:
+        """Another session on the same lines, without key events."""
+        return self._open(join_lines(self.bench.lines))
 
     def _restart(self, wanted: Edition) -> None:
         bench = self._open(join_lines(wanted.lines))

@@ -10,22 +10,38 @@ from pathlib import Path
 from chipbench import ListingLine, join_lines, run_once
 
 from . import views
+from .advice import with_sign
 from .base import Commands, Snapshot
 from .session import SESSION_WORDS
-from .values import REGISTERS, Mistake
+from .values import Mistake, register_value
 
 LISTED = 11
 WORDS = 8
 PROFILES = ("schip", "vip", "chip48", "schip10", "schip-modern", "octo")
 CHECK_SECONDS = 60.0
+#: What GDB shows by `info`, and the commands that show it here.
+INFO = {
+    "registers": "regs",
+    "breakpoints": "break",
+    "display": "display",
+    "frame": "backtrace",
+    "stack": "backtrace",
+    "keys": "keys",
+    "source": "list",
+    "line": "list",
+    "symbols": "syms",
+    "variables": "syms",
+}
 
 
 class Looks(Commands):
-    """regs, screen, list, x, dis, print, backtrace, keys, check, explain, profile."""
+    """regs, screen, list, x, dis, print, display, backtrace, info, assert, keys, check, explain, profile."""
 
     # where the next `list`, `x` and `dis` go on, by an empty line
     list_end: int | None = None
     next_address: int | None = None
+    # whether an assertion didn't hold
+    has_asserted_wrongly = False
 
     def do_regs(self, text: str) -> None:
         """regs
@@ -33,7 +49,7 @@ class Looks(Commands):
         Shows the registers, the timers, the call stack and the flags. regs STEP answers as the session does.
         """
         state = self.game.state()
-        self.show_place()
+        self.show_where()
         names = [f"keys down {self._keys_down(state.step) or 'none'}"]
         self.say(*views.registers(state, self.console.width, names))
 
@@ -162,10 +178,58 @@ class Looks(Commands):
         """
         if not text:
             raise Mistake("print takes a value: print V3, print BALL+1, print [#300]")
-        values = self.game.values()
-        is_subject = text.startswith("[") or (text.upper() in REGISTERS and text.upper() not in self.game.symbols())
-        number = values.subject(text).value(self.game.state()) if is_subject else values.number(text)
-        self.say(f"{views.printable(text)} = {number} = #{number:02x} = ${number:08b}")
+        self.say(self.value_text(text))
+
+    def do_display(self, text: str) -> None:
+        """display [VALUE]
+
+        Shows a value after each move, as print shows it. Without a value it shows those that are displayed.
+        """
+        if not text:
+            if not self.displayed:
+                raise Mistake("nothing is displayed: display V3 shows V3 after each move")
+            self.show_displayed()
+            return
+        self.say(self.value_text(text))
+        if text not in self.displayed:
+            self.displayed += (text,)
+
+    def do_undisplay(self, text: str) -> None:
+        """undisplay [VALUE]
+
+        Displays a value no more, or none.
+        """
+        left = tuple(one for one in self.displayed if text and one.upper() != text.upper())
+        if len(left) == len(self.displayed):
+            raise Mistake(f"{text or 'nothing'} is not displayed: display shows what is")
+        self.displayed = left
+        self.say(f"{text or 'nothing'} is displayed no more" if text else "nothing is displayed any more")
+
+    def do_info(self, text: str) -> None:
+        """info registers | breakpoints | display | frame | keys | source | symbols
+
+        Shows what GDB shows under these names, as regs, break, display, backtrace, keys, list and syms do.
+        """
+        words = self.words_of(text.lower(), 1, "info registers")
+        found = [name for name in INFO if words and name.startswith(words[0])]
+        if not found:
+            raise Mistake(f"info takes one of these: {', '.join(INFO)}")
+        self.carry_out(INFO[found[0]])
+
+    def do_assert(self, text: str) -> None:
+        """assert COMPARISON
+
+        Says so where a comparison of a register or a byte doesn't hold here; a script then ends with status 1. With --strict
+        it ends at once.
+        """
+        condition = self.game.values().condition(text)
+        if condition is None:
+            raise Mistake(f"assert takes a comparison: assert {with_sign(text) or 'V3 = 5'}")
+        state = self.game.state()
+        value = condition.subject.value(state)
+        if not condition.holds(value, lambda name: register_value(state, name)):
+            self.has_asserted_wrongly = True
+            raise Mistake(f"not so: {condition}; {condition.subject.shown} is {value} at step {state.step}")
 
     def do_backtrace(self, text: str) -> None:
         """backtrace
@@ -174,7 +238,7 @@ class Looks(Commands):
         """
         self.words_of(text, 0, "backtrace")
         state = self.game.state()
-        self.show_place()
+        self.show_where()
         for address in reversed(state.call_stack):
             # the call stands before the address to which it returns
             number = self.game.line_at(address - 2)

@@ -11,7 +11,7 @@ from . import advice
 from .base import Commands
 from .game import Breakpoint, counted
 from .search import LAST_STEP, Found, Search, Test, at_address, not_deeper, register_test
-from .values import REGISTERS, Condition, Mistake, Subject
+from .values import REGISTERS, Condition, Mistake, Subject, register_value
 
 # the low byte of the instruction that sets a timer: FX15 and FX18
 SETTING_BYTES = {"DT": 0x15, "ST": 0x18}
@@ -57,8 +57,7 @@ class Moves(Commands):
 
         Goes N steps back, or one.
         """
-        if self.game.step == 0:
-            raise Mistake("this is step 0, the start: no step is before it")
+        self._check_is_behind_start()
         self.go(max(0, self.game.step - self._count(text, "back [N]")))
 
     def do_goto(self, text: str) -> None:
@@ -174,6 +173,18 @@ class Moves(Commands):
         if not text:
             self.say(*(f"breakpoint {point}" for point in self.game.breakpoints) if self.game.breakpoints else ["no breakpoints"])
             return
+        self._set_breakpoint(text, False)
+
+    def do_tbreak(self, text: str) -> None:
+        """tbreak PLACE [if SUBJECT = NUMBER]
+
+        Sets a breakpoint as break does, which is removed where one stops at it.
+        """
+        if not text:
+            raise Mistake("tbreak takes a place: tbreak LOOP, tbreak LOOP if V3 = 5")
+        self._set_breakpoint(text, True)
+
+    def _set_breakpoint(self, text: str, is_temporary: bool) -> None:
         meant = advice.for_break(text)
         if meant is not None:
             raise Mistake(meant)
@@ -182,7 +193,7 @@ class Moves(Commands):
         condition = "".join(conditions)
         if conditions:
             self._register_condition(condition)
-        point = Breakpoint(place, line, condition)
+        point = Breakpoint(place, line, condition, is_temporary)
         if point not in self.game.breakpoints:
             self.game.breakpoints.append(point)
         self.say(f"breakpoint {point}, {address:04x}")
@@ -220,13 +231,28 @@ class Moves(Commands):
         except Mistake as mistake:
             raise Mistake(f"breakpoint {point}: {mistake}; clear {point.place} removes it") from None
 
+    def _test_of(self, point: Breakpoint) -> Test:
+        is_there = at_address(self._address_of(point))
+        if not point.condition:
+            return is_there
+        holds = register_test(self._register_condition(point.condition))
+        return lambda line: is_there(line) and holds(line)
+
     def _breakpoint_test(self) -> Test:
-        tests = []
-        for point in self.game.breakpoints:
-            is_there = at_address(self._address_of(point))
-            holds = register_test(self._register_condition(point.condition)) if point.condition else None
-            tests.append((is_there, holds))
-        return lambda line: any(is_there(line) and (holds is None or holds(line)) for is_there, holds in tests)
+        tests = [self._test_of(point) for point in self.game.breakpoints]
+        return lambda line: any(test(line) for test in tests)
+
+    def _drop_temporary(self) -> None:
+        """Removes the temporary breakpoints at which one has stopped."""
+        state = self.game.state()
+
+        def is_met(point: Breakpoint) -> bool:
+            if not point.is_temporary or self._address_of(point) != state.pc:
+                return False
+            condition = self._register_condition(point.condition) if point.condition else None
+            return condition is None or condition.holds(condition.subject.value(state), lambda name: register_value(state, name))
+
+        self.game.breakpoints = [point for point in self.game.breakpoints if not is_met(point)]
 
     def do_continue(self, text: str) -> None:
         """continue
@@ -245,6 +271,48 @@ class Moves(Commands):
         self.words_of(text, 0, "reverse")
         found = self.search().last(self._breakpoint_test(), self.game.step)
         self.go(found or 0, *([] if found is not None else ["no breakpoint before: this is the start"]))
+        self._drop_temporary()
+
+    def do_reverse_next(self, text: str) -> None:
+        """reverse-next
+
+        Goes a step back in this subroutine: over a call that was made to its end.
+        """
+        self.words_of(text, 0, "reverse-next")
+        self._check_is_behind_start()
+        depth = len(self.game.state().call_stack)
+        found = self.search().last(not_deeper(depth), self.game.step)
+        self.go(found or 0)
+
+    def do_reverse_finish(self, text: str) -> None:
+        """reverse-finish
+
+        Goes back to the call of this subroutine.
+        """
+        self.words_of(text, 0, "reverse-finish")
+        depth = len(self.game.state().call_stack)
+        if depth == 0:
+            raise Mistake("this is no subroutine: the call stack is empty")
+        found = self.search().last(not_deeper(depth - 1), self.game.step)
+        self.go(found or 0)
+
+    def do_blame(self, text: str) -> None:
+        """blame
+
+        Finds the press that makes the machine stop, by halving the key events: without it, and without those after it, the
+        machine runs past that step. Goes to the step of the press.
+        """
+        self.words_of(text, 0, "blame")
+        found = self.search().blamed()
+        if found.stop is None:
+            raise Mistake(f"the machine doesn't stop up to step {LAST_STEP}: there is nothing to blame a key for")
+        stopped = self.game.state(found.stop)
+        cause = f"the machine stops for {self.stop_text(stopped.stopped or '')}, at step {found.stop}"
+        if found.event is None:
+            raise Mistake(f"no key is to blame: {cause}, also without any key")
+        step, key = found.event
+        blamed = f"key {key:X} at step {step} is to blame: with the key events up to it the machine stops by then"
+        self.go(step, f"{cause}; {blamed}, with those before it alone it doesn't")
 
     def do_run(self, text: str) -> None:
         """run
@@ -265,6 +333,7 @@ class Moves(Commands):
         if found.step is None and found.is_stopped:
             found = Found(found.last, found.last, True)
         self._take(found, "there is no breakpoint and no stop")
+        self._drop_temporary()
         self.show_place()
 
     def _take(self, found: Found, failed: str) -> None:
@@ -280,6 +349,10 @@ class Moves(Commands):
             code = self.game.state(found.last).stopped or ""
             raise Mistake(f"{failed}: the machine stops for {self.stop_text(code)}, at step {found.last}; {here}")
         raise Mistake(f"{failed} up to step {found.last}; {here}")
+
+    def _check_is_behind_start(self) -> None:
+        if self.game.step == 0:
+            raise Mistake("this is step 0, the start: no step is before it")
 
     def _check_is_running(self) -> State:
         state = self.game.state()

@@ -2,15 +2,16 @@
 
 from __future__ import annotations
 
+import bisect
 import os
 import subprocess
 import tempfile
 import time
-from collections.abc import Callable, Iterator
+from collections.abc import Callable, Iterator, Sequence
 from dataclasses import dataclass
 from pathlib import Path
 
-from chipbench import ChipbenchError, Ended, join_lines
+from chipbench import Bench, ChipbenchError, Ended, join_lines
 
 from .game import Game
 from .values import Condition, ReadRegister, Subject, register_value
@@ -47,6 +48,14 @@ class Found:
     step: int | None
     last: int
     is_stopped: bool
+
+
+@dataclass(frozen=True)
+class Blamed:
+    """The step at which the machine stops, or None; and the key event that makes it stop, or None where no key does."""
+
+    stop: int | None
+    event: tuple[int, int] | None
 
 
 def depth_of(line: bytes) -> int:
@@ -230,6 +239,31 @@ class Search:
                 return step
         return None
 
+    # -- key events
+
+    def blamed(self) -> Blamed:
+        """The press without which, and without the events after it, the machine runs past the step at which it stops. `Refused` where
+        a line has a fault."""
+        stop = self.stop()
+        if stop is None:
+            return Blamed(None, None)
+        events = sorted(self._game.bench.events.items())
+        presses = [place for place, (_, is_down) in enumerate(events) if is_down]
+        bench = self._game.opened_anew()
+        try:
+            number = bisect.bisect_left(presses, True, key=lambda place: stops_by(bench, events[: place + 1], stop))
+            if stops_by(bench, [], stop) or number == len(presses):
+                return Blamed(stop, None)
+        finally:
+            bench.close()
+        return Blamed(stop, events[presses[number]][0])
+
+    def stop(self) -> int | None:
+        """The step at which the machine stops; None where it runs up to the last one."""
+        if self._game.state(LAST_STEP).stopped is None:
+            return None
+        return bisect.bisect_left(range(LAST_STEP), True, key=lambda at: self._game.state(at).stopped is not None)
+
 
 def start(arguments: list[str], errors: int) -> subprocess.Popen[bytes]:
     """Runs a program that Ctrl+C at the terminal doesn't reach."""
@@ -239,3 +273,14 @@ def start(arguments: list[str], errors: int) -> subprocess.Popen[bytes]:
         )
     except OSError as error:
         raise ChipbenchError(f"cannot run {arguments[0]}: {error.strerror}") from None
+
+
+def stops_by(bench: Bench, events: Sequence[tuple[tuple[int, int], bool]], step: int) -> bool:
+    """Whether the machine has stopped by a step with these key events alone."""
+    wanted = dict(events)
+    for (at, key), is_down in {**wanted, **bench.events}.items():
+        if (at, key) not in wanted:
+            bench.remove_event(key, at=at)
+        elif (at, key) not in bench.events:
+            (bench.press if is_down else bench.release)(key, at=at)
+    return bench.at(step).stopped is not None

@@ -30,23 +30,31 @@ except ImportError:  # a Python that was built without it
     readline = None  # type: ignore[assignment]
 
 GROUPS = {
-    "Go": "step back goto next finish until continue reverse run watch who break clear",
-    "Look": "regs screen list x dis print backtrace keys check explain profile",
+    "Go": "step back goto next finish until continue reverse reverse-next reverse-finish run watch who blame break tbreak clear",
+    "Look": "regs screen list x dis print display undisplay backtrace info keys check explain profile",
     "Edit": "edit insert delete undo redo press release save reload",
-    "Besides": "session help quit",
+    "Besides": "assert session help quit",
 }
 COMMANDS = tuple(" ".join(GROUPS.values()).split())
 # beginnings that several commands have, and the one that is meant, as in GDB
 PREFERRED = {
+    **{"reverse"[:length]: "reverse" for length in range(3, 7)},
     "s": "step", "b": "break", "ba": "back", "bac": "back", "n": "next", "c": "continue", "l": "list", "f": "finish", "u": "until",
     "p": "print", "r": "run", "h": "help", "d": "delete", "w": "watch", "e": "edit", "i": "insert", "q": "quit", "k": "keys",
-    "bt": "backtrace", "where": "backtrace", "rc": "reverse", "disassemble": "dis", "exit": "quit", "?": "help",
+    "bt": "backtrace", "where": "backtrace", "disassemble": "dis", "exit": "quit", "?": "help", "tb": "tbreak",
+    "stepi": "step", "si": "step", "nexti": "next", "ni": "next", "fin": "finish", "cont": "continue",
+    "reverse-step": "back", "reverse-stepi": "back", "rs": "back", "rsi": "back", "reverse-continue": "reverse", "rc": "reverse",
+    "reverse-nexti": "reverse-next", "rn": "reverse-next", "rni": "reverse-next",
 }
 # commands of the program that aren't commands here
 OUTSIDE = ("asm", "explore", "picture", "prove", "test", "trace")
-REPEATED = {"step", "back", "next", "finish", "until", "continue", "reverse", "watch", "who"}
+REPEATED = {"step", "back", "next", "finish", "until", "continue", "reverse", "reverse-next", "reverse-finish", "watch", "who"}
 # commands behind which a name of the source may stand
-WITH_NAMES = {"until", "break", "clear", "list", "x", "dis", "print", "edit", "insert", "delete", "goto", "watch", "who"}
+WITH_NAMES = {
+    *"until break tbreak clear list x dis print display undisplay assert edit insert delete goto watch who".split(),
+}
+# those behind which a register may stand
+WITH_REGISTERS = {"watch", "until", "who", "print", "display", "assert"}
 PROMPT = "> "
 #: The answers to the question at the end.
 ANSWERS = {"yes": "writes the lines to the file, and ends", "no": "ends without writing them", "stay": "goes back to the shell"}
@@ -124,7 +132,7 @@ class Shell(Moves, Looks, Edits, SessionWords, cmd.Cmd):
                         self._read_one(history)
             finally:
                 is_kept = self._keep_at_end()
-        is_broken = (self.has_failed and self.is_strict) or (is_kept and not self.console.is_terminal)
+        is_broken = (self.has_failed and self.is_strict) or self.has_asserted_wrongly or (is_kept and not self.console.is_terminal)
         return 1 if is_broken else 0
 
     def _read_one(self, history: History) -> None:
@@ -151,7 +159,7 @@ class Shell(Moves, Looks, Edits, SessionWords, cmd.Cmd):
         step, breakpoints, self._typed = self.game.step, list(self.game.breakpoints), line
         try:
             self._follow_file()
-            self._carry_out(line)
+            self.carry_out(line)
         except KeyboardInterrupt:
             self._check_is_typed()
             self.game.step, self.game.breakpoints = step, breakpoints
@@ -174,7 +182,7 @@ class Shell(Moves, Looks, Edits, SessionWords, cmd.Cmd):
         self.has_failed = True
         self.console.complain(views.shortened(text, self._typed))
 
-    def _carry_out(self, line: str) -> None:
+    def carry_out(self, line: str) -> None:
         if not line.strip():
             self._repeat()
             return
@@ -195,7 +203,12 @@ class Shell(Moves, Looks, Edits, SessionWords, cmd.Cmd):
         self._last_command = name
         if name in REPEATED:
             self._repeated = line
-        getattr(self, f"do_{name}")(given)
+        self.method(name)(given)
+
+    def method(self, name: str) -> Callable[[str], None]:
+        """What carries out a command."""
+        found: Callable[[str], None] = getattr(self, f"do_{name.replace('-', '_')}")
+        return found
 
     def _check_is_no_value(self, text: str) -> None:
         """Refuses a register, a byte or a name that is typed alone, or with a value that it should get."""
@@ -223,7 +236,7 @@ class Shell(Moves, Looks, Edits, SessionWords, cmd.Cmd):
         elif self._last_command in ("x", "dis"):
             self.go_on(self._last_command)
         elif self._repeated:
-            self._carry_out(self._repeated)
+            self.carry_out(self._repeated)
 
     # -- the file
 
@@ -263,7 +276,7 @@ class Shell(Moves, Looks, Edits, SessionWords, cmd.Cmd):
         if word in SESSION_WORDS and word not in COMMANDS:
             self.say(f"{SESSION_WORDS[word]}: answered as chipbench debug answers it")
             return
-        form, about = form_of(getattr(self, f"do_{command_named(word)}"))
+        form, about = form_of(self.method(command_named(word)))
         self.say(form, *self._filled(about))
 
     def _filled(self, text: str) -> list[str]:
@@ -274,7 +287,7 @@ class Shell(Moves, Looks, Edits, SessionWords, cmd.Cmd):
         for group, names in GROUPS.items():
             self.say(self.console.paint("strong", group))
             for name in names.split():
-                self.say(*self._row_of(*form_of(getattr(self, f"do_{name}"))))
+                self.say(*self._row_of(*form_of(self.method(name))))
         self.say(*self._filled("A command is known by its beginning. help COMMAND says more."))
 
     def _row_of(self, form: str, about: str) -> list[str]:
@@ -412,7 +425,7 @@ class Shell(Moves, Looks, Edits, SessionWords, cmd.Cmd):
         if name in ("press", "release"):
             return ["at "] if len(words) == 2 else []
         offered = [*self.game.symbols()] if name in WITH_NAMES or name in SESSION_WORDS else []
-        if name in ("watch", "until", "who", "print"):
+        if name in WITH_REGISTERS:
             offered += REGISTERS
         return [one for one in offered if one.startswith(text.upper())]
 

@@ -331,8 +331,8 @@ class Looks(AtTerminal):
 
     def test_each_command_has_its_help(self) -> None:
         terminal = self.opened(columns=200)
-        commands = re.findall(r"^  (\w+)", terminal.ask("help"), re.MULTILINE)
-        self.assertEqual(len(commands), 36)
+        commands = re.findall(r"^  ([\w-]+)", terminal.ask("help"), re.MULTILINE)
+        self.assertEqual(len(commands), 44)
         for command in commands:
             self.assertRegex(terminal.ask(f"help {command}"), rf"(?s)^{command}\b[^\n]*\n[A-Z].*\.$")
 
@@ -468,7 +468,7 @@ class Refusals(AtTerminal):
             ("qqqq", "no command 'qqqq'; help lists the commands"),
             ("prove", "'prove' isn't a command of the shell: save, and run `chipbench prove` outside of it"),
             ("explain until", "until is a command: help until says what it does"),
-            ("re", "'re' begins several commands: reverse, regs, redo, release, reload"),
+            ("re", "'re' begins several commands: reverse, reverse-next, reverse-finish, regs, redo, release, reload"),
         )
 
     def test_each_argument_that_is_wrong(self) -> None:

@@ -31,6 +31,7 @@ TASKS = {
     "Step over a call": "step 26, 0208, line 6: SE V3, 9",
     "Out of a subroutine": "step 26, 0208, line 6: SE V3, 9",
     "How did I get here?": "called from 0206, line 5: CALL HIT",
+    "Which press makes it crash?": "step 20, 0204, line 4: LOOP:   SKNP V4",
     "Change a key and look again": "V3 = 3 = #03 = $00000011",
     "Try a fix, and take it back": "undone; the state at step 93 differs in PC, the stop",
 }
@@ -71,7 +72,7 @@ class Tasks(AtPipe):
             rows = table.splitlines()
             self.assertEqual(len(rows), len(commands))
             for row, command in zip(rows, commands):
-                form, about = shell.form_of(getattr(shell.Shell, f"do_{command}"))
+                form, about = shell.form_of(getattr(shell.Shell, f"do_{command.replace('-', '_')}"))
                 found = re.fullmatch(r"\| `(.*)` \| (.*) \|", row)
                 assert found is not None, row
                 self.assertEqual(found[1].replace("\\|", "|"), form)
