@@ -28,7 +28,9 @@ def copied_server() -> str:
     atexit.register(folder.cleanup)
     for module in SERVER.parent.glob("chipbench*.py"):
         shutil.copy(module, folder.name)
-    copied = shutil.copytree(SERVER, Path(folder.name) / SERVER.name, ignore=shutil.ignore_patterns("__pycache__"))
+    uncompiled = shutil.ignore_patterns("__pycache__")
+    shutil.copytree(SERVER.parent / "chipbench", Path(folder.name) / "chipbench", ignore=uncompiled)
+    copied = shutil.copytree(SERVER, Path(folder.name) / SERVER.name, ignore=uncompiled)
     return str(copied)
 
 

@@ -27,7 +27,8 @@ COUNTER = "LD V0, 5\nLOOP: ADD V0, 1\nJP LOOP\n"
 def load_tests(loader: unittest.TestLoader, tests: unittest.TestSuite, pattern: str | None) -> unittest.TestSuite:
     """The docstrings of the module are tests too, where the program has all words."""
     if has_words():
-        tests.addTests(doctest.DocTestSuite(chipbench))
+        for module in (chipbench, chipbench.bench, chipbench.errors, chipbench.program, chipbench.sources, chipbench.states):
+            tests.addTests(doctest.DocTestSuite(module, extraglobs={"Bench": Bench}))
     return tests
 
 
@@ -189,7 +190,7 @@ class Endings(Opened):
             bench = self.bench()
             bench.press(5, at=2)
             process = bench.process_id
-            with unittest.mock.patch.object(chipbench, limit, value):
+            with unittest.mock.patch.object(chipbench.bench, limit, value):
                 for number in range(4):
                     bench.exchange([b"rep 1 LD V0, %d" % number] * 300)
                 self.assertNotEqual(bench.process_id, process)
