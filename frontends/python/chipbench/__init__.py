@@ -13,8 +13,8 @@ A refused command raises `Refused`, with the code and the sentence of the progra
 """
 
 from .bench import BATCH, Bench, event_command, read_number
-from .errors import ChipbenchError, Ended, Refused, Stale, TooMuch
-from .program import Program, answer_end, find_program, refusal, run_once, sentences
+from .errors import ChipbenchError, Ended, Refused, Stale, TooMuch, WrongType, WrongValue
+from .program import Program, answer_end, command_of, find_program, refusal, run_once, sentences
 from .sources import (
     Fault,
     ListingLine,
@@ -46,8 +46,11 @@ __all__ = [
     "Symbol",
     "TooMuch",
     "Word",
+    "WrongType",
+    "WrongValue",
     "answer_end",
     "check",
+    "command_of",
     "disassemble",
     "event_command",
     "find_program",
@@ -64,5 +67,5 @@ __all__ = [
 ]
 
 # errors are shown by the names under which they are imported
-for _error in (ChipbenchError, Ended, Refused, Stale, TooMuch):
+for _error in (ChipbenchError, Ended, Refused, Stale, TooMuch, WrongType, WrongValue):
     _error.__module__ = __name__

@@ -2,13 +2,16 @@
 
 from __future__ import annotations
 
+import errno
 import os
+import re
 import tempfile
 from collections.abc import Iterable, Iterator, Sequence
 from pathlib import Path
 
-from .errors import ChipbenchError, Ended
-from .program import Program, find_program, refusal, sentences
+from .arguments import bytes_only, file_name, option_texts, source_text, text_or_bytes, whole_number
+from .errors import ChipbenchError, Ended, Refused, WrongValue
+from .program import Program, cannot_run, find_program, refusal, sentences, what_it_is
 from .sources import Fault, ListingLine, Symbol, Word, disassemble, join_lines, read_listing_line, split_lines, to_bytes, to_text
 from .states import State
 
@@ -19,12 +22,16 @@ SCRIPT_BYTES = 45_000_000
 BATCH = 500
 
 OK = b"ok\n"
+# the code of a question to a source that has no image, since a line has a fault
+NO_IMAGE = "Q1"
 
 
 class Bench:
     """A source, key events, and the machine at each step, as one `chipbench debug` answers them.
 
-    Give one of `source` (text or bytes), `path` (a file), and `image` (bytes, which `dis` turns into a source).
+    Give one of `source` (text or bytes), `path` (a file, as `Bench.open` takes it), and `image` (bytes, which `dis` turns into a
+    source). An argument that can't be right raises `WrongType` or `WrongValue`, which are a `TypeError` and a `ValueError`, and
+    name it.
     `profile`, `quirks`, `rate`, `tape` (bytes), `seed` and `every` are the options of `chipbench debug`. `program` is the
     program's name, by default that of `find_program`.
 
@@ -45,27 +52,71 @@ class Bench:
         profile: str | None = None,
         rate: int | None = None,
         tape: bytes | None = None,
-        seed: int | None = None,
+        seed: int | str | None = None,
         every: int | None = None,
         quirks: str | None = None,
         program: str | os.PathLike[str] | None = None,
     ) -> None:
         if sum(given is not None for given in (source, path, image)) > 1:
-            raise ValueError("give one of source, path and image")
-        self.program = os.fspath(program) if program is not None else find_program()
-        random_bytes = None if tape is None else tape.hex()
-        settings = {"profile": profile, "quirks": quirks, "rate": rate, "tape": random_bytes, "seed": seed, "every": every}
-        self._options = [f"--{name}={value}" for name, value in settings.items() if value is not None]
+            raise WrongValue("give one of source, path and image")
+        text = source_text(source) if source is not None else b""
+        settings = {"profile": profile, "quirks": quirks, "rate": rate, "tape": tape, "seed": seed, "every": every}
+        self._settings = option_texts(settings)
+        self.program = file_name("program", program) if program is not None else find_program()
+        self._options = [f"--{name}={value}" for name, value in self._settings.items()]
         self._running: Program | None = None
         self._is_closed = False
         self.edition = 0
         if path is not None:
-            source = Path(path).read_bytes()
+            text = Path(file_name("path", path)).read_bytes()
         if image is not None:
-            source = disassemble(image, self.program)
-        self.lines = split_lines(to_bytes(source or b""))
+            text = disassemble(bytes_only("image", image), self.program)
+        self.lines = split_lines(to_bytes(text))
         self._events: dict[tuple[int, int], bool] = {}
-        self._start()
+        try:
+            self._start()
+        except Ended as ended:
+            raise self._refused_start(ended) from None
+
+    @classmethod
+    def open(
+        cls,
+        path: str | os.PathLike[str],
+        *,
+        profile: str | None = None,
+        rate: int | None = None,
+        tape: bytes | None = None,
+        seed: int | str | None = None,
+        every: int | None = None,
+        quirks: str | None = None,
+        program: str | os.PathLike[str] | None = None,
+    ) -> Bench:
+        """A bench on the source in a file. `OSError` where it can't be read.
+
+        >>> import tempfile
+        >>> with tempfile.NamedTemporaryFile(suffix=".asm") as file:
+        ...     _ = file.write(b"LD V0, 5")
+        ...     file.flush()
+        ...     with Bench.open(file.name) as bench:
+        ...         bench.at(1).v[0]
+        5
+        """
+        return cls(
+            path=path, profile=profile, rate=rate, tape=tape, seed=seed, every=every, quirks=quirks, program=program
+        )
+
+    def _refused_start(self, ended: Ended) -> Exception:
+        """What to raise where the program ends before its first answer: by the argument that it names, where it is chipbench."""
+        told = what_it_is(self.program)
+        if told is not None:
+            return ChipbenchError(told)
+        # the program says first what is wrong, and then how it is used
+        first = ended.text.partition("\n\n")[0]
+        for name, value in self._settings.items():
+            if f"--{name}" in first or f"bad {name}" in first:
+                shown = f"{len(value) // 2} bytes" if name == "tape" else value
+                return WrongValue(f"{name}={shown}: {reason_in(first)}")
+        return ended
 
     # -- the running program
 
@@ -96,7 +147,9 @@ class Bench:
             try:
                 self._running = Program([self.program, "debug", *self._options, name])
             except OSError as error:
-                raise ChipbenchError(f"cannot run {self.program}: {error.strerror}") from None
+                if error.errno == errno.E2BIG:
+                    raise WrongValue("tape has more bytes than the system takes as an argument") from None
+                raise cannot_run(self.program, error) from None
             # its answer shows that the source was read: there is no event yet
             self._exchange_now([b"kdel 0 0"])
         finally:
@@ -123,7 +176,7 @@ class Bench:
     def exchange(self, commands: Iterable[str | bytes]) -> list[bytes]:
         """Gives commands to the program, and returns their answers as they are, refusals included. The program is restarted
         after it has ended, and before its script grows too long."""
-        given = [to_bytes(command) for command in commands]
+        given = [to_bytes(text_or_bytes("command", command)) for command in commands]
         for command in given:
             if b"\n" in command or not command.strip(b" \r"):
                 raise ValueError("a command is one line that isn't blank")
@@ -201,15 +254,20 @@ class Bench:
         return self._checked(self.exchange([command])[0])
 
     def _checked(self, answer: bytes) -> bytes:
-        if answer.startswith(b"no "):
-            raise refusal(self.program, answer[3:].strip().decode("ascii"))
-        return answer
+        if not answer.startswith(b"no "):
+            return answer
+        refused = refusal(self.program, answer[3:].strip().decode("ascii"))
+        if refused.code == NO_IMAGE:
+            # what has to be fixed is the first fault
+            fault = self.faults[0]
+            raise Refused(refused.code, f"{refused.sentence}: line {fault.line} has a fault: {fault.code}: {fault.sentence}")
+        raise refused
 
     def _edit(self, word: bytes, line: int, text: str | bytes) -> None:
-        content = to_bytes(text)
+        number, content = whole_number("line", line), to_bytes(text_or_bytes("text", text))
         if b"\n" in content or content.endswith(b"\r"):
             raise refusal(self.program, "N4")
-        self._answer(b"%s %d %s" % (word, line, content))
+        self._answer(b"%s %d %s" % (word, number, content))
 
     def insert(self, line: int, text: str | bytes) -> None:
         """Inserts a line before a line. Lines are counted from 1."""
@@ -221,7 +279,7 @@ class Bench:
 
     def delete(self, line: int) -> None:
         """Removes a line."""
-        self._answer(b"del %d" % line)
+        self._answer(b"del %d" % whole_number("line", line))
 
     def press(self, key: int, *, at: int) -> None:
         """Adds a key event: the key is down from a step on."""
@@ -237,7 +295,7 @@ class Bench:
 
     def remove_event(self, key: int, *, at: int) -> None:
         """Removes the key event of a step."""
-        self._answer(b"kdel %d %d" % (at, key))
+        self._answer(b"kdel %d %d" % (whole_number("at", at), whole_number("key", key)))
 
     @property
     def image(self) -> bytes:
@@ -269,7 +327,8 @@ class Bench:
 
     def at(self, step: int) -> State:
         """The machine after a number of steps."""
-        return State(self, step, self._answer(b"regs %d" % step))
+        number = whole_number("step", step)
+        return State(self, number, self._answer(b"regs %d" % number))
 
     def steps(self, first: int, last: int) -> Iterator[State]:
         """The machine after each number of steps from `first` to before `last`, as in `range`.
@@ -278,8 +337,9 @@ class Bench:
         ...     [state.v[0] for state in bench.steps(0, 5)]
         [0, 2, 2, 4, 4]
         """
-        for start in range(first, last, BATCH):
-            steps = range(start, min(start + BATCH, last))
+        begin, end = whole_number("first", first), whole_number("last", last)
+        for start in range(begin, end, BATCH):
+            steps = range(start, min(start + BATCH, end))
             for step, answer in zip(steps, self.exchange(b"regs %d" % step for step in steps)):
                 yield State(self, step, self._checked(answer))
 
@@ -290,9 +350,9 @@ class Bench:
         ...     bench.first_step_at(bench.symbols["HALT"].value)
         2
         """
-        wanted = b"\npc %04x " % pc
-        for start in range(0, limit + 1, BATCH):
-            steps = range(start, min(start + BATCH, limit + 1))
+        wanted, last = b"\npc %04x " % whole_number("pc", pc), whole_number("limit", limit)
+        for start in range(0, last + 1, BATCH):
+            steps = range(start, min(start + BATCH, last + 1))
             answers = self.exchange(b"regs %d" % step for step in steps)
             for step, answer in zip(steps, answers):
                 if wanted in answer:
@@ -303,12 +363,27 @@ class Bench:
 
     def words(self, step: int, address: int, count: int) -> list[Word]:
         """Words of the memory after a number of steps, each with its text in a source."""
-        rows = (line.split(" ", 2) for line in self.ask(f"dis {step} {address} {count}").splitlines()[:-1])
+        numbers = whole_number("step", step), whole_number("address", address), whole_number("count", count)
+        rows = (line.split(" ", 2) for line in self.ask("dis {} {} {}".format(*numbers)).splitlines()[:-1])
         return [Word(int(at, 16), int(word, 16), text) for at, word, text in rows]
 
 
+def reason_in(text: str) -> str:
+    """What is wrong with an argument, of what the program says on it.
+
+    >>> reason_in("error: invalid value '0' for '--rate <N>': 0 is not in 1..=1000")
+    '0 is not in 1..=1000'
+    >>> reason_in("error: invalid value 'x' for '--profile <NAME>'\\n  [possible values: schip, vip]")
+    'possible values: schip, vip'
+    """
+    listed = re.search(r"\n\s*\[(.*)\]", text)
+    if listed is not None:
+        return listed[1]
+    return (text.rpartition("': ")[2] if "': " in text else text).removeprefix("chipbench: ")
+
+
 def event_command(word: bytes, step: int, key: int, down: bool) -> bytes:
-    return b"%s %d %d %s" % (word, step, key, b"down" if down else b"up")
+    return b"%s %d %d %s" % (word, whole_number("at", step), whole_number("key", key), b"down" if down else b"up")
 
 
 def read_number(word: bytes) -> int:

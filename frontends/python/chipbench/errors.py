@@ -7,6 +7,14 @@ class ChipbenchError(Exception):
     """The base of all errors of this module."""
 
 
+class WrongType(ChipbenchError, TypeError):
+    """An argument has a type that it can't have. The text names it."""
+
+
+class WrongValue(ChipbenchError, ValueError):
+    """An argument has a value that it can't have. The text names it."""
+
+
 class Refused(ChipbenchError):
     """The program refused a command, or the source doesn't open.
 

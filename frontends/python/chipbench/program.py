@@ -6,15 +6,16 @@ import contextlib
 import functools
 import os
 import re
-import select
 import shutil
 import subprocess
 import tempfile
-import time
-from collections.abc import Sequence
+import weakref
+from collections.abc import Callable, Sequence
 from pathlib import Path
+from typing import IO, Any
 
 from .errors import ChipbenchError, Ended, Refused, TooMuch
+from .pipes import Pipes, pipes_of
 
 ANSWER_SECONDS = 60.0
 ONCE_SECONDS = 20.0
@@ -29,6 +30,10 @@ LINES = {b"regs": 3}
 NOT_OPENED = b"no O"
 # The codes of sources that don't open.
 UNOPENED = ("O1", "O2")
+#: What runs the program in WebAssembly.
+NODE = "node"
+#: How a program is started that Ctrl+C doesn't reach.
+OWN_SESSION: dict[str, Any] = {"creationflags": 0x200} if os.name == "nt" else {"start_new_session": True}
 
 
 def answer_end(command: bytes, read: bytes | bytearray, start: int) -> int:
@@ -58,28 +63,27 @@ def answer_end(command: bytes, read: bytes | bytearray, start: int) -> int:
 
 
 class Program:
-    """One running program `chipbench debug`. It is for one thread at a time."""
+    """One running program `chipbench debug`. It is for one thread at a time. One that isn't closed ends with this object."""
 
-    def __init__(self, arguments: Sequence[str], most_bytes: int = MOST_BYTES) -> None:
+    def __init__(
+        self, arguments: Sequence[str], most_bytes: int = MOST_BYTES, pipes: Callable[[subprocess.Popen[bytes]], Pipes] = pipes_of
+    ) -> None:
         self._errors = tempfile.TemporaryFile()
         try:
             # in a session of its own: Ctrl+C at the terminal is for the script that reads the answers
             self._process = subprocess.Popen(
-                arguments,
+                command_of(arguments),
                 stdin=subprocess.PIPE,
                 stdout=subprocess.PIPE,
                 stderr=self._errors,
                 bufsize=0,
-                start_new_session=True,
+                **OWN_SESSION,
             )
         except OSError:
             self._errors.close()
             raise
-        assert self._process.stdin is not None and self._process.stdout is not None
-        self._input = self._process.stdin.fileno()
-        self._output = self._process.stdout.fileno()
-        os.set_blocking(self._input, False)
-        os.set_blocking(self._output, False)
+        self._pipes = pipes(self._process)
+        self._finalizer = weakref.finalize(self, end_unclosed, self._process, self._errors, os.getpid())
         self._most_bytes = most_bytes
         self.commands = self.bytes = 0
 
@@ -95,32 +99,26 @@ class Program:
         self.commands += len(commands)
         self.bytes += len(script)
         answers: list[bytes] = []
-        to_write = memoryview(script)
-        read, size = bytearray(), 0
-        deadline = time.monotonic() + seconds
-        while len(answers) < len(commands):
-            left = deadline - time.monotonic()
-            if left <= 0:
-                raise self._ended("the program gave no answer in time and was ended", answers)
-            readable, writable, _ = select.select([self._output], [self._input] if to_write else [], [], left)
-            if writable:
-                to_write = self._write(to_write)
-            if readable:
-                piece = os.read(self._output, 1 << 18)
-                if not piece:
-                    raise self._ended(read.decode("latin-1"), answers)
-                read += piece
-                size += len(piece)
-                if size > self._most_bytes:
-                    raise TooMuch(f"the answers have over {self._most_bytes} bytes")
-                self._take(commands, read, answers)
+        if not commands:
+            return answers
+        try:
+            self._read_answers(commands, script, seconds, answers)
+        except TimeoutError:
+            raise self._ended("the program gave no answer in time and was ended", answers) from None
         return answers
 
-    def _write(self, to_write: memoryview) -> memoryview:
-        try:
-            return to_write[os.write(self._input, to_write[: 1 << 16]) :]
-        except BrokenPipeError:
-            return to_write[:0]
+    def _read_answers(self, commands: Sequence[bytes], script: bytes, seconds: float, answers: list[bytes]) -> None:
+        read, size = bytearray(), 0
+        for piece in self._pipes.pieces(script, seconds):
+            if not piece:
+                raise self._ended(read.decode("latin-1"), answers)
+            read += piece
+            size += len(piece)
+            if size > self._most_bytes:
+                raise TooMuch(f"the answers have over {self._most_bytes} bytes")
+            self._take(commands, read, answers)
+            if len(answers) == len(commands):
+                return
 
     def _take(self, commands: Sequence[bytes], read: bytearray, answers: list[bytes]) -> None:
         """Moves the whole answers from what was read to the answers."""
@@ -145,46 +143,88 @@ class Program:
 
     def close(self) -> None:
         """Ends the program. Further calls do nothing."""
+        self._finalizer.detach()
         self._end()
         self._errors.close()
 
     def _end(self) -> int:
-        for stream in (self._process.stdin, self._process.stdout):
-            assert stream is not None
-            with contextlib.suppress(OSError):
-                stream.close()
-        try:
-            return self._process.wait(1.0)
-        except subprocess.TimeoutExpired:
-            self._process.kill()
-            return self._process.wait()
+        return end(self._process)
+
+
+def end(process: subprocess.Popen[bytes]) -> int:
+    """Ends a program by closing its streams, or by force, and returns its status."""
+    for stream in (process.stdin, process.stdout):
+        assert stream is not None
+        with contextlib.suppress(OSError):
+            stream.close()
+    try:
+        return process.wait(1.0)
+    except subprocess.TimeoutExpired:
+        process.kill()
+        return process.wait()
+
+
+def end_unclosed(process: subprocess.Popen[bytes], errors: IO[bytes], owner: int) -> None:
+    """Ends the program of an object that nobody has any more. A process that was forked has it from its parent, which goes on."""
+    if os.getpid() == owner:
+        end(process)
+        errors.close()
 
 
 def find_program() -> str:
-    """The program: $CHIPBENCH, the one built, released or installed beside this module, or `chipbench` of the PATH."""
+    """The program: $CHIPBENCH, the one inside of this package, the one built, released or installed beside it, `chipbench` of the
+    PATH, or the WebAssembly inside of this package where node is there."""
     named = os.environ.get("CHIPBENCH")
     if named:
         return named
-    here = Path(__file__).resolve().parent.parent
-    top = here.parents[1]
-    for place in (top / "crates/chipbench/out/chipbench", top / "release/chipbench", here.parents[2] / "bin/chipbench"):
+    package = Path(__file__).resolve().parent
+    here = package.parent
+    built, released = here.parents[1] / "crates/chipbench/out/chipbench", here.parents[1] / "release/chipbench"
+    for place in (package / "bin/chipbench", built, released, here.parents[2] / "bin/chipbench"):
         if place.is_file() and os.access(place, os.X_OK):
             return str(place)
     found = shutil.which("chipbench")
-    if found is None:
-        raise ChipbenchError("no program chipbench: give program=, set $CHIPBENCH, or put chipbench on the PATH")
-    return found
+    if found is not None:
+        return found
+    portable = package / "wasm/chipbench.mjs"
+    if portable.is_file():
+        if shutil.which(NODE) is not None:
+            return str(portable)
+        raise ChipbenchError("no program chipbench: the one in this package needs node, of version 20 or later, on the PATH")
+    raise ChipbenchError("no program chipbench: give program=, set $CHIPBENCH, or put chipbench on the PATH")
+
+
+def command_of(arguments: Sequence[str]) -> list[str]:
+    """The words that run a program: node runs the one in WebAssembly.
+
+    >>> command_of(["chipbench.mjs", "debug"])
+    ['node', 'chipbench.mjs', 'debug']
+    """
+    return [NODE, *arguments] if arguments[0].endswith(".mjs") else list(arguments)
 
 
 def run_once(arguments: Sequence[str], given: bytes = b"", seconds: float = ONCE_SECONDS) -> tuple[int, bytes, str]:
     """Runs a program with `given` as its standard input, and returns its status, its output and its errors."""
     try:
-        done = subprocess.run(arguments, input=given, capture_output=True, timeout=seconds)
+        done = subprocess.run(command_of(arguments), input=given, capture_output=True, timeout=seconds)
     except subprocess.TimeoutExpired:
         return -9, b"", "the program gave no answer in time"
     except OSError as error:
-        raise ChipbenchError(f"cannot run {arguments[0]}: {error.strerror}") from None
+        raise cannot_run(arguments[0], error) from None
     return done.returncode, done.stdout, done.stderr.decode("utf-8", "replace")
+
+
+def cannot_run(program: str, error: OSError) -> ChipbenchError:
+    return ChipbenchError(f"cannot run {program}: {error.strerror}")
+
+
+def what_it_is(program: str) -> str | None:
+    """What is wrong with a program that ends at once: None where it is chipbench, else a sentence."""
+    status, output, _ = run_once([program, "--version"])
+    if status == 0 and output.startswith(b"chipbench "):
+        return None
+    first = output.decode("utf-8", "replace").partition("\n")[0].strip()
+    return f"{program} is not chipbench: `{program} --version` printed {first[:80]!r}, with status {status}"
 
 
 @functools.lru_cache(maxsize=8)

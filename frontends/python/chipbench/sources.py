@@ -8,6 +8,7 @@ from collections.abc import Iterable
 from dataclasses import dataclass
 from typing import Any, NamedTuple
 
+from .arguments import option_texts, source_text
 from .errors import ChipbenchError, Ended
 from .program import UNOPENED, find_program, refusal, run_once
 
@@ -128,9 +129,10 @@ def check(
     >>> [(fault.line, fault.code, fault.start, fault.end) for fault in check("LD V0, COLUMN")]
     [(1, 'F9', 7, 13)]
     """
-    content, program = to_bytes(source), program or find_program()
-    named = {"profile": profile, "quirks": quirks, "tape": None if tape is None else tape.hex(), "seed": seed}
-    options = [f"--{name}={value}" for name, value in named.items() if value not in (None, "")]
+    content, program = to_bytes(source_text(source)), program or find_program()
+    # settings of editors have an empty text or no bytes for what isn't set
+    given = {"profile": profile, "quirks": quirks, "tape": tape or None, "seed": None if seed == "" else seed}
+    options = [f"--{name}={value}" for name, value in option_texts(given).items() if value]
     status, output, errors = run_once([program, "check", "--json", *options, "-"], content)
     if status not in (0, 1):
         raise Ended(status, errors.strip(), [])

@@ -75,8 +75,8 @@ def run_to(bench: Bench, address: int, work: Work) -> dict[str, Any]:
             text = f"the program stops at step {last.step} ({because(last)}) before pc reaches #{address:03X}"
         return {"step": None, "text": text}
     state = bench.at(step)
-    text = f"step {step}: pc is at #{address:03X}\n\n{state}\n{state.screen}"
-    return {"step": step, "registers": str(state), "screen": str(state.screen), "text": text}
+    text = f"step {step}: pc is at #{address:03X}\n\n{state.answer}\n{state.screen}"
+    return {"step": step, "registers": state.answer, "screen": str(state.screen), "text": text}
 
 
 def because(state: State) -> str:

@@ -51,7 +51,7 @@ class Looks(Commands):
         state = self.game.state()
         self.show_where()
         names = [f"keys down {self._keys_down(state.step) or 'none'}"]
-        self.say(*views.registers(state, self.console.width, names))
+        self.say(*state.rows(self.console.width, names))
 
     def _keys_down(self, step: int) -> str:
         held = {key: down for (at, key), down in sorted(self.game.bench.events.items()) if at <= step}

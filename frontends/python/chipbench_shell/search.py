@@ -11,7 +11,7 @@ from collections.abc import Callable, Iterator, Sequence
 from dataclasses import dataclass
 from pathlib import Path
 
-from chipbench import Bench, ChipbenchError, Ended, join_lines
+from chipbench import Bench, ChipbenchError, Ended, command_of, join_lines
 
 from .game import Game
 from .values import Condition, ReadRegister, Subject, register_value
@@ -269,7 +269,7 @@ def start(arguments: list[str], errors: int) -> subprocess.Popen[bytes]:
     """Runs a program that Ctrl+C at the terminal doesn't reach."""
     try:
         return subprocess.Popen(
-            arguments, stdin=subprocess.DEVNULL, stdout=subprocess.PIPE, stderr=errors, bufsize=0, start_new_session=True
+            command_of(arguments), stdin=subprocess.DEVNULL, stdout=subprocess.PIPE, stderr=errors, bufsize=0, start_new_session=True
         )
     except OSError as error:
         raise ChipbenchError(f"cannot run {arguments[0]}: {error.strerror}") from None

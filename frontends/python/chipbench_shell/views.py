@@ -2,7 +2,7 @@
 
 from __future__ import annotations
 
-from collections.abc import Container, Iterable, Sequence
+from collections.abc import Container
 
 from chipbench import ListingLine, Screen, State
 
@@ -17,45 +17,6 @@ BYTES_OF_ROW = 16
 BYTE_SURROGATES = range(0xDC80, 0xDD00)
 #: What is shown of a word that was typed has at most so many characters.
 LONGEST_WORD = 80
-
-
-def rows_of(parts: Sequence[str], count: int) -> list[str]:
-    """Parts in rows of `count`."""
-    return ["  ".join(parts[start : start + count]).rstrip() for start in range(0, len(parts), count)]
-
-
-def registers(state: State, width: int, names: Iterable[str]) -> list[str]:
-    """The registers and the rest of a state, in the rows that a window of this width takes."""
-    count = next((count for count in (16, 8, 4) if count * 7 - 2 <= width), 2)
-    values = [f"V{number:X} {value:02x}" for number, value in enumerate(state.v)]
-    size = "high" if state.is_high else "low"
-    parts = [
-        f"PC {state.pc:04x}",
-        f"I {state.i:04x}",
-        f"DT {state.delay_timer:02x}",
-        f"ST {state.sound_timer:02x}",
-        f"random bytes used {state.random_bytes_used}",
-        f"{size} size",
-        *names,
-    ]
-    stack = " ".join(f"{address:04x}" for address in state.call_stack) or "empty"
-    flags = " ".join(f"{value:02x}" for value in state.flags)
-    return [*rows_of(values, count), *wrapped(parts, width), f"call stack {stack}", f"flags {flags}"]
-
-
-def wrapped(parts: Sequence[str], width: int) -> list[str]:
-    """Parts with two blanks between them, in lines of at most `width`, where each part is no longer.
-
-    >>> wrapped(["one", "two", "three"], 8)
-    ['one  two', 'three']
-    """
-    lines: list[str] = []
-    for part in parts:
-        if lines and len(lines[-1]) + 2 + len(part) <= width:
-            lines[-1] += "  " + part
-        else:
-            lines.append(part)
-    return lines
 
 
 def screen(screen: Screen, width: int, has_blocks: bool) -> list[str]:
