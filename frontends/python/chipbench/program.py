@@ -172,26 +172,39 @@ def end_unclosed(process: subprocess.Popen[bytes], errors: IO[bytes], owner: int
 
 
 def find_program() -> str:
-    """The program: $CHIPBENCH, the one inside of this package, the one built, released or installed beside it, `chipbench` of the
-    PATH, or the WebAssembly inside of this package where node is there."""
+    """The program: $CHIPBENCH, the one inside of this package, the one built, released or installed beside it, or `chipbench` of
+    the PATH."""
     named = os.environ.get("CHIPBENCH")
     if named:
         return named
     package = Path(__file__).resolve().parent
-    here = package.parent
-    built, released = here.parents[1] / "crates/chipbench/out/chipbench", here.parents[1] / "release/chipbench"
-    for place in (package / "bin/chipbench", built, released, here.parents[2] / "bin/chipbench"):
+    # the package is in frontends/python of the repository, or in share/chipbench/python of an installation
+    top, prefix = package.parent / "../..", package.parent / "../../.."
+    inside = inner_program()
+    if inside is not None:
+        return inside
+    built, released, installed = top / "crates/chipbench/out/chipbench", top / "release/chipbench", prefix / "bin/chipbench"
+    for place in map(Path.resolve, (built, released, installed)):
         if place.is_file() and os.access(place, os.X_OK):
             return str(place)
     found = shutil.which("chipbench")
-    if found is not None:
-        return found
-    portable = package / "wasm/chipbench.mjs"
-    if portable.is_file():
-        if shutil.which(NODE) is not None:
-            return str(portable)
-        raise ChipbenchError("no program chipbench: the one in this package needs node, of version 20 or later, on the PATH")
-    raise ChipbenchError("no program chipbench: give program=, set $CHIPBENCH, or put chipbench on the PATH")
+    if found is None:
+        raise ChipbenchError("no program chipbench: give program=, set $CHIPBENCH, or put chipbench on the PATH")
+    return found
+
+
+def inner_program() -> str | None:
+    """The program inside of this package: that for this system, or the one in WebAssembly, which needs node; None where there is
+    none."""
+    package = Path(__file__).resolve().parent
+    native, portable = package / "bin/chipbench", package / "wasm/chipbench.mjs"
+    if native.is_file():
+        return str(native)
+    if not portable.is_file():
+        return None
+    if shutil.which(NODE) is None:
+        raise ChipbenchError("the program in this package needs node, of version 20 or later, on the PATH; or set $CHIPBENCH")
+    return str(portable)
 
 
 def command_of(arguments: Sequence[str]) -> list[str]:

@@ -1,0 +1,47 @@
+"""The commands that an installation of the module has, beside `chipbench` where the program is in it too."""
+
+from __future__ import annotations
+
+import os
+import subprocess
+import sys
+
+from .errors import ChipbenchError
+from .program import command_of, inner_program
+
+
+def shell() -> int:
+    """chipbench-shell: a debugger at the terminal."""
+    from chipbench_shell.__main__ import main
+
+    return main(sys.argv[1:])
+
+
+def language_server() -> int:
+    """chipbench-lsp: the language server."""
+    from chipbench_lsp.__main__ import main
+
+    main(sys.argv[1:])
+
+
+def steps() -> int:
+    """chipbench-steps: tests for emulators."""
+    from chipbench_steps.__main__ import main
+
+    return main(sys.argv[1:])
+
+
+def program() -> int:
+    """chipbench: the program that is inside of this package. It takes the place of this process where that is possible."""
+    try:
+        found = inner_program()
+    except ChipbenchError as error:
+        print(f"chipbench: {error}", file=sys.stderr)
+        return 127
+    if found is None:
+        print("chipbench: this installation has no program inside", file=sys.stderr)
+        return 127
+    words = command_of([found, *sys.argv[1:]])
+    if os.name == "nt":
+        return subprocess.run(words).returncode
+    os.execvp(words[0], words)
