@@ -55,7 +55,7 @@ def version() -> str:
     """The version of the program that these files belong to."""
     archived = HERE / "PKG-INFO"
     if archived.is_file():
-        return re.findall(r"(?m)^Version: (.*)$", archived.read_text(encoding="utf-8"))[0]
+        return archived.read_text(encoding="utf-8").partition("\nVersion: ")[2].partition("\n")[0]
     ran = subprocess.run([TOP / "packaging/version"], capture_output=True, text=True, check=True)
     return ran.stdout.strip()
 
@@ -66,7 +66,8 @@ def metadata() -> bytes:
     lines += [f"License: {project['license']}", f"Keywords: {','.join(project['keywords'])}"]
     lines += [f"Classifier: {one}" for one in project["classifiers"]]
     lines += [f"Requires-Python: {project['requires-python']}", "Description-Content-Type: text/markdown"]
-    return ("\n".join(lines) + "\n\n" + (HERE / project["readme"]).read_text(encoding="utf-8")).encode()
+    description = (HERE / str(project["readme"])).read_text(encoding="utf-8")
+    return ("\n".join(lines) + "\n\n" + description).encode()
 
 
 def scripts(has_program: bool) -> bytes:

@@ -114,7 +114,7 @@ class Bench:
         first = ended.text.partition("\n\n")[0]
         for name, value in self._settings.items():
             if f"--{name}" in first or f"bad {name}" in first:
-                shown = f"{len(value) // 2} bytes" if name == "tape" else value
+                shown = {"tape": f"{len(value) // 2} bytes", "profile": repr(value), "quirks": repr(value)}.get(name, value)
                 return WrongValue(f"{name}={shown}: {reason_in(first)}")
         return ended
 

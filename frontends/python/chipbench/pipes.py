@@ -99,4 +99,6 @@ def write_all(target: int, script: bytes) -> None:
 
 def pipes_of(process: subprocess.Popen[bytes]) -> Pipes:
     """The pipes of a program, in the way that this system has."""
-    return ThreadedPipes(process) if os.name == "nt" else SelectedPipes(process)
+    if os.name == "nt":
+        return ThreadedPipes(process)
+    return SelectedPipes(process)

@@ -184,9 +184,9 @@ def find_program() -> str:
     if inside is not None:
         return inside
     built, released, installed = top / "crates/chipbench/out/chipbench", top / "release/chipbench", prefix / "bin/chipbench"
-    for place in map(Path.resolve, (built, released, installed)):
+    for place in (built, released, installed):
         if place.is_file() and os.access(place, os.X_OK):
-            return str(place)
+            return str(place.resolve())
     found = shutil.which("chipbench")
     if found is None:
         raise ChipbenchError("no program chipbench: give program=, set $CHIPBENCH, or put chipbench on the PATH")

@@ -8,8 +8,8 @@ from chipbench import Refused, State, sentences
 
 from . import views
 from .console import Console
-from .game import Game, counted
-from .values import REGISTERS, Mistake
+from .game import Game
+from .values import REGISTERS, Mistake, counted
 
 WORD_BYTES = 2
 

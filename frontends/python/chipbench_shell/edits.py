@@ -9,8 +9,7 @@ from chipbench import Refused, to_bytes, to_text
 
 from .advice import BREAK_WORDS
 from .base import Commands, Snapshot
-from .game import counted
-from .values import Mistake
+from .values import Mistake, counted
 
 END = "."
 LAST_KEY = 15
@@ -32,7 +31,8 @@ class Edits(Commands):
                 raise Mistake("edit takes the new text here: edit LINE TEXT")
             with self.console.without_history():
                 given = self.console.read(f"{number}: ", old)
-        self.edit(lambda: self.game.bench.replace(number, to_bytes(given)), f"line {number} replaced")
+        content = to_bytes(given)
+        self.edit(lambda: self.game.bench.replace(number, content), f"line {number} replaced")
 
     def do_insert(self, text: str) -> None:
         """insert LINE [TEXT]
@@ -42,8 +42,8 @@ class Edits(Commands):
         most = len(self.game.bench.lines) + 1
         number, given = self._line_and_text(text, "insert LINE [TEXT]", most)
         if given is not None:
-            told = f"1 line inserted before line {number}"
-            self.edit(lambda: self.game.bench.insert(number, to_bytes(given)), told)
+            content = to_bytes(given)
+            self.edit(lambda: self.game.bench.insert(number, content), f"1 line inserted before line {number}")
             return
         before, snapshot = self.game.edition(), Snapshot(self.game)
         try:

@@ -9,9 +9,9 @@ from chipbench import State
 
 from . import advice
 from .base import Commands
-from .game import Breakpoint, counted
+from .game import Breakpoint
 from .search import LAST_STEP, Found, Search, Test, at_address, not_deeper, register_test
-from .values import REGISTERS, Condition, Mistake, Subject, register_value
+from .values import REGISTERS, Condition, Mistake, Subject, counted, register_value
 
 # the low byte of the instruction that sets a timer: FX15 and FX18
 SETTING_BYTES = {"DT": 0x15, "ST": 0x18}

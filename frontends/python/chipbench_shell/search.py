@@ -89,7 +89,8 @@ def register_test(condition: Condition) -> Test:
     """Whether a comparison of a register holds at a line of a trace: both of its sides are read there."""
     name = condition.subject.register
     assert name is not None
-    return lambda line: condition.holds(int(line[COLUMNS[name]], 16), registers_of(line))
+    column = COLUMNS[name]
+    return lambda line: condition.holds(int(line[column], 16), registers_of(line))
 
 
 def becomes(test: Test, is_now: bool) -> Test:
@@ -251,7 +252,7 @@ class Search:
         presses = [place for place, (_, is_down) in enumerate(events) if is_down]
         bench = self._game.opened_anew()
         try:
-            number = bisect.bisect_left(presses, True, key=lambda place: stops_by(bench, events[: place + 1], stop))
+            number = bisect.bisect_left(presses, True, key=lambda place: stops_by(bench, events[: place + 1], stop or 0))
             if stops_by(bench, [], stop) or number == len(presses):
                 return Blamed(stop, None)
         finally:

@@ -2,7 +2,6 @@
 
 from __future__ import annotations
 
-import cmd
 import contextlib
 import inspect
 import re
@@ -15,14 +14,14 @@ from chipbench_files import FileError
 
 from . import advice, views
 from .base import Snapshot
-from .console import Console, History, OutputGone
+from .console import Console, History
 from .edits import Edits
-from .game import Game, counted
+from .game import Game
 from .keeping import kept_before
 from .looks import PROFILES, Looks
 from .moves import Moves
 from .session import SESSION_WORDS, SessionWords, is_of_session
-from .values import REGISTERS, Mistake, near
+from .values import REGISTERS, Mistake, counted, near
 
 try:
     import readline
@@ -90,11 +89,10 @@ def command_named(word: str) -> str:
     raise Mistake(f"no command '{word}'{near(small, [*COMMANDS, *SESSION_WORDS])}; help lists the commands")
 
 
-class Shell(Moves, Looks, Edits, SessionWords, cmd.Cmd):
+class Shell(Moves, Looks, Edits, SessionWords):
     """The commands over one game, and the loop that reads them."""
 
     def __init__(self, game: Game, console: Console, is_strict: bool = False) -> None:
-        super().__init__(completekey="tab")
         self.game = game
         self.console = console
         self.is_strict = is_strict
@@ -102,6 +100,7 @@ class Shell(Moves, Looks, Edits, SessionWords, cmd.Cmd):
         self.is_ended = False
         self._repeated = ""
         self._last_command = ""
+        self._offered: list[str] = []
         self._is_gone_told = False
         self._is_given_up = False
         self._typed = ""
@@ -405,10 +404,10 @@ class Shell(Moves, Looks, Edits, SessionWords, cmd.Cmd):
         if state == 0:
             line, start = readline.get_line_buffer(), readline.get_begidx()
             try:
-                self.completion_matches = self.completions(line[:start], text)
+                self._offered = self.completions(line[:start], text)
             except Exception:  # what isn't known can't be offered
-                self.completion_matches = []
-        return self.completion_matches[state] if state < len(self.completion_matches) else None
+                self._offered = []
+        return self._offered[state] if state < len(self._offered) else None
 
     def completions(self, before: str, text: str) -> list[str]:
         """What may stand where `text` is, behind the words before it."""
