@@ -206,9 +206,10 @@ class Looks(Commands):
         self.say(f"{text or 'nothing'} is displayed no more" if text else "nothing is displayed any more")
 
     def do_info(self, text: str) -> None:
-        """info registers | breakpoints | display | frame | keys | source | symbols
+        """info WHAT
 
-        Shows what GDB shows under these names, as regs, break, display, backtrace, keys, list and syms do.
+        Shows what GDB shows under a name: registers, breakpoints, display, frame, keys, source or symbols. regs, break,
+        display, backtrace, keys, list and syms show the same.
         """
         words = self.words_of(text.lower(), 1, "info registers")
         found = [name for name in INFO if words and name.startswith(words[0])]
