@@ -22,6 +22,8 @@ SCRIPT_BYTES = 45_000_000
 BATCH = 500
 
 OK = b"ok\n"
+# the answer to `kdel` where there is no such event
+NO_EVENT = b"no N8\n"
 # the code of a question to a source that has no image, since a line has a fault
 NO_IMAGE = "Q1"
 
@@ -151,7 +153,10 @@ class Bench:
                     raise WrongValue("tape has more bytes than the system takes as an argument") from None
                 raise cannot_run(self.program, error) from None
             # its answer shows that the source was read: there is no event yet
-            self._exchange_now([b"kdel 0 0"])
+            if self._exchange_now([b"kdel 0 0"]) != [NO_EVENT]:
+                self._running.close()
+                self._running = None
+                raise ChipbenchError(what_it_is(self.program) or f"{self.program} doesn't answer as `chipbench debug` does")
         finally:
             os.unlink(name)
         events = [event_command(b"kins", step, key, down) for (step, key), down in sorted(self._events.items())]

@@ -137,6 +137,11 @@ class Game:
         return self.path.with_suffix(".keys") if self.path is not None else Path("game.keys")
 
     @property
+    def lines_name(self) -> str:
+        """The name of the source's file, without its folder."""
+        return self.path.name if self.path is not None else "source.asm"
+
+    @property
     def unsaved(self) -> str:
         """What would be lost without saving; empty where nothing would."""
         lines = f"the edits of {self.name}" if self.is_edited else ""
@@ -414,10 +419,9 @@ class Game:
     def keep_unsaved(self) -> dict[str, Path]:
         """Writes what isn't saved to new files beside the history, and returns them by what they have. Files of what was saved since
         are removed."""
-        name = self.path.name if self.path is not None else "source.asm"
         keys = key_file(self._keys_content, self.bench.events) if self.has_new_keys else None
         wanted = {
-            f"the edits of {self.name}": ("lines", name, self.content() if self.is_edited else None),
+            f"the edits of {self.name}": ("lines", self.lines_name, self.content() if self.is_edited else None),
             "the key events": ("keys", self.keys_name.name, keys),
         }
         for what, one, content in wanted.values():

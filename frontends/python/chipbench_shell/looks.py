@@ -268,7 +268,7 @@ class Looks(Commands):
         Shows the faults with their places, or the warnings, as chipbench check does.
         """
         self.words_of(text, 0, "check")
-        name = Path(self.game.name).name if self.game.path is not None else "source.asm"
+        name = self.game.lines_name
         with tempfile.TemporaryDirectory(prefix="chipbench-shell-") as folder:
             path = Path(folder, name)
             path.write_bytes(join_lines(self.game.bench.lines))

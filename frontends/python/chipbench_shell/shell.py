@@ -115,9 +115,11 @@ class Shell(Moves, Looks, Edits, SessionWords):
         return f"{self.game.name}: {lines}, {state}{kind}; help lists the commands"
 
     def left_before(self) -> list[str]:
-        """Where edits of a source of this name are that an earlier shell has left."""
-        found = kept_before(self.game.path.name if self.game.path is not None else "source.asm")
-        return [f"an earlier shell has left edits that weren't saved in {path}" for path in found[:1]]
+        """Where edits are that another shell on a source of this name has left."""
+        lines = kept_before(self.game.lines_name)[:1]
+        keys = kept_before(self.game.keys_name.name)[:1]
+        told = [f"another shell has edits that weren't saved in {path}" for path in lines]
+        return told + [f"another shell has key events that weren't saved in {path}" for path in keys]
 
     def run(self) -> int:
         """Reads commands up to the end, and returns the status. Whatever ends it, what isn't saved is kept."""
@@ -131,8 +133,8 @@ class Shell(Moves, Looks, Edits, SessionWords):
                         self._read_one(history)
             finally:
                 is_kept = self._keep_at_end()
-        is_broken = (self.has_failed and self.is_strict) or self.has_asserted_wrongly or (is_kept and not self.console.is_terminal)
-        return 1 if is_broken else 0
+        is_broken = (self.has_asserted_wrongly or is_kept) and not self.console.is_terminal
+        return 1 if is_broken or (self.has_failed and self.is_strict) else 0
 
     def _read_one(self, history: History) -> None:
         try:

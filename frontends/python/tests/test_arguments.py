@@ -118,8 +118,10 @@ class Named(NeedsProgram):
 
     def test_a_program_that_is_another_one(self) -> None:
         for program in ("/bin/cat", "/bin/ls", "/bin/true"):
-            with self.subTest(program), self.assertRaisesRegex(ChipbenchError, f"^{program} is not chipbench: `{program} --version` printed"):
-                Bench("CLS", program=program, rate=5).close()
+            told = f"^{program} is not chipbench: `{program} --version` printed"
+            for named in ({}, {"rate": 5}):
+                with self.subTest(program, **named), self.assertRaisesRegex(ChipbenchError, told):
+                    Bench("CLS", program=program, **named).close()
         with self.assertRaisesRegex(TypeError, r"^program is the name of a file, not 5 \(int\)$"):
             Bench("CLS", program=5)  # type: ignore[arg-type]
 

@@ -126,10 +126,12 @@ class Killed(AtTerminal):
     def test_the_next_shell_says_where_they_are(self) -> None:
         terminal = self.opened()
         terminal.ask("delete 1")
+        terminal.ask("press 4")
         terminal.end_by(signal.SIGKILL)
         self.opened()
-        kept = self.folder / "state/chipbench/unsaved-game.asm"
-        self.assertIn(f"\nan earlier shell has left edits that weren't saved in {kept}\n", self.banner)
+        kept = self.folder / "state/chipbench"
+        self.assertIn(f"\nanother shell has edits that weren't saved in {kept / 'unsaved-game.asm'}\n", self.banner)
+        self.assertIn(f"\nanother shell has key events that weren't saved in {kept / 'unsaved-game.keys'}\n", self.banner)
 
     def test_where_the_folder_of_the_history_cannot_be_written(self) -> None:
         terminal = self.opened(XDG_STATE_HOME="/dev/null")
