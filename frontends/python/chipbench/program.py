@@ -165,10 +165,16 @@ def end(process: subprocess.Popen[bytes]) -> int:
 
 
 def end_unclosed(process: subprocess.Popen[bytes], errors: IO[bytes], owner: int) -> None:
-    """Ends the program of an object that nobody has any more. A process that was forked has it from its parent, which goes on."""
+    """Ends the program of an object that nobody has any more. A process that was forked has the object from its parent, whose program
+    goes on: it lets go of its own ends of the streams alone."""
     if os.getpid() == owner:
         end(process)
-        errors.close()
+    else:
+        for stream in (process.stdin, process.stdout):
+            assert stream is not None
+            stream.close()
+        process.returncode = 0
+    errors.close()
 
 
 def find_program() -> str:

@@ -147,21 +147,26 @@ class Endings(NeedsProgram):
         self.assertFalse(self.is_there(process))
 
     def test_the_end_of_python_ends_the_process(self) -> None:
-        script = f"import chipbench\nbench = chipbench.Bench('CLS', program={self.program!r})\nprint(bench.process_id)"
+        printed = self.script(f"import chipbench\nbench = chipbench.Bench('CLS', program={self.program!r})\nprint(bench.process_id)")
+        self.assertFalse(self.is_there(int(printed)))
+
+    def script(self, text: str) -> str:
+        """What a script prints in a Python of its own."""
         environment = {**os.environ, "PYTHONPATH": str(PYTHON)}
-        done = subprocess.run([sys.executable, "-B", "-W", "error", "-c", script], capture_output=True, text=True, env=environment)
+        done = subprocess.run([sys.executable, "-B", "-W", "error", "-c", text], capture_output=True, text=True, env=environment)
         self.assertEqual((done.returncode, done.stderr), (0, ""))
-        self.assertFalse(self.is_there(int(done.stdout)))
+        return done.stdout
 
     def test_a_forked_process_leaves_the_bench_of_its_parent(self) -> None:
-        with Bench(COUNTER, program=self.program) as bench:
-            child = os.fork()
-            if child == 0:
-                del bench
-                gc.collect()
-                os._exit(0)
-            os.waitpid(child, 0)
-            self.assertEqual(bench.at(1).v[0], 5)
+        lines = (
+            "import chipbench, gc, os, sys",
+            f"bench = chipbench.Bench('LD V0, 5', program={self.program!r})",
+            "child = os.fork()",
+            "if child == 0: del bench; gc.collect(); sys.exit(0)",
+            "os.waitpid(child, 0)",
+            "print(bench.at(1).v[0])",
+        )
+        self.assertEqual(self.script("\n".join(lines)), "5\n")
 
 
 class Pipes(NeedsProgram):
