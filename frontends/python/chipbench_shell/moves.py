@@ -299,8 +299,8 @@ class Moves(Commands):
     def do_blame(self, text: str) -> None:
         """blame
 
-        Finds the press that makes the machine stop, by halving the key events: without it, and without those after it, the
-        machine runs past that step. Goes to the step of the press.
+        Finds the press or the release that makes the machine stop, by halving the key events: without it, and without those
+        after it, the machine runs past that step. Goes to its step.
         """
         self.words_of(text, 0, "blame")
         found = self.search().blamed()
@@ -311,7 +311,8 @@ class Moves(Commands):
         if found.event is None:
             raise Mistake(f"no key is to blame: {cause}, also without any key")
         step, key = found.event
-        blamed = f"key {key:X} at step {step} is to blame: with the key events up to it the machine stops by then"
+        what = f"the {'press' if found.is_press else 'release'} of key {key:X} at step {step}"
+        blamed = f"{what} is to blame: with the key events up to it the machine stops by then"
         self.go(step, f"{cause}; {blamed}, with those before it alone it doesn't")
 
     def do_run(self, text: str) -> None:

@@ -52,10 +52,12 @@ class Found:
 
 @dataclass(frozen=True)
 class Blamed:
-    """The step at which the machine stops, or None; and the key event that makes it stop, or None where no key does."""
+    """The step at which the machine stops, or None; and the key event that makes it stop, or None where no key does: its step, its
+    key, and whether the key goes down."""
 
     stop: int | None
     event: tuple[int, int] | None
+    is_press: bool = True
 
 
 def depth_of(line: bytes) -> int:
@@ -243,21 +245,21 @@ class Search:
     # -- key events
 
     def blamed(self) -> Blamed:
-        """The press without which, and without the events after it, the machine runs past the step at which it stops. `Refused` where
-        a line has a fault."""
+        """The key event without which, and without those after it, the machine runs past the step at which it stops. `Refused` where a
+        line has a fault."""
         stop = self.stop()
         if stop is None:
             return Blamed(None, None)
         events = sorted(self._game.bench.events.items())
-        presses = [place for place, (_, is_down) in enumerate(events) if is_down]
         bench = self._game.opened_anew()
         try:
-            number = bisect.bisect_left(presses, True, key=lambda place: stops_by(bench, events[: place + 1], stop or 0))
-            if stops_by(bench, [], stop) or number == len(presses):
+            if stops_by(bench, [], stop):
                 return Blamed(stop, None)
+            # with all of them it stops
+            number = bisect.bisect_left(range(len(events) - 1), True, key=lambda place: stops_by(bench, events[: place + 1], stop or 0))
         finally:
             bench.close()
-        return Blamed(stop, events[presses[number]][0])
+        return Blamed(stop, *events[number])
 
     def stop(self) -> int | None:
         """The step at which the machine stops; None where it runs up to the last one."""

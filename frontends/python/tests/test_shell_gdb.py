@@ -127,10 +127,19 @@ class Scripts(AtPipe):
         _, output, errors = self.shell("blame\n", "game.asm", "--keys", "some.keys", "--quiet")
         # after step 2 the loop of two steps waits for key 4, and reads it at step 20; that of key 6 begins at step 21, so that it
         # reads key 6 at step 41, and DW, which step 42 would execute, stops the machine: it has stopped after 43 steps
-        told = "the machine stops for S2: no instruction, at step {}; key 6 at step 40 is to blame: "
+        told = "the machine stops for S2: no instruction, at step {}; the press of key 6 at step 40 is to blame: "
         up_to = "with the key events up to it the machine stops by then, with those before it alone it doesn't"
         self.assertEqual((output.splitlines()[0], errors), (told.format(43) + up_to, ""))
         self.assertTrue(output.splitlines()[1].startswith("step 40, "))
+
+    def test_a_release_is_to_blame(self) -> None:
+        source = "        LD V4, 4\nDOWN:   SKP V4\n        JP DOWN\nUP:     SKNP V4\n        JP UP\n        DW #0000\n"
+        Path(self.folder, "game.asm").write_text(source)
+        # key 4 is read at step 21, and its release at step 42: the loops of two steps begin at steps 1 and 22
+        Path(self.folder, "some.keys").write_text("20 4 down\n41 4 up\n")
+        _, output, errors = self.shell("blame\n", "game.asm", "--keys", "some.keys", "--quiet")
+        self.assertEqual(errors, "")
+        self.assertIn("at step 44; the release of key 4 at step 41 is to blame: ", output)
 
     def test_no_key_is_to_blame(self) -> None:
         Path(self.folder, "game.asm").write_text("        CLS\n        DW 0\n")
