@@ -263,11 +263,9 @@ async function runOnPage(pages, folder) {
   await document.save();
   const settings = vscode.workspace.getConfiguration('chipbench');
   const launched = programs.launcher('page', settings, folder);
-  const program = programs.chipbench(settings);
-  if (program === undefined && launched.isPackaged) throw new Error(programs.NO_PROGRAM);
   const address = await new Promise((resolve, reject) => {
     const failed = (how, errors) => reject(new Error(programs.missing(launched, how) ?? errors));
-    pages.push(programs.startPage(launched, program, document.uri.fsPath, { onAddress: resolve, onEnd: failed }));
+    pages.push(programs.startPage(launched, document.uri.fsPath, { onAddress: resolve, onEnd: failed }));
   });
   await vscode.env.openExternal(vscode.Uri.parse(address));
 }

@@ -62,8 +62,8 @@ function missing({ kind, command, isPackaged }, { code, status }) {
 }
 
 /** A running page on a source. `onAddress(address)` is called once, `onEnd(end, errors)` where it ends before that. */
-function startPage(launched, program, file, { onAddress, onEnd }) {
-  const args = [...launched.args, ...(program ? ['--program', program] : []), '--no-open', '--port', '0', file];
+function startPage(launched, file, { onAddress, onEnd }) {
+  const args = [...launched.args, '--no-open', '--port', '0', file];
   const page = spawn(launched.command, args, { stdio: ['ignore', 'pipe', 'pipe'] });
   let read = '';
   let errors = '';
