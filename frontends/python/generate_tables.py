@@ -133,8 +133,8 @@ def main(arguments: list[str]) -> int:
         return 2
     found = tables()
     status = 0
-    for path, make in ((TABLES, lambda: json.dumps(found, indent=1, ensure_ascii=False) + "\n"), (FOR_THE_PAGE, lambda: for_the_page(found))):
-        text = make()
+    texts = {TABLES: json.dumps(found, indent=1, ensure_ascii=False) + "\n", FOR_THE_PAGE: for_the_page(found)}
+    for path, text in texts.items():
         if not is_check:
             path.write_text(text, encoding="utf-8")
         elif not path.is_file() or path.read_text(encoding="utf-8") != text:

@@ -334,8 +334,9 @@ class Adapter:
         try:
             step = next(move.task)
         except StopIteration as stop:
+            found = stop.value
             self._end_move()
-            self._attempt(lambda: self._arrive(move, stop.value))
+            self._attempt(lambda: self._arrive(move, found))
         except Exception as error:
             self._end_move()
             self._failed(error)

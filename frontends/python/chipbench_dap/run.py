@@ -91,7 +91,7 @@ class Run(Commands):
         self.game = Game(path, content, settings, program)
         try:
             if keys is not None:
-                self.game.read_keys(needed(keys), str(keys))
+                self.game.read_keys(needed(keys), keys)
         except BaseException:
             self.game.close()
             raise

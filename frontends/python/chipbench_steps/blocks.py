@@ -42,7 +42,7 @@ class Writer:
         """The blocks, each as often as it is likely."""
         found: list[Callable[[], None]] = [self.calculate] * 6
         found += [self.skip, self.draw, self.digit, self.decimal, self.block, self.timers] * 2
-        found += [self.random, self.keys, self.call, self.modify, self.jump, self.index] * 2
+        found += [self.random_byte, self.keys, self.call, self.modify, self.jump, self.index] * 2
         found += [self.wait, self.wait_for_key, self.clear, self.odd, self.at_end, self.long_skip, self.deep]
         return found + [self.scroll, self.resize, self.flags, self.large_digit] * 2 if has_super else found
 
@@ -114,7 +114,7 @@ class Writer:
         self.add(self.rng.choice((0x3000 | x << 8 | value, 0x4000 | x << 8 | value ^ 1, 0x5000 | x << 8 | y << 4)))
         self.add(0xF000, self.count(), self.count())
 
-    def random(self) -> None:
+    def random_byte(self) -> None:
         x = self.x()
         self.add(0xC000 | x << 8 | self.byte())
         self.note(x)
