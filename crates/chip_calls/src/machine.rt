@@ -286,7 +286,7 @@ fn push_parts(out: &mut Reply, parts: Forgotten) {
 }
 
 /// The quirks of a profile, but for the choices that follow its name.
-fn quirks_named(machine: &str) -> Option<Quirks> {
+pub(crate) fn quirks_named(machine: &str) -> Option<Quirks> {
     match machine.split_once(',') {
         Some((name, list)) => Profile::from_name(name)?
             .quirks()

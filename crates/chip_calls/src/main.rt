@@ -1,4 +1,4 @@
-//! Calls of chip_lang, chip_asm, chip_machine and chip_replay, as text: each line of the standard
+//! Calls of chip_lang, chip_asm, chip_machine, chip_replay and chip_facts, as text: each line of the standard
 //! input is a command, and its answer is printed. The modules list the commands.
 //!
 //! - `text LINE`, `text-hex BYTES`: the built text is this line, or these bytes in hexadecimal.
@@ -10,6 +10,7 @@
 
 mod assembler;
 mod edits;
+mod facts;
 mod language;
 mod machine;
 mod output;
@@ -88,6 +89,7 @@ impl Calls {
                 assembler::edit(self.alloc, out, &self.built, &mut *self.source, word, rest)?
             }
             "edits" => edits::answer(self.alloc, out, rest)?,
+            "facts" | "executed" => facts::answer(self.alloc, out, word, rest)?,
             "runs" => runs::answer(self.alloc, out, rest)?,
             _ => return self.ask(out, word, rest),
         }

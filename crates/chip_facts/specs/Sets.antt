@@ -1,0 +1,16 @@
+-- Sets of numbers, a bit each in a row of words of 64 bits.
+-- Source: own.
+--     has             whether a number is in a set
+--     Holds           a number is in a set
+--     IsWithin        each number of a set is in another
+use Rattle.std.specs.Prelude.{◌≡◌, ℕ, ◌/◌, ◌%◌, ◌==◌, Bool, true, List, slice_index}
+use Rattle.std.specs.Int.{bit_at}
+
+abbrev pub has : List ℕ → ℕ → Bool
+has words n = bit_at (slice_index words (n / 64)) (n % 64) == 1
+
+abbrev pub Holds : List ℕ → ℕ → Type 0
+Holds words n = has words n ≡ true
+
+abbrev pub IsWithin : List ℕ → List ℕ → Type 0
+IsWithin some all = (n : ℕ) → Holds some n → Holds all n

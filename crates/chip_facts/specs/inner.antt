@@ -1,0 +1,7 @@
+-- What a table says, and how a step goes from row to row.
+pub mod Indexes
+pub mod Operations
+pub mod Knowing
+pub mod Steps
+pub mod Transfer
+pub mod Tables

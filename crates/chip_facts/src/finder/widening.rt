@@ -1,0 +1,92 @@
+//! How sets grow: what is known is joined, and let grow on where it grows again and again.
+
+use crate::bits::{contains, insert};
+use crate::byte_set::{ByteSet, block};
+use crate::known::Known;
+
+/// The constants of the instructions of an image, and their neighbours.
+pub(crate) fn marks_of(image: &[u8]) -> ByteSet {
+    let mut marks = [0; 4];
+    insert(&mut marks, 0);
+    insert(&mut marks, 255);
+    for i in 0..image.len() {
+        if i + 1 < image.len() && matches!(image[i] >> 4, 3 | 4 | 6 | 12) {
+            let byte = image[i + 1];
+            insert(&mut marks, byte as usize);
+            insert(&mut marks, byte.wrapping_add(1) as usize);
+            insert(&mut marks, byte.wrapping_sub(1) as usize);
+        }
+    }
+    marks
+}
+
+/// Puts into the set of a register what it grows to: where a byte is new that lies a distance from an old one,
+/// the bytes at that distance one after another, up to a mark.
+fn extrapolate(old: &ByteSet, new: &mut ByteSet, marks: &ByteSet) {
+    for byte in 0..256 {
+        if contains(new, byte) && !contains(old, byte) {
+            for distance in 1..65 {
+                if byte >= distance && contains(old, byte - distance) {
+                    grow_up(new, marks, byte, distance);
+                    break;
+                }
+                if byte + distance < 256 && contains(old, byte + distance) {
+                    grow_down(new, marks, byte, distance);
+                    break;
+                }
+            }
+        }
+    }
+}
+
+/// Puts in the bytes from one on, a distance apart, up to a mark.
+fn grow_up(set: &mut ByteSet, marks: &ByteSet, from: usize, distance: usize) {
+    for byte in from..256 {
+        if (byte - from) % distance.max(1) == 0 {
+            insert(set, byte);
+            if contains(marks, byte) {
+                return;
+            }
+        }
+    }
+}
+
+/// Puts in the bytes from one down, a distance apart, down to a mark.
+fn grow_down(set: &mut ByteSet, marks: &ByteSet, from: usize, distance: usize) {
+    for back in 0..256 {
+        if back <= from && back % distance.max(1) == 0 {
+            let byte = from - back;
+            if byte < 256 {
+                insert(set, byte);
+                if contains(marks, byte) {
+                    return;
+                }
+            }
+        }
+    }
+}
+
+/// Puts in what else may be known.
+pub(crate) fn widen(known: &mut Known, other: &Known) {
+    for i in 0..64 {
+        known.registers[i] |= other.registers[i];
+    }
+    for i in 0..65 {
+        known.index[i] |= other.index[i];
+    }
+    known.delay = known.delay.max(other.delay);
+    known.may_be_low = known.may_be_low || other.may_be_low;
+    known.may_be_high = known.may_be_high || other.may_be_high;
+}
+
+/// Lets the sets of registers that have grown grow on.
+pub(crate) fn hurry(known: &mut Known, old: &Known, marks: &ByteSet) {
+    for x in 0..16 {
+        let before = block(&old.registers, x);
+        let mut after = block(&known.registers, x);
+        if before != after {
+            extrapolate(&before, &mut after, marks);
+            known.put(x, &after);
+        }
+    }
+}

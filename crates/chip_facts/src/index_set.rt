@@ -1,0 +1,163 @@
+//! Sets of values of I.
+
+ghost use Rattle.std.specs.Prelude.{◌≡◌, ◌<◌, ◌≤◌, ◌+◌, ◌*◌, ◌%◌, ℕ, IsTrue, length, min};
+ghost use Rattle.chip_facts.specs.Sets.{Holds};
+ghost use Rattle.chip_facts.specs.inner.Indexes.{HoldsIndex};
+
+use crate::bits::{contains, insert};
+use crate::byte_set::{ByteSet, NONE, block, unite};
+
+/// A set of values of I: address a at bit a, and all values past the memory at the last bit.
+pub(crate) type IndexSet = [u64; 65];
+
+/// Where the values past the memory stand.
+pub(crate) const PAST: usize = 4096;
+
+/// No value.
+const NOWHERE: IndexSet = [0; 65];
+
+/// One value.
+pub(crate) fn only(at: usize) -> IndexSet
+    requires { at < 65536 }
+    ensures { HoldsIndex result at }
+{
+    let mut set = NOWHERE;
+    insert(&mut set, at.min(PAST));
+    set
+}
+
+/// The addresses of digits that the low four bits of a byte number.
+pub(crate) fn digits(values: &ByteSet, first: usize, size: usize) -> IndexSet
+    requires { first + size * 15 < 4096 }
+    ensures { (b : ℕ) → b < 256 → Holds values.now b → HoldsIndex result (first + size * (b % 16)) }
+{
+    let mut set = NOWHERE;
+    for b in 0..256 {
+        if contains(values, b) {
+            let at = first + size * (b % 16);
+            prove!(at < 4096);
+            insert(&mut set, at);
+        }
+    }
+    set
+}
+
+/// Puts the sums of an address and each byte of a set into a set.
+fn add_sums(set: &mut IndexSet, at: usize, values: &ByteSet)
+    requires { at < 4096 }
+    ensures kept { (n : ℕ) → Holds set.old n → Holds set.new n }
+    ensures sums { (b : ℕ) → b < 256 → Holds values.now b → HoldsIndex set.new (at + b) }
+{
+    for b in 0..256 {
+        if contains(values, b) {
+            insert(set, (at + b).min(PAST));
+        }
+    }
+}
+
+/// The values past the memory, and what they become by the sum with a byte, modulo 65,536.
+fn wrapped() -> IndexSet
+    ensures past { Holds result 4096 }
+    ensures low { (n : ℕ) → n < 255 → Holds result n }
+{
+    let mut set = NOWHERE;
+    insert(&mut set, PAST);
+    for at in 0..255 {
+        insert(&mut set, at);
+    }
+    set
+}
+
+/// The sums of a value of I and a byte, modulo 65,536.
+pub(crate) fn sums(index: &IndexSet, values: &ByteSet) -> IndexSet
+    ensures { (i b : ℕ) → i < 65536 → b < 256 → HoldsIndex index.now i → Holds values.now b
+        → HoldsIndex result ((i + b) % 65536) }
+{
+    let mut set = if contains(index, PAST) {
+        wrapped()
+    } else {
+        NOWHERE
+    };
+    for at in 0..4096 {
+        if contains(index, at) {
+            add_sums(&mut set, at, values);
+        }
+    }
+    set
+}
+
+/// Of a set of values, those from which so many bytes can be accessed.
+#[derive(Drop)]
+pub(crate) struct Access {
+    pub(crate) set: IndexSet,
+    /// Whether there is one.
+    pub(crate) any: bool,
+    /// Whether there are others.
+    pub(crate) is_short: bool,
+}
+
+/// Parts the values of I from which so many bytes can be accessed from the others.
+pub(crate) fn fitting(index: &IndexSet, count: usize) -> Access
+    requires some { 0 < count }
+    requires few { count ≤ 32 }
+    ensures fits { (i : ℕ) → i + count ≤ 4096 → Holds index.now i
+        → Holds result.set i × IsTrue result.any }
+    ensures others { (i : ℕ) → i < 65536 → 4096 < i + count → HoldsIndex index.now i → IsTrue result.is_short }
+{
+    let mut set = NOWHERE;
+    let mut any = false;
+    let mut is_short = contains(index, PAST);
+    for at in 0..4096 {
+        if contains(index, at) {
+            if at + count <= 4096 {
+                insert(&mut set, at);
+                any = true;
+            } else {
+                is_short = true;
+            }
+        }
+    }
+    Access { set, any, is_short }
+}
+
+/// Parts the values of I from which at least the lesser number of bytes can be accessed from those from
+/// which the larger one can't. From each value no byte can be accessed.
+pub(crate) fn fitting_between(index: &IndexSet, least: usize, most: usize) -> Access
+    requires { most ≤ 32 }
+    ensures none { least ≡ 0 → (i : ℕ) → Holds index.now i → Holds result.set i × IsTrue result.any }
+    ensures fits { (i : ℕ) → 0 < least → i + least ≤ 4096 → Holds index.now i
+        → Holds result.set i × IsTrue result.any }
+    ensures others { (i : ℕ) → i < 65536 → 0 < most → 4096 < i + most → HoldsIndex index.now i
+        → IsTrue result.is_short }
+{
+    let is_short = most > 0 && fitting(index, most).is_short;
+    if least == 0 || least > most {
+        return Access {
+            set: *index,
+            any: true,
+            is_short,
+        };
+    }
+    let Access {
+        set,
+        any,
+        is_short: _,
+    } = fitting(index, least);
+    Access { set, any, is_short }
+}
+
+/// The bytes that are at an offset from one of some addresses, by a row of sets.
+pub(crate) fn loaded(memory: &[u64], index: &IndexSet, offset: usize) -> ByteSet
+    requires size { length memory.now ≡ 16416 }
+    requires offset { offset < 16 }
+    ensures { (i b : ℕ) → i ≤ 4096 → i + offset < 4104 → b < 256 → Holds index.now i
+        → Holds memory.now (256 * (i + offset) + b) → Holds result b }
+{
+    let mut set = NONE;
+    for at in 0..4097 {
+        if contains(index, at) && at + offset < 4104 {
+            unite(&mut set, &block(memory, at + offset));
+        }
+    }
+    set
+}

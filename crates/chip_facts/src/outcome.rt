@@ -1,0 +1,110 @@
+//! What a step may do, from a state of which something is known.
+
+ghost use Rattle.std.specs.Prelude.{◌≡◌, [], ◌∷◌, ◌++◌, IfOk, None, Some, option_to_list};
+
+use crate::byte_set::ByteSet;
+use crate::index_set::IndexSet;
+use crate::known::Known;
+use chip_machine::Stop;
+use std::alloc::{AllocError, Global};
+
+/// What a step does with the call stack.
+#[derive(Clone, Copy)]
+pub(crate) enum Way {
+    Same,
+    /// It has one return address more.
+    Call(u16),
+    Return,
+}
+
+/// Where a step may lead, and what is known there.
+#[derive(Clone, Copy)]
+pub(crate) struct Successor {
+    pub(crate) pc: u16,
+    pub(crate) way: Way,
+    pub(crate) known: Known,
+}
+
+/// Bytes that a step may store, one after another from one of some addresses on. The flag registers
+/// stand behind the memory.
+#[derive(Drop)]
+pub(crate) struct Stored {
+    pub(crate) at: IndexSet,
+    pub(crate) values: Vec<ByteSet>,
+}
+
+/// What a step may do.
+#[derive(Drop)]
+pub(crate) struct Outcome {
+    pub(crate) stop: Option<Stop>,
+    pub(crate) next: Vec<Successor>,
+    pub(crate) stored: Option<Stored>,
+}
+
+impl Outcome {
+    /// It stops the machine.
+    pub(crate) fn stops(alloc: Global, why: Stop) -> Outcome
+        ensures { result.stop ≡ Some why }
+    {
+        Outcome {
+            stop: Some(why),
+            next: Vec::new(alloc),
+            stored: None,
+        }
+    }
+
+    /// It leads to one of these.
+    pub(crate) fn leads(next: Vec<Successor>) -> Outcome
+        ensures next { result.next ≡ next }
+        ensures stored { result.stored ≡ None }
+    {
+        Outcome {
+            stop: None,
+            next,
+            stored: None,
+        }
+    }
+
+    /// It leads there.
+    pub(crate) fn to(alloc: Global, successor: Successor) -> Result<Outcome, AllocError>
+        ensures next { IfOk result (λ out. out.next.items ≡ successor ∷ []) }
+        ensures stored { IfOk result (λ out. out.stored ≡ None) }
+    {
+        let mut next = Vec::new(alloc);
+        next.push(successor)?;
+        Ok(Outcome::leads(next))
+    }
+}
+
+/// The outcome that leads to one of two.
+pub(crate) fn to_either(
+    alloc: Global,
+    first: &Successor,
+    second: &Successor,
+) -> Result<Outcome, AllocError>
+    ensures next { IfOk result (λ out. out.next.items ≡ first.now ∷ (second.now ∷ [])) }
+    ensures stored { IfOk result (λ out. out.stored ≡ None) }
+{
+    let mut next = Vec::new(alloc);
+    next.push(*first)?;
+    next.push(*second)?;
+    Ok(Outcome::leads(next))
+}
+
+/// Those that are there.
+pub(crate) fn both(
+    alloc: Global,
+    first: &Option<Successor>,
+    second: &Option<Successor>,
+) -> Result<Vec<Successor>, AllocError>
+    ensures { IfOk result (λ next. next.items ≡ option_to_list first.now ++ option_to_list second.now) }
+{
+    let mut next = Vec::new(alloc);
+    if let Some(successor) = first {
+        next.push(*successor)?;
+    }
+    if let Some(successor) = second {
+        next.push(*successor)?;
+    }
+    Ok(next)
+}

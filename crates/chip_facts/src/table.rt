@@ -1,0 +1,260 @@
+//! Tables of rows. In a row stands what is known where the machine is at an address with a call stack.
+//! Each state that is reached lies in one, once a table is found to be closed.
+
+ghost use Rattle.std.specs.Prelude.{◌≡◌, ◌<◌, ◌+◌, ◌*◌, ℕ, Any, Contains, IfOk, IfSome, IsTrue, Result, length};
+ghost use Rattle.chip_lang.specs.Decoding.{decode_of};
+ghost use Rattle.chip_machine.specs.State.{Core, State};
+ghost use Rattle.chip_machine.specs.declared.stop.Stop.{Stop};
+ghost use Rattle.chip_machine.specs.Step.{effect_of_word, perform};
+ghost use Rattle.chip_facts.specs.Sets.{Holds};
+ghost use Rattle.chip_facts.specs.inner.Steps.{IsNext, IsStored, Meets, frames_by};
+ghost use Rattle.chip_facts.specs.inner.Tables.{IsAllowed, IsClosed, IsInTable};
+ghost use Rattle.chip_facts.specs.inner.Transfer.{IsAt};
+
+use crate::accesses::SETS_WORDS;
+use crate::bits::{contains, is_within};
+use crate::byte_set::block;
+use crate::known::Known;
+use crate::outcome::{Outcome, Stored, Successor, Way};
+use crate::transfer::Before;
+use chip_lang::instr::decode;
+use chip_machine::limits::LAST_WORD;
+use chip_machine::{Quirks, Stop};
+use std::alloc::{AllocError, Global};
+
+/// A stop that isn't excluded.
+#[derive(Clone, Copy)]
+pub struct Left {
+    /// Where the machine is.
+    pub pc: u16,
+    pub stop: Stop,
+}
+
+/// What is known where the machine is at an address with a call stack.
+#[derive(Drop)]
+pub(crate) struct Row {
+    pub(crate) pc: u16,
+    pub(crate) frames: Vec<u16>,
+    pub(crate) known: Known,
+    /// The number of another row at the address, or `NO_ROW`. Nothing but speed rests on it.
+    pub(crate) other: u32,
+}
+
+/// The number of no row.
+pub(crate) const NO_ROW: u32 = u32::MAX;
+
+/// What is said of all states that are reached.
+#[derive(Drop)]
+pub(crate) struct Table {
+    pub(crate) rows: Vec<Row>,
+    /// The number of a row at each address, or `NO_ROW`. Nothing but speed rests on it.
+    pub(crate) heads: Vec<u32>,
+    /// The bytes that each byte of the memory may have, and then each flag register.
+    pub(crate) memory: Vec<u64>,
+    pub(crate) left: Vec<Left>,
+}
+
+/// Whether a call stack is the one after a step.
+fn are_frames(then: &[u16], way: Way, frames: &[u16]) -> bool
+    ensures { IsTrue result → then.now ≡ frames_by way frames.now }
+{
+    match way {
+        Way::Same => then == frames,
+        Way::Call(back) => match then {
+            [first @ .., last] => first == frames && *last == back,
+            [] => false,
+        },
+        Way::Return => match frames {
+            [first @ .., _] => then == first,
+            [] => then.is_empty(),
+        },
+    }
+}
+
+impl Table {
+    /// Whether a stop is one of those that are left.
+    fn has_left(&self, pc: u16, stop: Stop) -> bool
+        ensures { IsTrue result → Contains self.now.left.items (record { pc = pc; stop = stop }) }
+    {
+        for left in &self.left {
+            if left.pc == pc && left.stop == stop {
+                return true;
+            }
+        }
+        false
+    }
+
+    /// Whether there is a row for where a step leads.
+    pub(crate) fn has_row(&self, frames: &[u16], successor: &Successor) -> bool
+        ensures { IsTrue result → (c : Core) → IsNext frames.now c successor.now
+            → IsInTable self.now.rows.items c }
+    {
+        let mut number = match self.heads.get(successor.pc as usize) {
+            Some(head) => *head,
+            None => NO_ROW,
+        };
+        for _ in 0..self.rows.len() {
+            let Some(row) = self.rows.get(number as usize) else {
+                return false;
+            };
+            if row.pc == successor.pc
+                && are_frames(&row.frames, successor.way, frames)
+                && successor.known.is_within(&row.known)
+            {
+                return true;
+            }
+            number = row.other;
+        }
+        false
+    }
+
+    /// Whether the bytes at an address may be those of a set.
+    fn has_bytes(&self, at: usize, values: &[u64; 4]) -> bool
+        requires { length self.now.memory.items ≡ SETS_WORDS }
+        ensures { IsTrue result → (b : ℕ) → Holds values.now b
+            → (b < 256) × Holds self.now.memory.items (256 * at + b) }
+    {
+        at < 4104 && is_within(values, &block(&self.memory, at))
+    }
+
+    /// Whether the bytes of the memory may be those that a step stores.
+    fn has_stored(&self, stored: &Stored) -> bool
+        requires { length self.now.memory.items ≡ SETS_WORDS }
+        ensures { IsTrue result → (at byte : ℕ) → IsStored stored.now at byte
+            → (byte < 256) × Holds self.now.memory.items (256 * at + byte) }
+    {
+        for from in 0..64 * 65 {
+            if contains(&stored.at, from) {
+                for place in 0..stored.values.len() {
+                    if !self.has_bytes(from + place, &stored.values[place]) {
+                        return false;
+                    }
+                }
+            }
+        }
+        true
+    }
+
+    /// Whether a stop, if there is one, is left.
+    fn has_stop(&self, pc: u16, stop: Option<Stop>) -> bool
+        ensures { IsTrue result → IfSome stop (λ why.
+            Contains self.now.left.items (record { pc = pc; stop = why })) }
+    {
+        match stop {
+            Some(why) => self.has_left(pc, why),
+            None => true,
+        }
+    }
+
+    /// Whether the bytes of the memory may be those that a step stores, if it stores some.
+    fn has_changes(&self, stored: &Option<Stored>) -> bool
+        requires { length self.now.memory.items ≡ SETS_WORDS }
+        ensures { IsTrue result → IfSome stored.now (λ stored. (at byte : ℕ) → IsStored stored at byte
+            → (byte < 256) × Holds self.now.memory.items (256 * at + byte)) }
+    {
+        match stored {
+            Some(stored) => self.has_stored(stored),
+            None => true,
+        }
+    }
+
+    /// Whether there are rows for all where a step leads.
+    fn has_next(&self, frames: &[u16], next: &[Successor]) -> bool
+        ensures { IsTrue result → (c : Core) → Any (IsNext frames.now c) next.now
+            → IsInTable self.now.rows.items c }
+    {
+        for successor in next {
+            if !self.has_row(frames, successor) {
+                return false;
+            }
+        }
+        true
+    }
+
+    /// Whether all that a step may do is in the table.
+    fn has_outcome(&self, before: &Before<'_>, out: &Outcome) -> bool
+        requires { length self.now.memory.items ≡ SETS_WORDS }
+        ensures { IsTrue result → before.now.memory.now ≡ self.now.memory.items
+            → (s : State) → IsAt before.now s → (ended : Result State Stop)
+            → Meets before.now.frames.now out.now s ended
+            → IsAllowed self.now before.now.quirks before.now.pc ended }
+    {
+        self.has_stop(before.pc, out.stop)
+            && self.has_changes(&out.stored)
+            && self.has_next(before.frames, &out.next)
+    }
+
+    /// Whether all that a word may do is in the table.
+    fn has_word(&self, alloc: Global, before: &Before<'_>, word: u16) -> Result<bool, AllocError>
+        requires size { length self.now.memory.items ≡ SETS_WORDS }
+        requires same { before.now.memory.now ≡ self.now.memory.items }
+        requires pc { before.now.pc < 4095 }
+        ensures { IfOk result (λ has. IsTrue has → (s : State) → IsAt before.now s → (keys : ℕ)
+            → IsAllowed self.now before.now.quirks before.now.pc
+            (perform keys s (effect_of_word (decode_of word) s.core))) }
+    {
+        match decode(word) {
+            Some(instr) => {
+                let out = before.execute(alloc, instr)?;
+                Ok(self.has_outcome(before, &out))
+            }
+            None => Ok(self.has_left(before.pc, Stop::NoInstruction)),
+        }
+    }
+
+    /// Whether each step from a row leads into the table, or to a stop that is left.
+    pub(crate) fn is_closed_at(
+        &self,
+        alloc: Global,
+        quirks: Quirks,
+        row: &Row,
+    ) -> Result<bool, AllocError>
+        requires { length self.now.memory.items ≡ SETS_WORDS }
+        ensures { IfOk result (λ closed. IsTrue closed → IsClosed self.now quirks row.now) }
+    {
+        let pc = row.pc as usize;
+        if pc > LAST_WORD {
+            return Ok(self.has_left(row.pc, Stop::PcOutOfRange));
+        }
+        let before = Before {
+            memory: &self.memory,
+            quirks,
+            pc: row.pc,
+            frames: &row.frames,
+            known: row.known,
+        };
+        let highs = block(&self.memory, pc);
+        let lows = block(&self.memory, pc + 1);
+        for high in 0..256u16 {
+            if contains(&highs, high as usize) && !self.has_words(alloc, &before, high, &lows)? {
+                return Ok(false);
+            }
+        }
+        Ok(true)
+    }
+
+    /// Whether all that the words with a high byte may do is in the table.
+    fn has_words(
+        &self,
+        alloc: Global,
+        before: &Before<'_>,
+        high: u16,
+        lows: &[u64; 4],
+    ) -> Result<bool, AllocError>
+        requires size { length self.now.memory.items ≡ SETS_WORDS }
+        requires same { before.now.memory.now ≡ self.now.memory.items }
+        requires pc { before.now.pc < 4095 }
+        requires byte { high < 256 }
+        ensures { IfOk result (λ has. IsTrue has → (low : ℕ) → low < 256 → Holds lows.now low
+            → (s : State) → IsAt before.now s → (keys : ℕ)
+            → IsAllowed self.now before.now.quirks before.now.pc
+            (perform keys s (effect_of_word (decode_of (high * 256 + low)) s.core))) }
+    {
+        for low in 0..256u16 {
+            if contains(lows, low as usize) && !self.has_word(alloc, before, high * 256 + low)? {
+                return Ok(false);
+            }
+        }
+        Ok(true)
+    }
+}
