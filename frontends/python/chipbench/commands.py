@@ -17,6 +17,13 @@ def shell() -> int:
     return main(sys.argv[1:])
 
 
+def debug_adapter() -> int:
+    """chipbench-dap: the debug adapter."""
+    from chipbench_dap.__main__ import main
+
+    main(sys.argv[1:])
+
+
 def language_server() -> int:
     """chipbench-lsp: the language server."""
     from chipbench_lsp.__main__ import main

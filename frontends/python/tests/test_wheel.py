@@ -100,7 +100,7 @@ class Wheels(unittest.TestCase):
     def test_the_folder_is_installed_without_an_index(self) -> None:
         target = self.installed(PYTHON)
         self.assertEqual(self.tried(target, CHIPBENCH=str(RELEASE / "chipbench"))[1:] if IS_LINUX else ["6"], ["6"])
-        self.assertEqual(sorted(path.name for path in (target / "bin").iterdir()), ["chipbench-lsp", "chipbench-shell", "chipbench-steps"])
+        self.assertEqual(sorted(path.name for path in (target / "bin").iterdir()), ["chipbench-dap", "chipbench-lsp", "chipbench-shell", "chipbench-steps"])
 
     @unittest.skipUnless(IS_LINUX, "the program of release/ is for Linux on x86-64")
     def test_a_wheel_with_the_program_inside(self) -> None:
