@@ -1,18 +1,40 @@
 -- Changes that go on to the next instruction, by the quirks and the flags that they ask.
-use Rattle.std.proofs.Common.{◌≡◌, ℕ, ◌+◌, ◌%◌, ◌<◌, Bool, true, false, not, refl, sym, arith, subst, zero, suc, Option, Some, IfSome, if◌then◌else◌, nat_lt, find, cond}
+use Rattle.std.proofs.Common.{◌≡◌, ℕ, ◌+◌, ◌%◌, ◌<◌, Bool, true, false, not, refl, sym, arith, subst, zero, suc, Option, Some, IfSome, if◌then◌else◌, nat_lt, find, cond, List, ap}
 use Rattle.std.specs.FinSet as set
 use Rattle.std.specs.List.{range_with_len}
 use Rattle.chip_machine.specs.State.{Core}
 use Rattle.chip_machine.specs.Step.{with_reg, with_flag, with_index, with_lit, with_size, with_sum, resized, next, bit_of}
+use Rattle.chip_machine.specs.declared.quirks.Quirks.{Quirks}
+use Rattle.chip_machine.specs.declared.stop.Stop.{Stop}
 use Rattle.chip_facts.specs.inner.Knowing.{IsKnown}
 use Rattle.chip_facts.specs.inner.Transfer.{IsOn}
 use Rattle.chip_facts.specs.declared.known.Known.{Known}
 
+-- what a step to the next instruction leaves as it is, and the address
+pub record Rest : Type 0 where
+  pub pc : ℕ
+  pub frames : List ℕ
+  pub flags : List ℕ
+  pub tape : List ℕ
+  pub quirks : Quirks
+  pub stopped : Option Stop
+
+abbrev pub rest_of : Core → Rest
+rest_of c = record { pc = c.pc; frames = c.frames; flags = c.flags; tape = c.tape; quirks = c.quirks; stopped = c.stopped }
+
+pub on_next : (k : Known) (c new : Core) → rest_of new ≡ rest_of (next c) → IsKnown k new → IsOn k c new
+on_next k c new same known = record {
+  pc_is = ap (λ r. r.pc) same;
+  frames_stay = ap (λ r. r.frames) same;
+  calm = record { same_flags = ap (λ r. r.flags) same; tape_is = ap (λ r. r.tape) same; quirks_are = ap (λ r. r.quirks) same; stop_is = ap (λ r. r.stopped) same };
+  then_known = known;
+}
+
 -- VF is put to 0, or stays
 pub on_plain : (k : Known) (c : Core) (x v : ℕ) (clears : Bool) → IsKnown k (if clears then with_flag x v 0 c else with_reg x v c)
     → IsOn k c (next (if clears then with_flag x v 0 c else with_reg x v c))
-on_plain k c x v true known = record { pc_is = refl; frames_stay = refl; calm = record { same_flags = refl; tape_is = refl; quirks_are = refl; stop_is = refl }; then_known = known }
-on_plain k c x v false known = record { pc_is = refl; frames_stay = refl; calm = record { same_flags = refl; tape_is = refl; quirks_are = refl; stop_is = refl }; then_known = known }
+on_plain k c x v true known = on_next _ _ _ refl known
+on_plain k c x v false known = on_next _ _ _ refl known
 
 -- I moves on, and VF says whether it is large, or stays
 moved : Core → ℕ → Bool → Core
@@ -20,8 +42,8 @@ moved c n flags = if flags then with_reg 15 (bit_of (nat_lt 4095 (c.index + n)))
 
 on_moved : (k : Known) (c : Core) (n : ℕ) (flags : Bool) → IsKnown k (moved c n flags) → IsOn k c (next (moved c n flags))
 unfolding moved
-on_moved k c n true known = record { pc_is = refl; frames_stay = refl; calm = record { same_flags = refl; tape_is = refl; quirks_are = refl; stop_is = refl }; then_known = known }
-on_moved k c n false known = record { pc_is = refl; frames_stay = refl; calm = record { same_flags = refl; tape_is = refl; quirks_are = refl; stop_is = refl }; then_known = known }
+on_moved k c n true known = on_next _ _ _ refl known
+on_moved k c n false known = on_next _ _ _ refl known
 
 pub on_sum : (k : Known) (c : Core) (n : ℕ) (flags : Bool) → c.quirks.flags_overflow ≡ flags
     → (flags ≡ true → IsKnown k (with_reg 15 (bit_of (nat_lt 4095 (c.index + n))) (with_index ((c.index + n) % 65536) c)))

@@ -1,8 +1,10 @@
 pub mod BitSets
 pub mod Blocks
+pub mod Shifts
 pub mod Knowing
 pub mod Following
 pub mod Outcomes
 pub mod Changes
 pub mod Accessing
 pub mod Closed
+pub mod InRows

@@ -10,7 +10,9 @@ ghost use Rattle.chip_facts.specs.inner.Steps.{IsNext};
 ghost use Rattle.chip_facts.specs.inner.Transfer.{Gives, GoesOn, IsAt, drawn_bytes};
 
 use crate::byte_set::{ByteSet, block, digit, single, up_to};
-use crate::index_set::{Access, IndexSet, PAST, fitting, fitting_between, loaded, only, sums};
+use crate::index_set::{
+    Access, IndexSet, PAST, SETS_WORDS, fitting, fitting_between, loaded, only, sums,
+};
 use crate::known::Known;
 use crate::outcome::{Outcome, Stored};
 use crate::transfer::Before;
@@ -19,9 +21,6 @@ use chip_lang::number::{Nibble, Reg};
 use chip_machine::limits::{FLAGS, SPRITE_BYTES};
 use chip_machine::{IndexMove, LowSixteen, Stop};
 use std::alloc::{AllocError, Global};
-
-/// The words of the sets of all bytes: those of the memory, and then of the flag registers.
-pub(crate) const SETS_WORDS: usize = 16416;
 
 #[tactic(auto, unfolding(chip_machine::specs::Step::effect))]
 impl Before<'_> {
@@ -37,8 +36,7 @@ impl Before<'_> {
         }
     }
 
-    /// The bytes that registers may have where V0 to Vx got those that stand one after another at one of some
-    /// addresses.
+    /// The bytes that registers may have after V0 to Vx got those at one of some addresses, one after another.
     fn loaded_sets(&self, at: &IndexSet, x: Reg) -> [u64; 64]
         requires { length self.now.memory.now ≡ SETS_WORDS }
         ensures loaded { (y i b : ℕ) → y ≤ x → i ≤ 4096 → i + y < 4104 → b < 256 → Holds at.now i
@@ -66,7 +64,7 @@ impl Before<'_> {
         Ok(sets)
     }
 
-    /// It accesses bytes from one of some addresses on, if there is one, and goes on where this is known.
+    /// Bytes are accessed from one of some addresses on, if there is one. The next instruction follows, where this is known.
     fn accesses(
         &self,
         alloc: Global,
@@ -173,14 +171,14 @@ impl Before<'_> {
         self.on(alloc, known)
     }
 
-    /// How many bytes a sprite of n rows has at least and at most, by the sizes that the screen may have.
-    /// It has none where nothing is drawn.
+    /// How many bytes a sprite of n rows has at least and at most, by the sizes that the screen may have. Where
+    /// nothing is drawn, a sprite has none.
     fn sprite_counts(&self, n: Nibble) -> (usize, usize)
         ensures least { (c : Core) → IsKnown self.now.known c → c.quirks ≡ self.now.quirks
             → result.0 ≤ drawn_bytes n c }
         ensures most { (c : Core) → IsKnown self.now.known c → c.quirks ≡ self.now.quirks
             → drawn_bytes n c ≤ result.1 }
-        ensures bound { result.1 ≤ 32 }
+        ensures bounds { (result.0 ≤ 32) × (result.1 ≤ 32) }
     {
         let rows = n.number() as usize;
         if rows > 0 {

@@ -1,6 +1,7 @@
 //! Sets of numbers, a bit each in a row of words.
 
-ghost use Rattle.std.specs.Prelude.{◌≡◌, ◌<◌, ◌*◌, ℕ, true, IsTrue, length};
+ghost use Rattle.std.specs.Prelude.{◌≡◌, ◌≤◌, ◌<◌, ◌*◌, ℕ, false, true, IsTrue, length};
+ghost use Rattle.std.specs.Int.{bit_at};
 ghost use Rattle.chip_facts.specs.Sets.{has, Holds, IsWithin};
 
 /// Whether number n is in a set.
@@ -20,6 +21,52 @@ pub(crate) fn insert(words: &mut [u64], n: usize)
     ensures others { (m : ℕ) → Holds words.old m → Holds words.new m }
 {
     words[n / 64] |= 1 << (n % 64);
+}
+
+/// Removes number n from a set.
+#[inline]
+pub(crate) fn remove(words: &mut [u64], n: usize)
+    requires { n < 64 * length words.old }
+{
+    words[n / 64] &= !(1 << (n % 64));
+}
+
+/// The first bit of a word from one on, or 64 where there is none.
+#[inline]
+fn first_bit(word: u64, from: usize) -> usize
+    requires { from < 64 }
+    ensures least { from ≤ result }
+    ensures most { result ≤ 64 }
+    ensures none { (i : ℕ) → from ≤ i → i < result → bit_at word i ≡ 0 }
+{
+    let rest = word >> from;
+    if rest == 0 {
+        return 64;
+    }
+    from + rest.trailing_zeros() as usize
+}
+
+/// The first number of a set from one on. Where there is none, a number that is in no set of so many words.
+#[inline]
+pub(crate) fn next(words: &[u64], from: usize) -> usize
+    requires { length words.now < 65536 }
+    ensures least { from ≤ result }
+    ensures most { from ≤ 64 * length words.now → result ≤ 64 * length words.now }
+    ensures none { (n : ℕ) → from ≤ n → n < result → has words.now n ≡ false }
+{
+    if from / 64 >= words.len() {
+        return from;
+    }
+    let place = first_bit(words[from / 64], from % 64);
+    if place < 64 {
+        return from / 64 * 64 + place;
+    }
+    for i in from / 64 + 1..words.len() {
+        if words[i] != 0 {
+            return 64 * i + first_bit(words[i], 0);
+        }
+    }
+    64 * words.len()
 }
 
 /// Whether each number of a set is in another.

@@ -1,9 +1,10 @@
 //! Sets of bytes.
 
-ghost use Rattle.std.specs.Prelude.{◌≡◌, ◌<◌, ◌≤◌, ◌+◌, ◌*◌, ◌/◌, ◌%◌, ℕ, bit_and, length};
+ghost use Rattle.std.specs.Prelude.{◌≡◌, ◌<◌, ◌≤◌, ◌+◌, ◌-◌, ◌*◌, ◌/◌, ◌%◌, ℕ, bit_and, length};
+ghost use Rattle.std.specs.Int.{bit_at};
 ghost use Rattle.chip_facts.specs.Sets.{has, Holds};
 
-use crate::bits::{contains, insert};
+use crate::bits::{insert, next};
 
 /// A set of bytes, byte b at bit b.
 pub(crate) type ByteSet = [u64; 4];
@@ -47,10 +48,10 @@ pub(crate) fn bound(set: &ByteSet) -> u8
     ensures { (b : ℕ) → b < 256 → Holds set.now b → b ≤ result }
 {
     let mut most = 0;
-    for b in 0..256u16 {
-        if contains(set, b as usize) {
-            most = b as u8;
-        }
+    let mut b = next(set, 0);
+    while b < 256 {
+        most = b as u8;
+        b = next(set, b + 1);
     }
     most
 }
@@ -69,11 +70,69 @@ pub(crate) fn unite(set: &mut ByteSet, other: &ByteSet)
     ensures others { (b : ℕ) → Holds set.old b → Holds set.new b }
     ensures there { (b : ℕ) → b < 256 → Holds other.now b → Holds set.new b }
 {
-    for b in 0..256 {
-        if contains(other, b) {
-            insert(set, b);
-        }
+    for i in 0..4 {
+        set[i] |= other[i];
     }
+}
+
+/// A word of the sums of each byte of a set and a number.
+fn raised_word(set: &ByteSet, by: usize, i: usize) -> u64
+    requires { i < 4 }
+    ensures { (a : ℕ) → (a + by) / 64 ≡ i → Holds set.now a → bit_at result ((a + by) % 64) ≡ 1 }
+{
+    let words = by / 64;
+    let bits = by % 64;
+    if i < words {
+        return 0;
+    }
+    let word = set[i - words] << bits;
+    if i == words || bits == 0 {
+        return word;
+    }
+    word | set[i - words - 1] >> (64 - bits)
+}
+
+/// The sums of each byte of a set and a number, except those past 255.
+pub(crate) fn raised(set: &ByteSet, by: usize) -> ByteSet
+    ensures { (a : ℕ) → a + by < 256 → Holds set.now a → Holds result (a + by) }
+{
+    [
+        raised_word(set, by, 0),
+        raised_word(set, by, 1),
+        raised_word(set, by, 2),
+        raised_word(set, by, 3),
+    ]
+}
+
+/// A word of the differences of each byte of a set and a number.
+fn lowered_word(set: &ByteSet, by: usize, i: usize) -> u64
+    requires small { i < 4 }
+    requires by { by ≤ 256 }
+    ensures { (a : ℕ) → by ≤ a → (a - by) / 64 ≡ i → Holds set.now a → bit_at result ((a - by) % 64) ≡ 1 }
+{
+    let from = i + by / 64;
+    let bits = by % 64;
+    if from > 3 {
+        return 0;
+    }
+    let word = set[from] >> bits;
+    if from == 3 || bits == 0 {
+        return word;
+    }
+    word | set[from + 1] << (64 - bits)
+}
+
+/// The differences of each byte of a set and a number, except those below 0.
+pub(crate) fn lowered(set: &ByteSet, by: usize) -> ByteSet
+    requires { by ≤ 256 }
+    ensures { (a : ℕ) → by ≤ a → Holds set.now a → Holds result (a - by) }
+{
+    [
+        lowered_word(set, by, 0),
+        lowered_word(set, by, 1),
+        lowered_word(set, by, 2),
+        lowered_word(set, by, 3),
+    ]
 }
 
 /// The decimal digit of each byte, of hundreds, tens or ones by what bytes are divided.
@@ -82,10 +141,10 @@ pub(crate) fn digit(values: &ByteSet, by: u8) -> ByteSet
     ensures { (b : ℕ) → b < 256 → Holds values.now b → Holds result (b / by % 10) }
 {
     let mut set = NONE;
-    for b in 0..256u16 {
-        if contains(values, b as usize) {
-            insert(&mut set, (b as u8 / by % 10) as usize);
-        }
+    let mut b = next(values, 0);
+    while b < 256 {
+        insert(&mut set, (b as u8 / by % 10) as usize);
+        b = next(values, b + 1);
     }
     set
 }

@@ -3,6 +3,7 @@
 ghost use Rattle.std.specs.Prelude.{◌≡◌, ◌≤◌, ℕ, Any, Bool, IfOk, IfSome, IsTrue, List, length, true};
 ghost use Rattle.chip_lang.specs.declared.limits.TheConstants.{IMAGE_BYTES};
 ghost use Rattle.chip_facts.specs.Facts.{AreFacts, NeverAtAll, is_among};
+ghost use Rattle.chip_facts.specs.Rows.{HoldFacts};
 
 use crate::finder::find;
 use crate::table::{Left, Row, Table};
@@ -18,6 +19,10 @@ pub struct Facts {
     pub left: Vec<Left>,
     /// Whether a step may be made at each address of the memory. At the others none is ever made.
     pub executed: Vec<bool>,
+    /// The rows of the table by which all this was found.
+    pub(crate) rows: Vec<Row>,
+    /// The bytes that each byte of the memory may have, and then each flag register.
+    pub(crate) memory: Vec<u64>,
 }
 
 impl Facts {
@@ -73,7 +78,7 @@ pub fn facts_of(
 ) -> Result<Option<Facts>, AllocError>
     requires { length image.now ≤ IMAGE_BYTES }
     ensures { IfOk result (λ found. IfSome found (λ facts.
-        AreFacts image.now quirks facts.left.items facts.executed.items)) }
+        HoldFacts image.now quirks facts)) }
 {
     let Some(table) = find(alloc, image, quirks, most_steps)? else {
         return Ok(None);
@@ -82,11 +87,11 @@ pub fn facts_of(
         return Ok(None);
     }
     let executed = executed_in(alloc, &table.rows)?;
-    let Table {
-        rows: _,
-        heads: _,
-        memory: _,
+    let Table { rows, memory, left } = table;
+    Ok(Some(Facts {
         left,
-    } = table;
-    Ok(Some(Facts { left, executed }))
+        executed,
+        rows,
+        memory,
+    }))
 }

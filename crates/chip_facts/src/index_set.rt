@@ -4,17 +4,31 @@ ghost use Rattle.std.specs.Prelude.{◌≡◌, ◌<◌, ◌≤◌, ◌+◌, ◌*
 ghost use Rattle.chip_facts.specs.Sets.{Holds};
 ghost use Rattle.chip_facts.specs.inner.Indexes.{HoldsIndex};
 
-use crate::bits::{contains, insert};
+use crate::bits::{contains, insert, next};
 use crate::byte_set::{ByteSet, NONE, block, unite};
+use chip_lang::limits::MEMORY_BYTES;
+use chip_machine::limits::FLAGS;
 
-/// A set of values of I: address a at bit a, and all values past the memory at the last bit.
-pub(crate) type IndexSet = [u64; 65];
+/// How many words a set of values of I has.
+pub(crate) const INDEX_WORDS: usize = 65;
+
+/// A set of values of I: address a at bit a, and all values past the memory at the bit after those.
+pub(crate) type IndexSet = [u64; INDEX_WORDS];
+
+/// How many numbers fit into such a set.
+pub(crate) const NUMBERS: usize = 64 * INDEX_WORDS;
 
 /// Where the values past the memory stand.
-pub(crate) const PAST: usize = 4096;
+pub(crate) const PAST: usize = MEMORY_BYTES;
+
+/// How many bytes there are: those of the memory, and then the flag registers.
+pub(crate) const BYTES: usize = MEMORY_BYTES + FLAGS;
+
+/// The words of the sets of all bytes.
+pub(crate) const SETS_WORDS: usize = 4 * BYTES;
 
 /// No value.
-const NOWHERE: IndexSet = [0; 65];
+const NOWHERE: IndexSet = [0; INDEX_WORDS];
 
 /// One value.
 pub(crate) fn only(at: usize) -> IndexSet
@@ -32,12 +46,12 @@ pub(crate) fn digits(values: &ByteSet, first: usize, size: usize) -> IndexSet
     ensures { (b : ℕ) → b < 256 → Holds values.now b → HoldsIndex result (first + size * (b % 16)) }
 {
     let mut set = NOWHERE;
-    for b in 0..256 {
-        if contains(values, b) {
-            let at = first + size * (b % 16);
-            prove!(at < 4096);
-            insert(&mut set, at);
-        }
+    let mut b = next(values, 0);
+    while b < 256 {
+        let at = first + size * (b % 16);
+        prove!(at < PAST);
+        insert(&mut set, at);
+        b = next(values, b + 1);
     }
     set
 }
@@ -48,10 +62,10 @@ fn add_sums(set: &mut IndexSet, at: usize, values: &ByteSet)
     ensures kept { (n : ℕ) → Holds set.old n → Holds set.new n }
     ensures sums { (b : ℕ) → b < 256 → Holds values.now b → HoldsIndex set.new (at + b) }
 {
-    for b in 0..256 {
-        if contains(values, b) {
-            insert(set, (at + b).min(PAST));
-        }
+    let mut b = next(values, 0);
+    while b < 256 {
+        insert(set, (at + b).min(PAST));
+        b = next(values, b + 1);
     }
 }
 
@@ -78,10 +92,10 @@ pub(crate) fn sums(index: &IndexSet, values: &ByteSet) -> IndexSet
     } else {
         NOWHERE
     };
-    for at in 0..4096 {
-        if contains(index, at) {
-            add_sums(&mut set, at, values);
-        }
+    let mut at = next(index, 0);
+    while at < PAST {
+        add_sums(&mut set, at, values);
+        at = next(index, at + 1);
     }
     set
 }
@@ -104,26 +118,33 @@ pub(crate) fn fitting(index: &IndexSet, count: usize) -> Access
         → Holds result.set i × IsTrue result.any }
     ensures others { (i : ℕ) → i < 65536 → 4096 < i + count → HoldsIndex index.now i → IsTrue result.is_short }
 {
+    if next(index, PAST + 1 - count) > PAST {
+        return Access {
+            set: *index,
+            any: true,
+            is_short: false,
+        };
+    }
     let mut set = NOWHERE;
     let mut any = false;
-    let mut is_short = contains(index, PAST);
-    for at in 0..4096 {
-        if contains(index, at) {
-            if at + count <= 4096 {
-                insert(&mut set, at);
-                any = true;
-            } else {
-                is_short = true;
-            }
-        }
+    let mut at = next(index, 0);
+    while at <= PAST - count {
+        insert(&mut set, at);
+        any = true;
+        at = next(index, at + 1);
     }
-    Access { set, any, is_short }
+    Access {
+        set,
+        any,
+        is_short: true,
+    }
 }
 
 /// Parts the values of I from which at least the lesser number of bytes can be accessed from those from
 /// which the larger one can't. From each value no byte can be accessed.
 pub(crate) fn fitting_between(index: &IndexSet, least: usize, most: usize) -> Access
-    requires { most ≤ 32 }
+    requires few { least ≤ 32 }
+    requires most { most ≤ 32 }
     ensures none { least ≡ 0 → (i : ℕ) → Holds index.now i → Holds result.set i × IsTrue result.any }
     ensures fits { (i : ℕ) → 0 < least → i + least ≤ 4096 → Holds index.now i
         → Holds result.set i × IsTrue result.any }
@@ -131,7 +152,7 @@ pub(crate) fn fitting_between(index: &IndexSet, least: usize, most: usize) -> Ac
         → IsTrue result.is_short }
 {
     let is_short = most > 0 && fitting(index, most).is_short;
-    if least == 0 || least > most {
+    if least == 0 {
         return Access {
             set: *index,
             any: true,
@@ -148,16 +169,18 @@ pub(crate) fn fitting_between(index: &IndexSet, least: usize, most: usize) -> Ac
 
 /// The bytes that are at an offset from one of some addresses, by a row of sets.
 pub(crate) fn loaded(memory: &[u64], index: &IndexSet, offset: usize) -> ByteSet
-    requires size { length memory.now ≡ 16416 }
+    requires size { length memory.now ≡ SETS_WORDS }
     requires offset { offset < 16 }
     ensures { (i b : ℕ) → i ≤ 4096 → i + offset < 4104 → b < 256 → Holds index.now i
         → Holds memory.now (256 * (i + offset) + b) → Holds result b }
 {
     let mut set = NONE;
-    for at in 0..4097 {
-        if contains(index, at) && at + offset < 4104 {
+    let mut at = next(index, 0);
+    while at <= PAST {
+        if at + offset < BYTES {
             unite(&mut set, &block(memory, at + offset));
         }
+        at = next(index, at + 1);
     }
     set
 }

@@ -74,8 +74,8 @@ impl Known {
         self.put(15, values);
     }
 
-    /// What is known where a register gets what an operation makes of it and a byte of a set, and the
-    /// flag is this one. `None` where it never is.
+    /// The knowledge after an operation on a register and a byte of a set, if the flag is this one. `None` where
+    /// the flag never is.
     fn operated_with(
         &self,
         operation: Operation,
@@ -96,8 +96,8 @@ impl Known {
         Some(known)
     }
 
-    /// What is known where a register gets what an operation makes of it and a second one, of which
-    /// more is known then, and the flag is this one. `None` where it never is.
+    /// The knowledge after an operation on two registers, if the flag is this one. More is known of the second one
+    /// then, too. `None` where the flag never is.
     fn operated_by(&self, operation: Operation, flag: u8, x: Reg, y: Reg) -> Option<Known>
         ensures { (c : Core) → IsKnown self.now c → flag_of operation (reg c x) (reg c y) ≡ flag
             → MatchOption result ⊥
@@ -114,8 +114,8 @@ impl Known {
         Some(known)
     }
 
-    /// What is known where a register gets what an operation makes of it and a second byte, and the
-    /// flag is this one. `None` where it never is.
+    /// The knowledge after an operation on a register and a second byte, if the flag is this one. `None` where the
+    /// flag never is.
     pub(crate) fn operated(
         &self,
         operation: Operation,
@@ -135,7 +135,7 @@ impl Known {
         }
     }
 
-    /// Whether each core of which this is known is one of which the other is.
+    /// Whether the other knowledge holds of each core that this holds of.
     pub(crate) fn is_within(&self, other: &Known) -> bool
         ensures { IsTrue result → (c : Core) → IsKnown self.now c → IsKnown other.now c }
     {

@@ -14,9 +14,10 @@ mod proof;
 mod rows;
 mod table;
 mod transfer;
+mod view;
 
 // What finds a table promises nothing.
 mod finder;
 
 pub use facts::{Facts, facts_of};
-pub use table::Left;
+pub use table::{Left, Row};

@@ -1,11 +1,11 @@
 //! What instructions make of two bytes.
 
-ghost use Rattle.std.specs.Prelude.{◌≡◌, ◌<◌, ℕ, IsTrue};
+ghost use Rattle.std.specs.Prelude.{◌≡◌, ◌<◌, ℕ, IfSome, IsTrue};
 ghost use Rattle.chip_facts.specs.Sets.{Holds};
 ghost use Rattle.chip_facts.specs.inner.Operations.{value_of, flag_of, IsMade};
 
-use crate::bits::{contains, insert};
-use crate::byte_set::{ByteSet, NONE};
+use crate::bits::{contains, insert, next};
+use crate::byte_set::{ByteSet, NONE, lowered, raised, unite};
 
 /// What an instruction makes of the byte of a register and a second one.
 #[derive(Clone, Copy)]
@@ -27,6 +27,7 @@ pub(crate) enum Operation {
 }
 
 impl Operation {
+    #[inline]
     pub(crate) fn value(self, first: u8, second: u8) -> u8
         ensures { result ≡ value_of self first second }
     {
@@ -45,6 +46,7 @@ impl Operation {
     }
 
     /// What VF is after it, or whether the bytes are the same. 0 where an instruction sets no flag.
+    #[inline]
     pub(crate) fn flag(self, first: u8, second: u8) -> u8
         ensures { result ≡ flag_of self first second }
     {
@@ -70,7 +72,24 @@ pub(crate) struct Pairs {
     pub(crate) seconds: ByteSet,
 }
 
+/// What an operation makes of each byte of a set and a second one that give a flag, by a shift of the whole set.
+/// `None` for an operation that isn't one.
+fn made_at_once(operation: Operation, flag: u8, firsts: &ByteSet, second: u8) -> Option<ByteSet>
+    ensures { IfSome result (λ made. (a : ℕ) → a < 256 → Holds firsts.now a
+        → flag_of operation a second ≡ flag → Holds made (value_of operation a second)) }
+{
+    let by = second as usize;
+    match operation {
+        Operation::Add if flag == 0 => Some(raised(firsts, by)),
+        Operation::Add => Some(lowered(firsts, 256 - by)),
+        Operation::Subtract if flag == 0 => Some(raised(firsts, 256 - by)),
+        Operation::Subtract => Some(lowered(firsts, by)),
+        _ => None,
+    }
+}
+
 impl Pairs {
+    #[inline]
     fn add(&mut self, operation: Operation, flag: u8, first: u8, second: u8)
         ensures kept { (v b : ℕ) → IsMade self.old v b → IsMade self.new v b }
         ensures added { flag_of operation first second ≡ flag
@@ -83,22 +102,47 @@ impl Pairs {
         }
     }
 
-    fn add_all(&mut self, operation: Operation, flag: u8, first: u8, seconds: &ByteSet)
+    /// Adds the pairs of each byte of a set and a second one, one after another.
+    fn add_each(&mut self, operation: Operation, flag: u8, firsts: &ByteSet, second: u8)
         ensures kept { (v b : ℕ) → IsMade self.old v b → IsMade self.new v b }
-        ensures added { (b : ℕ) → b < 256 → Holds seconds.now b
-            → flag_of operation first b ≡ flag → IsMade self.new (value_of operation first b) b }
+        ensures added { (a : ℕ) → a < 256 → Holds firsts.now a → flag_of operation a second ≡ flag
+            → IsMade self.new (value_of operation a second) second }
     {
-        for b in 0..256u16 {
-            if contains(seconds, b as usize) {
-                self.add(operation, flag, first, b as u8);
-            }
+        let mut a = next(firsts, 0);
+        while a < 256 {
+            self.add(operation, flag, a as u8, second);
+            a = next(firsts, a + 1);
+        }
+    }
+
+    /// Adds values that were made with a second byte.
+    fn add_made(&mut self, made: &ByteSet, second: u8)
+        ensures kept { (v b : ℕ) → IsMade self.old v b → IsMade self.new v b }
+        ensures added { (v : ℕ) → v < 256 → Holds made.now v → IsMade self.new v second }
+    {
+        if next(made, 0) < 256 {
+            self.any = true;
+            unite(&mut self.values, made);
+            insert(&mut self.seconds, second as usize);
+        }
+    }
+
+    /// Adds the pairs of each byte of a set and a second one.
+    fn add_all(&mut self, operation: Operation, flag: u8, firsts: &ByteSet, second: u8)
+        ensures kept { (v b : ℕ) → IsMade self.old v b → IsMade self.new v b }
+        ensures added { (a : ℕ) → a < 256 → Holds firsts.now a → flag_of operation a second ≡ flag
+            → IsMade self.new (value_of operation a second) second }
+    {
+        match made_at_once(operation, flag, firsts, second) {
+            Some(made) => self.add_made(&made, second),
+            None => self.add_each(operation, flag, firsts, second),
         }
     }
 }
 
-/// What an operation makes of the pairs of two sets that give a flag. Where both bytes are those of
-/// one register, of pairs of a byte with itself.
-pub(crate) fn pairs_made(
+/// What an operation makes of the pairs of two sets that give a flag, of each pair. Where both bytes are the same,
+/// of pairs of a byte with itself.
+fn pairs_tried(
     operation: Operation,
     flag: u8,
     firsts: &ByteSet,
@@ -114,14 +158,55 @@ pub(crate) fn pairs_made(
         values: NONE,
         seconds: NONE,
     };
-    for a in 0..256u16 {
-        if contains(firsts, a as usize) {
-            if same {
-                made.add(operation, flag, a as u8, a as u8);
-            } else {
-                made.add_all(operation, flag, a as u8, seconds);
-            }
+    let mut b = next(seconds, 0);
+    while b < 256 {
+        if !same {
+            made.add_all(operation, flag, firsts, b as u8);
+        } else if contains(firsts, b) {
+            made.add(operation, flag, b as u8, b as u8);
         }
+        b = next(seconds, b + 1);
     }
     made
+}
+
+/// Whether a set has two bytes, and more.
+fn has_several(set: &ByteSet) -> bool {
+    next(set, next(set, 0).saturating_add(1)) < 256
+}
+
+/// What an operation makes of the pairs of two sets that give a flag. Where both bytes are those of
+/// one register, of pairs of a byte with itself.
+pub(crate) fn pairs_made(
+    operation: Operation,
+    flag: u8,
+    firsts: &ByteSet,
+    seconds: &ByteSet,
+    same: bool,
+) -> Pairs
+    ensures { (a b : ℕ) → a < 256 → b < 256 → Holds firsts.now a → Holds seconds.now b
+        → (IsTrue same → a ≡ b) → flag_of operation a b ≡ flag
+        → IsMade result (value_of operation a b) b }
+{
+    match operation {
+        Operation::Second => Pairs {
+            any: true,
+            values: *seconds,
+            seconds: *seconds,
+        },
+        Operation::Compare => {
+            if flag == 1 {
+                pairs_tried(operation, flag, firsts, seconds, true)
+            } else if !same && has_several(firsts) && has_several(seconds) {
+                Pairs {
+                    any: true,
+                    values: *firsts,
+                    seconds: *seconds,
+                }
+            } else {
+                pairs_tried(operation, flag, firsts, seconds, same)
+            }
+        }
+        _ => pairs_tried(operation, flag, firsts, seconds, same),
+    }
 }

@@ -1,4 +1,4 @@
-//! What a step may do, from a state of which something is known.
+//! What a step may do from a state, by what is known of the state.
 
 ghost use Rattle.std.specs.Prelude.{◌≡◌, [], ◌∷◌, ◌++◌, IfOk, None, Some, option_to_list};
 
@@ -12,7 +12,7 @@ use std::alloc::{AllocError, Global};
 #[derive(Clone, Copy)]
 pub(crate) enum Way {
     Same,
-    /// It has one return address more.
+    /// The call stack has one return address more.
     Call(u16),
     Return,
 }
@@ -42,7 +42,7 @@ pub(crate) struct Outcome {
 }
 
 impl Outcome {
-    /// It stops the machine.
+    /// The step stops the machine.
     pub(crate) fn stops(alloc: Global, why: Stop) -> Outcome
         ensures { result.stop ≡ Some why }
     {
@@ -53,7 +53,7 @@ impl Outcome {
         }
     }
 
-    /// It leads to one of these.
+    /// The step leads to one of these.
     pub(crate) fn leads(next: Vec<Successor>) -> Outcome
         ensures next { result.next ≡ next }
         ensures stored { result.stored ≡ None }
@@ -65,7 +65,7 @@ impl Outcome {
         }
     }
 
-    /// It leads there.
+    /// The step leads there.
     pub(crate) fn to(alloc: Global, successor: Successor) -> Result<Outcome, AllocError>
         ensures next { IfOk result (λ out. out.next.items ≡ successor ∷ []) }
         ensures stored { IfOk result (λ out. out.stored ≡ None) }
@@ -91,7 +91,7 @@ pub(crate) fn to_either(
     Ok(Outcome::leads(next))
 }
 
-/// Those that are there.
+/// The successors that are there, in order.
 pub(crate) fn both(
     alloc: Global,
     first: &Option<Successor>,

@@ -7,8 +7,8 @@ ghost use Rattle.chip_facts.specs.Reached.{IsReached};
 ghost use Rattle.chip_facts.specs.Sets.{Holds};
 ghost use Rattle.chip_facts.specs.inner.Tables.{IsClosed, IsHeld};
 
-use crate::accesses::SETS_WORDS;
 use crate::bits::contains;
+use crate::index_set::{BYTES, SETS_WORDS};
 use crate::known::Known;
 use crate::outcome::{Successor, Way};
 use crate::table::Table;
@@ -32,7 +32,7 @@ impl Table {
                 return false;
             }
         }
-        for at in MEMORY_BYTES..4104 {
+        for at in MEMORY_BYTES..BYTES {
             if !contains(&self.memory, 256 * at) {
                 return false;
             }
@@ -75,7 +75,7 @@ impl Table {
             way: Way::Same,
             known: Known::start(),
         };
-        if !self.has_memory(machine.memory()) || !self.has_row(&[], &start) {
+        if !self.has_memory(machine.memory()) || !self.has_row(&[0], &[], &start) {
             return Ok(false);
         }
         self.is_closed(alloc, quirks)

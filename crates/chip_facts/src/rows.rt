@@ -46,7 +46,7 @@ impl Before<'_> {
         known
     }
 
-    /// It goes on to the next instruction, where this is known.
+    /// The next instruction follows, where this is known.
     pub(crate) fn on(&self, alloc: Global, known: Known) -> Result<Outcome, AllocError>
         requires { self.now.pc < 4095 }
         ensures { IfOk result (λ out. (s : State) (new : Core) → IsAt self.now s

@@ -11,9 +11,9 @@ ghost use Rattle.chip_facts.specs.inner.Steps.{IsNext, IsStored, Meets, frames_b
 ghost use Rattle.chip_facts.specs.inner.Tables.{IsAllowed, IsClosed, IsInTable};
 ghost use Rattle.chip_facts.specs.inner.Transfer.{IsAt};
 
-use crate::accesses::SETS_WORDS;
-use crate::bits::{contains, is_within};
+use crate::bits::{is_within, next};
 use crate::byte_set::block;
+use crate::index_set::{BYTES, NUMBERS, SETS_WORDS};
 use crate::known::Known;
 use crate::outcome::{Outcome, Stored, Successor, Way};
 use crate::transfer::Before;
@@ -32,23 +32,18 @@ pub struct Left {
 
 /// What is known where the machine is at an address with a call stack.
 #[derive(Drop)]
-pub(crate) struct Row {
+pub struct Row {
     pub(crate) pc: u16,
     pub(crate) frames: Vec<u16>,
     pub(crate) known: Known,
-    /// The number of another row at the address, or `NO_ROW`. Nothing but speed rests on it.
-    pub(crate) other: u32,
+    /// The numbers of the rows that steps from it lead to.
+    pub(crate) leads: Vec<u32>,
 }
 
-/// The number of no row.
-pub(crate) const NO_ROW: u32 = u32::MAX;
-
-/// What is said of all states that are reached.
+/// What holds of all states that are reached.
 #[derive(Drop)]
 pub(crate) struct Table {
     pub(crate) rows: Vec<Row>,
-    /// The number of a row at each address, or `NO_ROW`. Nothing but speed rests on it.
-    pub(crate) heads: Vec<u32>,
     /// The bytes that each byte of the memory may have, and then each flag register.
     pub(crate) memory: Vec<u64>,
     pub(crate) left: Vec<Left>,
@@ -73,7 +68,7 @@ fn are_frames(then: &[u16], way: Way, frames: &[u16]) -> bool
 
 impl Table {
     /// Whether a stop is one of those that are left.
-    fn has_left(&self, pc: u16, stop: Stop) -> bool
+    pub(crate) fn has_left(&self, pc: u16, stop: Stop) -> bool
         ensures { IsTrue result → Contains self.now.left.items (record { pc = pc; stop = stop }) }
     {
         for left in &self.left {
@@ -84,17 +79,13 @@ impl Table {
         false
     }
 
-    /// Whether there is a row for where a step leads.
-    pub(crate) fn has_row(&self, frames: &[u16], successor: &Successor) -> bool
+    /// Whether one of some rows is there for where a step leads.
+    pub(crate) fn has_row(&self, leads: &[u32], frames: &[u16], successor: &Successor) -> bool
         ensures { IsTrue result → (c : Core) → IsNext frames.now c successor.now
             → IsInTable self.now.rows.items c }
     {
-        let mut number = match self.heads.get(successor.pc as usize) {
-            Some(head) => *head,
-            None => NO_ROW,
-        };
-        for _ in 0..self.rows.len() {
-            let Some(row) = self.rows.get(number as usize) else {
+        for number in leads {
+            let Some(row) = self.rows.get(*number as usize) else {
                 return false;
             };
             if row.pc == successor.pc
@@ -103,7 +94,6 @@ impl Table {
             {
                 return true;
             }
-            number = row.other;
         }
         false
     }
@@ -114,7 +104,7 @@ impl Table {
         ensures { IsTrue result → (b : ℕ) → Holds values.now b
             → (b < 256) × Holds self.now.memory.items (256 * at + b) }
     {
-        at < 4104 && is_within(values, &block(&self.memory, at))
+        at < BYTES && is_within(values, &block(&self.memory, at))
     }
 
     /// Whether the bytes of the memory may be those that a step stores.
@@ -123,14 +113,14 @@ impl Table {
         ensures { IsTrue result → (at byte : ℕ) → IsStored stored.now at byte
             → (byte < 256) × Holds self.now.memory.items (256 * at + byte) }
     {
-        for from in 0..64 * 65 {
-            if contains(&stored.at, from) {
-                for place in 0..stored.values.len() {
-                    if !self.has_bytes(from + place, &stored.values[place]) {
-                        return false;
-                    }
+        let mut from = next(&stored.at, 0);
+        while from < NUMBERS {
+            for place in 0..stored.values.len() {
+                if !self.has_bytes(from + place, &stored.values[place]) {
+                    return false;
                 }
             }
+            from = next(&stored.at, from + 1);
         }
         true
     }
@@ -158,21 +148,21 @@ impl Table {
         }
     }
 
-    /// Whether there are rows for all where a step leads.
-    fn has_next(&self, frames: &[u16], next: &[Successor]) -> bool
+    /// Whether some rows are there for all where a step leads.
+    fn has_next(&self, leads: &[u32], frames: &[u16], next: &[Successor]) -> bool
         ensures { IsTrue result → (c : Core) → Any (IsNext frames.now c) next.now
             → IsInTable self.now.rows.items c }
     {
         for successor in next {
-            if !self.has_row(frames, successor) {
+            if !self.has_row(leads, frames, successor) {
                 return false;
             }
         }
         true
     }
 
-    /// Whether all that a step may do is in the table.
-    fn has_outcome(&self, before: &Before<'_>, out: &Outcome) -> bool
+    /// Whether all that a step may do is in the table, in these rows.
+    fn has_outcome(&self, before: &Before<'_>, leads: &[u32], out: &Outcome) -> bool
         requires { length self.now.memory.items ≡ SETS_WORDS }
         ensures { IsTrue result → before.now.memory.now ≡ self.now.memory.items
             → (s : State) → IsAt before.now s → (ended : Result State Stop)
@@ -181,11 +171,17 @@ impl Table {
     {
         self.has_stop(before.pc, out.stop)
             && self.has_changes(&out.stored)
-            && self.has_next(before.frames, &out.next)
+            && self.has_next(leads, before.frames, &out.next)
     }
 
-    /// Whether all that a word may do is in the table.
-    fn has_word(&self, alloc: Global, before: &Before<'_>, word: u16) -> Result<bool, AllocError>
+    /// Whether all that a word may do is in the table, in these rows.
+    fn has_word(
+        &self,
+        alloc: Global,
+        before: &Before<'_>,
+        leads: &[u32],
+        word: u16,
+    ) -> Result<bool, AllocError>
         requires size { length self.now.memory.items ≡ SETS_WORDS }
         requires same { before.now.memory.now ≡ self.now.memory.items }
         requires pc { before.now.pc < 4095 }
@@ -196,7 +192,7 @@ impl Table {
         match decode(word) {
             Some(instr) => {
                 let out = before.execute(alloc, instr)?;
-                Ok(self.has_outcome(before, &out))
+                Ok(self.has_outcome(before, leads, &out))
             }
             None => Ok(self.has_left(before.pc, Stop::NoInstruction)),
         }
@@ -225,19 +221,22 @@ impl Table {
         };
         let highs = block(&self.memory, pc);
         let lows = block(&self.memory, pc + 1);
-        for high in 0..256u16 {
-            if contains(&highs, high as usize) && !self.has_words(alloc, &before, high, &lows)? {
+        let mut high = next(&highs, 0);
+        while high < 256 {
+            if !self.has_words(alloc, &before, &row.leads, high as u16, &lows)? {
                 return Ok(false);
             }
+            high = next(&highs, high + 1);
         }
         Ok(true)
     }
 
-    /// Whether all that the words with a high byte may do is in the table.
+    /// Whether all that the words with a high byte may do is in the table, in these rows.
     fn has_words(
         &self,
         alloc: Global,
         before: &Before<'_>,
+        leads: &[u32],
         high: u16,
         lows: &[u64; 4],
     ) -> Result<bool, AllocError>
@@ -250,10 +249,12 @@ impl Table {
             → IsAllowed self.now before.now.quirks before.now.pc
             (perform keys s (effect_of_word (decode_of (high * 256 + low)) s.core))) }
     {
-        for low in 0..256u16 {
-            if contains(lows, low as usize) && !self.has_word(alloc, before, high * 256 + low)? {
+        let mut low = next(lows, 0);
+        while low < 256 {
+            if !self.has_word(alloc, before, leads, high * 256 + low as u16)? {
                 return Ok(false);
             }
+            low = next(lows, low + 1);
         }
         Ok(true)
     }

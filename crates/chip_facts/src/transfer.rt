@@ -1,4 +1,4 @@
-//! What each instruction may do, from a state of which something is known.
+//! What each instruction may do from a state, by what is known of the state.
 
 ghost use Rattle.std.specs.Prelude.{◌≡◌, ◌<◌, ◌+◌, ◌==◌, ℕ, not, length, IfOk, if◌then◌else◌, MatchOption};
 ghost use Rattle.chip_machine.specs.State.{Core, State};
@@ -8,10 +8,9 @@ ghost use Rattle.chip_facts.specs.inner.Operations.{value_of, flag_of};
 ghost use Rattle.chip_facts.specs.inner.Steps.{IsNext};
 ghost use Rattle.chip_facts.specs.inner.Transfer.{Gives, IsAt};
 
-use crate::accesses::SETS_WORDS;
 use crate::bits::contains;
 use crate::byte_set::{block, masked, single, up_to};
-use crate::index_set::only;
+use crate::index_set::{SETS_WORDS, only};
 use crate::known::{Known, Second};
 use crate::operation::Operation;
 use crate::outcome::{Outcome, Successor, Way, both};

@@ -3,51 +3,91 @@
 ghost use Rattle.std.specs.Prelude.{◌≤◌, length};
 ghost use Rattle.chip_lang.specs.declared.limits.TheConstants.{IMAGE_BYTES};
 
-use crate::accesses::SETS_WORDS;
-use crate::bits::{contains, insert};
-use crate::byte_set::{ByteSet, block};
+use crate::bits::{insert, next};
+use crate::byte_set::{ByteSet, block, single};
+use crate::finder::index::{Index, MOST_ROWS, Place};
+use crate::finder::stacks::Stacks;
+use crate::finder::waiting::Waiting;
 use crate::finder::widening::{hurry, marks_of, widen};
+use crate::index_set::{BYTES, INDEX_WORDS, IndexSet, PAST, SETS_WORDS};
 use crate::known::Known;
 use crate::outcome::{Outcome, Stored, Successor, Way};
-use crate::table::{Left, NO_ROW, Row, Table};
+use crate::table::{Left, Row, Table};
 use crate::transfer::Before;
-use chip_lang::instr::decode;
+use chip_lang::instr::{Instr, decode};
 use chip_lang::limits::{IMAGE_BYTES, IMAGE_START, MEMORY_BYTES};
 use chip_machine::limits::LAST_WORD;
 use chip_machine::{Machine, Quirks, Stop};
 use std::alloc::{AllocError, Global};
 
-/// How many addresses rows may be at: those of the memory, and where a jump by a register may lead.
-const PLACES: usize = MEMORY_BYTES + 512;
-
 /// How often a row is joined before its sets grow to the next constant of the program.
 const PATIENCE: u32 = 8;
 
+/// How many words may stand at an address of the code.
+const MOST_WORDS: u32 = 256;
+
+/// How many rows at one address are told apart by I where loops are unrolled.
+const MOST_TURNS: u16 = 256;
+
+/// How a search goes.
+#[derive(Clone, Copy)]
+struct Manner {
+    /// Sets grow to the next constant of the program once a row has grown often.
+    hurries: bool,
+    /// Rows are told apart by I where it has one value, so that each turn of a loop that moves I has its own.
+    unrolls: bool,
+}
+
+/// The manners that are tried, one after another, as long as a crash is left. A hurried search ends soon, but
+/// its sets may grow too far.
+const MANNERS: [Manner; 3] = [
+    Manner {
+        hurries: true,
+        unrolls: false,
+    },
+    Manner {
+        hurries: false,
+        unrolls: false,
+    },
+    Manner {
+        hurries: true,
+        unrolls: true,
+    },
+];
+
+/// What a search notes of a row beside what the table has.
+#[derive(Clone, Copy)]
+struct Note {
+    /// The number of its call stack.
+    stack: u32,
+    /// How often it has grown.
+    joins: u32,
+    /// The least and the greatest of the addresses that its steps load bytes from. None if the least is the larger one.
+    least: usize,
+    greatest: usize,
+}
+
 /// A table that is being made.
 #[derive(Drop)]
-struct Search {
+pub(crate) struct Search {
     alloc: Global,
     quirks: Quirks,
-    table: Table,
-    /// Whether each row waits to be stepped from.
-    waiting: Vec<bool>,
-    /// How often each row has grown.
-    joins: Vec<u32>,
-    /// Whether a row waits at each address.
-    has_waiting: Vec<bool>,
-    /// The least address at which a row may wait.
-    least: usize,
-    /// The addresses of bytes that have grown since rows that load bytes were stepped from.
-    has_grown: bool,
-    /// The constants of the program, and their neighbours.
-    marks: ByteSet,
-    most_rows: usize,
+    pub(crate) table: Table,
+    notes: Vec<Note>,
+    index: Index,
+    stacks: Stacks,
+    waiting: Waiting,
+    /// The addresses of bytes that have grown since the rows that ask for them were last said to wait.
+    grown: IndexSet,
+    /// The constants of the program, and their neighbours, up to which sets grow in a hurry. `None` without hurry.
+    marks: Option<ByteSet>,
+    /// How many rows at each address are told apart by I. Empty where loops aren't unrolled.
+    turns: Vec<u16>,
 }
 
 /// What VF tells rows at one place apart by: 0, 1, or anything else.
-fn label(known: &Known) -> u8 {
-    let flags = block(&known.registers, 15);
-    match flags {
+fn label(known: &Known) -> u32 {
+    match block(&known.registers, 15) {
         [1, 0, 0, 0] => 0,
         [2, 0, 0, 0] => 1,
         _ => 2,
@@ -70,56 +110,53 @@ fn frames_after(alloc: Global, frames: &[u16], way: Way) -> Result<Vec<u16>, All
     }
 }
 
+/// The only address of a set, if it has no other number.
+fn only_address(set: &IndexSet) -> Option<u32> {
+    let first = next(set, 0);
+    let is_alone = first < PAST && next(set, first + 1) > PAST;
+    is_alone.then_some(first as u32)
+}
+
 /// How many bytes a set has.
-fn count(set: &ByteSet) -> usize {
-    let mut count = 0;
-    for byte in 0..256 {
-        if contains(set, byte) {
-            count = usize::saturating_add(count, 1);
-        }
+fn count(set: &ByteSet) -> u32 {
+    let mut count: u32 = 0;
+    for word in set {
+        count = count.saturating_add(word.count_ones());
     }
     count
+}
+
+/// The greatest number of a set, or 0.
+fn last(set: &IndexSet) -> usize {
+    for back in 0..INDEX_WORDS {
+        let word = set[INDEX_WORDS - 1 - back];
+        if word != 0 {
+            return (64 * (INDEX_WORDS - back) - 1).saturating_sub(word.leading_zeros() as usize);
+        }
+    }
+    0
+}
+
+/// The least and the greatest of the addresses that an instruction loads bytes from.
+fn loaded_from(instr: Instr, index: &IndexSet) -> (usize, usize) {
+    match instr {
+        Instr::LoadRegisters(x) => (
+            next(index, 0),
+            last(index).saturating_add(x.number() as usize),
+        ),
+        Instr::LoadFlags(_) => (PAST, BYTES),
+        _ => (BYTES, 0),
+    }
 }
 
 impl Search {
     /// A row waits to be stepped from.
     fn wait(&mut self, number: usize) {
-        let Some(row) = self.table.rows.get(number) else {
-            return;
-        };
-        let pc = row.pc as usize;
-        if let Some(waiting) = self.waiting.get_mut(number) {
-            *waiting = true;
+        if let Some(row) = self.table.rows.get(number)
+            && let Ok(number) = u32::try_from(number)
+        {
+            self.waiting.put(row.pc, number);
         }
-        if let Some(place) = self.has_waiting.get_mut(pc) {
-            *place = true;
-        }
-        self.least = self.least.min(pc);
-    }
-
-    /// The first row at an address.
-    fn head(&self, pc: usize) -> u32 {
-        match self.table.heads.get(pc) {
-            Some(head) => *head,
-            None => NO_ROW,
-        }
-    }
-
-    /// The row for where a step leads, if there is one.
-    fn row_for(&self, successor: &Successor, frames: &[u16]) -> Option<usize> {
-        let wanted = label(&successor.known);
-        let mut number = self.head(successor.pc as usize);
-        for _ in 0..self.table.rows.len() {
-            let row = self.table.rows.get(number as usize)?;
-            if row.pc == successor.pc
-                && row.frames.as_slice() == frames
-                && label(&row.known) == wanted
-            {
-                return Some(number as usize);
-            }
-            number = row.other;
-        }
-        None
     }
 
     /// Puts more into a row.
@@ -130,54 +167,117 @@ impl Search {
         if known.is_within(&row.known) {
             return;
         }
-        let old = row.known;
+        let old = row.known.registers;
         widen(&mut row.known, known);
-        if let Some(joins) = self.joins.get_mut(number) {
-            *joins = joins.saturating_add(1);
-            if *joins > PATIENCE {
-                hurry(&mut row.known, &old, &self.marks);
+        if let Some(note) = self.notes.get_mut(number) {
+            note.joins = note.joins.saturating_add(1);
+            if let Some(marks) = &self.marks
+                && note.joins > PATIENCE
+            {
+                hurry(&mut row.known, &old, marks);
             }
         }
         self.wait(number);
     }
 
-    /// Makes a row of where a step leads, or puts it into the one that is there. Whether there is room.
-    fn lead(&mut self, successor: &Successor, frames: &[u16]) -> Result<bool, AllocError> {
-        let frames = frames_after(self.alloc, frames, successor.way)?;
-        if let Some(number) = self.row_for(successor, &frames) {
-            self.join(number, &successor.known);
-            return Ok(true);
-        }
+    /// Makes a row, which waits. Its number, or nothing where there is no room.
+    fn add_row(
+        &mut self,
+        place: Place,
+        frames: Vec<u16>,
+        known: &Known,
+    ) -> Result<Option<u32>, AllocError> {
         let number = self.table.rows.len();
-        if number >= self.most_rows || number >= NO_ROW as usize {
-            return Ok(false);
+        if number >= MOST_ROWS {
+            return Ok(None);
         }
-        let pc = successor.pc;
-        let row = Row {
-            pc,
+        self.index.insert(place, number as u32);
+        self.table.rows.push(Row {
+            pc: place.pc,
             frames,
-            known: successor.known,
-            other: self.head(pc as usize),
-        };
-        self.table.rows.push(row)?;
-        self.waiting.push(false)?;
-        self.joins.push(0)?;
-        match self.table.heads.get_mut(pc as usize) {
-            Some(head) => *head = number as u32,
-            None => return Ok(false),
-        }
+            known: *known,
+            leads: Vec::new(self.alloc),
+        })?;
+        self.notes.push(Note {
+            stack: place.stack,
+            joins: 0,
+            least: BYTES,
+            greatest: 0,
+        })?;
+        self.waiting.add()?;
         self.wait(number);
+        Ok(Some(number as u32))
+    }
+
+    /// Where the row for a step's end is, with the number of its call stack.
+    fn place_of(&mut self, stack: u32, successor: &Successor) -> Place {
+        let flag = label(&successor.known);
+        let mut place = Place {
+            pc: successor.pc,
+            stack,
+            label: flag,
+        };
+        let Some(turns) = self.turns.get_mut(successor.pc as usize) else {
+            return place;
+        };
+        if let Some(address) = only_address(&successor.known.index) {
+            // 0 to 2 are the labels without an address.
+            place.label = address
+                .saturating_add(1)
+                .saturating_mul(4)
+                .saturating_add(flag);
+            if self.index.get(&place).is_none() {
+                if *turns == MOST_TURNS {
+                    place.label = flag;
+                } else {
+                    *turns = turns.saturating_add(1);
+                }
+            }
+        }
+        place
+    }
+
+    /// The row for where a step from a row leads, after that was put into it. Nothing where there is no room.
+    fn row_for(&mut self, from: usize, successor: &Successor) -> Result<Option<u32>, AllocError> {
+        let Some(note) = self.notes.get(from) else {
+            return Ok(None);
+        };
+        let Some(stack) = self.stacks.after(note.stack, successor.way)? else {
+            return Ok(None);
+        };
+        let place = self.place_of(stack, successor);
+        if let Some(number) = self.index.get(&place) {
+            self.join(number as usize, &successor.known);
+            return Ok(Some(number));
+        }
+        let Some(row) = self.table.rows.get(from) else {
+            return Ok(None);
+        };
+        let frames = frames_after(self.alloc, &row.frames, successor.way)?;
+        self.add_row(place, frames, &successor.known)
+    }
+
+    /// Takes over where a step from a row leads. Whether there is room.
+    fn lead(&mut self, from: usize, successor: &Successor) -> Result<bool, AllocError> {
+        let Some(number) = self.row_for(from, successor)? else {
+            return Ok(false);
+        };
+        if let Some(row) = self.table.rows.get_mut(from)
+            && !row.leads.contains(&number)
+        {
+            row.leads.push(number)?;
+        }
         Ok(true)
     }
 
     /// Puts into the memory what a step stores.
     fn store(&mut self, stored: &Stored) {
-        for from in 0..MEMORY_BYTES + 1 {
-            if contains(&stored.at, from) {
-                for place in 0..stored.values.len() {
-                    self.store_at(from.saturating_add(place), &stored.values[place]);
-                }
+        let mut from = next(&stored.at, 0);
+        while from <= PAST {
+            for place in 0..stored.values.len() {
+                self.store_at(from.saturating_add(place), &stored.values[place]);
             }
+            from = next(&stored.at, from + 1);
         }
     }
 
@@ -189,59 +289,60 @@ impl Search {
                 let more = *bits | values[word];
                 if more != *bits {
                     *bits = more;
-                    self.has_grown = true;
+                    if at < BYTES {
+                        insert(&mut self.grown, at);
+                    }
                 }
             }
         }
     }
 
-    /// Notes a stop.
+    /// Notes a stop among those before it, in the order of their addresses.
     fn stop(&mut self, pc: u16, stop: Stop) -> Result<(), AllocError> {
-        for left in &self.table.left {
-            if left.pc == pc && left.stop == stop {
-                return Ok(());
-            }
+        if self.table.has_left(pc, stop) {
+            return Ok(());
         }
-        self.table.left.push(Left { pc, stop })?;
+        let left = &mut self.table.left;
+        match left.iter().position(|other| pc < other.pc) {
+            Some(place) => left.insert(place, Left { pc, stop })?,
+            None => left.push(Left { pc, stop })?,
+        }
         Ok(())
     }
 
-    /// What a word may do where this is known, or nothing if it is not an instruction.
-    fn outcome_of(
-        &self,
-        pc: u16,
-        frames: &[u16],
-        known: &Known,
-        word: u16,
-    ) -> Result<Option<Outcome>, AllocError> {
-        if pc as usize > LAST_WORD || self.table.memory.len() != SETS_WORDS {
+    /// What an instruction may do from a row.
+    fn outcome_of(&self, row: &Row, instr: Instr) -> Result<Option<Outcome>, AllocError> {
+        if row.pc as usize > LAST_WORD || self.table.memory.len() != SETS_WORDS {
             return Ok(None);
         }
         let before = Before {
             memory: &self.table.memory,
             quirks: self.quirks,
-            pc,
-            frames,
-            known: *known,
+            pc: row.pc,
+            frames: &row.frames,
+            known: row.known,
         };
-        match decode(word) {
-            Some(instr) => Ok(Some(before.execute(self.alloc, instr)?)),
-            None => Ok(None),
-        }
+        Ok(Some(before.execute(self.alloc, instr)?))
     }
 
-    /// Takes over what a word may do. Whether there is room.
-    fn take(
-        &mut self,
-        pc: u16,
-        frames: &[u16],
-        known: &Known,
-        word: u16,
-    ) -> Result<bool, AllocError> {
-        let Some(out) = self.outcome_of(pc, frames, known, word)? else {
+    /// Takes over what a word may do from a row. Whether there is room.
+    fn take(&mut self, number: usize, word: u16) -> Result<bool, AllocError> {
+        let Some(row) = self.table.rows.get(number) else {
+            return Ok(true);
+        };
+        let pc = row.pc;
+        let Some(instr) = decode(word) else {
             self.stop(pc, Stop::NoInstruction)?;
             return Ok(true);
         };
+        let Some(out) = self.outcome_of(row, instr)? else {
+            return Ok(false);
+        };
+        let (least, greatest) = loaded_from(instr, &row.known.index);
+        if let Some(note) = self.notes.get_mut(number) {
+            note.least = note.least.min(least);
+            note.greatest = note.greatest.max(greatest);
+        }
         if let Some(stop) = out.stop {
             self.stop(pc, stop)?;
         }
@@ -249,7 +350,7 @@ impl Search {
             self.store(stored);
         }
         for successor in &out.next {
-            if !self.lead(successor, frames)? {
+            if !self.lead(number, successor)? {
                 return Ok(false);
             }
         }
@@ -258,11 +359,11 @@ impl Search {
 
     /// The set of the byte at an address.
     fn bytes_at(&self, at: usize) -> ByteSet {
-        let mut set = [0; 4];
         if at < MEMORY_BYTES && self.table.memory.len() == SETS_WORDS {
-            set = block(&self.table.memory, at);
+            block(&self.table.memory, at)
+        } else {
+            [0; 4]
         }
-        set
     }
 
     /// Steps from a row. Whether there is room for where that leads.
@@ -271,80 +372,68 @@ impl Search {
             return Ok(true);
         };
         let pc = row.pc;
-        let known = row.known;
-        let frames = Vec::from_slice(self.alloc, &row.frames)?;
         if pc as usize > LAST_WORD {
             self.stop(pc, Stop::PcOutOfRange)?;
             return Ok(true);
         }
         let highs = self.bytes_at(pc as usize);
         let lows = self.bytes_at(pc as usize + 1);
-        if count(&highs).saturating_mul(count(&lows)) > 256 {
+        if count(&highs).saturating_mul(count(&lows)) > MOST_WORDS {
             return Ok(false);
         }
-        for high in 0..256u16 {
-            for low in 0..256u16 {
-                if contains(&highs, high as usize)
-                    && contains(&lows, low as usize)
-                    && !self.take(pc, &frames, &known, high * 256 + low)?
-                {
+        let mut high = next(&highs, 0);
+        while high < 256 {
+            let mut low = next(&lows, 0);
+            while low < 256 {
+                if !self.take(number, (high * 256 + low) as u16)? {
                     return Ok(false);
                 }
+                low = next(&lows, low + 1);
             }
+            high = next(&highs, high + 1);
         }
         Ok(true)
     }
 
-    /// A row that waits at an address, which doesn't wait then any more.
-    fn waiting_at(&mut self, pc: usize) -> Option<usize> {
-        let mut number = self.head(pc);
-        for _ in 0..self.table.rows.len() {
-            if let Some(waiting) = self.waiting.get_mut(number as usize)
-                && *waiting
-            {
-                *waiting = false;
-                return Some(number as usize);
-            }
-            number = self.table.rows.get(number as usize)?.other;
-        }
-        None
+    /// Whether a row asks for a byte that has grown, one of its word or one that it loads.
+    fn asks_for_grown(&self, number: usize) -> bool {
+        let Some(row) = self.table.rows.get(number) else {
+            return false;
+        };
+        let Some(note) = self.notes.get(number) else {
+            return false;
+        };
+        next(&self.grown, row.pc as usize) <= row.pc as usize + 1
+            || next(&self.grown, note.least) <= note.greatest
     }
 
-    /// The next row that waits, at the least address.
-    fn next_waiting(&mut self) -> Option<usize> {
-        for pc in self.least..PLACES {
-            self.least = pc;
-            if let Some(place) = self.has_waiting.get(pc)
-                && *place
-            {
-                if let Some(number) = self.waiting_at(pc) {
-                    return Some(number);
-                }
-                if let Some(place) = self.has_waiting.get_mut(pc) {
-                    *place = false;
-                }
+    /// The rows that ask for a byte that has grown wait again. Whether some byte has.
+    fn wait_for_grown(&mut self) -> bool {
+        if next(&self.grown, 0) >= BYTES {
+            return false;
+        }
+        for number in 0..self.table.rows.len() {
+            if self.asks_for_grown(number) {
+                self.wait(number);
             }
         }
-        None
+        self.grown = [0; INDEX_WORDS];
+        true
     }
 
-    /// Steps from all rows that wait, until none does. Whether that ended within a number of steps, and
-    /// within the room that there is.
+    /// Steps from all rows that wait, until none does. Whether that ended within a number of steps, and within
+    /// the room that there is.
     fn run(&mut self, most_steps: usize) -> Result<bool, AllocError> {
         for _ in 0..most_steps {
-            match self.next_waiting() {
+            match self.waiting.take() {
                 Some(number) => {
-                    if !self.step_from(number)? {
+                    if !self.step_from(number as usize)? {
                         return Ok(false);
                     }
                 }
                 None => {
-                    if !self.has_grown {
+                    if !self.wait_for_grown() {
                         return Ok(true);
-                    }
-                    self.has_grown = false;
-                    for number in 0..self.table.rows.len() {
-                        self.wait(number);
                     }
                 }
             }
@@ -357,8 +446,8 @@ impl Search {
         alloc: Global,
         image: &[u8],
         quirks: Quirks,
-        most_rows: usize,
-    ) -> Result<Option<Search>, AllocError>
+        manner: Manner,
+    ) -> Result<Search, AllocError>
         requires { length image.now ≤ IMAGE_BYTES }
     {
         let Ok(machine) = Machine::start(alloc, image, &[0], quirks) else {
@@ -366,7 +455,6 @@ impl Search {
         };
         let table = Table {
             rows: Vec::new(alloc),
-            heads: vec![in alloc; NO_ROW; PLACES]?,
             memory: vec![in alloc; 0; SETS_WORDS]?,
             left: Vec::new(alloc),
         };
@@ -374,39 +462,65 @@ impl Search {
             alloc,
             quirks,
             table,
-            waiting: Vec::new(alloc),
-            joins: Vec::new(alloc),
-            has_waiting: vec![in alloc; false; PLACES]?,
-            least: 0,
-            has_grown: false,
-            marks: marks_of(image),
-            most_rows,
+            notes: Vec::new(alloc),
+            index: Index::new(alloc)?,
+            stacks: Stacks::new(alloc)?,
+            waiting: Waiting::new(alloc)?,
+            grown: [0; INDEX_WORDS],
+            marks: manner.hurries.then(|| marks_of(image)),
+            turns: if manner.unrolls {
+                vec![in alloc; 0; MEMORY_BYTES]?
+            } else {
+                Vec::new(alloc)
+            },
         };
         for (at, byte) in machine.memory().iter().enumerate() {
-            let mut set = [0; 4];
-            insert(&mut set, *byte as usize);
-            search.store_at(at, &set);
+            search.store_at(at, &single(*byte));
         }
-        for at in MEMORY_BYTES..MEMORY_BYTES + 8 {
-            search.store_at(at, &[1, 0, 0, 0]);
+        for at in MEMORY_BYTES..BYTES {
+            search.store_at(at, &single(0));
         }
-        let start = Successor {
+        search.grown = [0; INDEX_WORDS];
+        let start = Place {
             pc: IMAGE_START as u16,
-            way: Way::Same,
-            known: Known::start(),
+            stack: 0,
+            label: label(&Known::start()),
         };
-        if !search.lead(&start, &[])? {
-            return Ok(None);
-        }
-        search.has_grown = false;
-        Ok(Some(search))
+        search.add_row(start, Vec::new(alloc), &Known::start())?;
+        Ok(search)
     }
 }
 
-/// How many rows a table may have.
-const MOST_ROWS: usize = 20_000;
+/// The table of a search that ended.
+fn table_of(search: Search) -> Table {
+    let Search {
+        alloc: _,
+        quirks: _,
+        table,
+        notes: _,
+        index: _,
+        stacks: _,
+        waiting: _,
+        grown: _,
+        marks: _,
+        turns: _,
+    } = search;
+    table
+}
 
-/// A table for an image, if one is found within a number of steps.
+/// How many of the stops that a table leaves are crashes.
+fn crashes(table: &Table) -> usize {
+    let mut count: usize = 0;
+    for left in &table.left {
+        if left.stop != Stop::Exit {
+            count = count.saturating_add(1);
+        }
+    }
+    count
+}
+
+/// A table for an image, if the first manner finds one within a number of steps: the one that leaves the fewest
+/// crashes.
 pub(crate) fn find(
     alloc: Global,
     image: &[u8],
@@ -415,23 +529,20 @@ pub(crate) fn find(
 ) -> Result<Option<Table>, AllocError>
     requires { length image.now ≤ IMAGE_BYTES }
 {
-    let Some(mut search) = Search::new(alloc, image, quirks, MOST_ROWS)? else {
-        return Ok(None);
-    };
-    if !search.run(most_steps)? {
-        return Ok(None);
+    let mut best = None;
+    let mut fewest = usize::MAX;
+    for manner in MANNERS {
+        let mut search = Search::new(alloc, image, quirks, manner)?;
+        if search.run(most_steps)? {
+            let left = crashes(&search.table);
+            if left < fewest {
+                fewest = left;
+                best = Some(table_of(search));
+            }
+        }
+        if best.is_none() || fewest == 0 {
+            break;
+        }
     }
-    let Search {
-        alloc: _,
-        quirks: _,
-        table,
-        waiting: _,
-        joins: _,
-        has_waiting: _,
-        least: _,
-        has_grown: _,
-        marks: _,
-        most_rows: _,
-    } = search;
-    Ok(Some(table))
+    Ok(best)
 }

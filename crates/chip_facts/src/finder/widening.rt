@@ -1,8 +1,11 @@
 //! How sets grow: what is known is joined, and let grow on where it grows again and again.
 
-use crate::bits::{contains, insert};
+use crate::bits::{contains, insert, next};
 use crate::byte_set::{ByteSet, block};
 use crate::known::Known;
+
+/// How far apart two bytes of a set may lie that is taken to grow by such steps.
+const MOST_DISTANCE: usize = 64;
 
 /// The constants of the instructions of an image, and their neighbours.
 pub(crate) fn marks_of(image: &[u8]) -> ByteSet {
@@ -20,49 +23,62 @@ pub(crate) fn marks_of(image: &[u8]) -> ByteSet {
     marks
 }
 
+/// The bytes of a set that another one doesn't have.
+fn added(old: &ByteSet, new: &ByteSet) -> ByteSet {
+    let mut set = *new;
+    for i in 0..4 {
+        set[i] &= !old[i];
+    }
+    set
+}
+
 /// Puts into the set of a register what it grows to: where a byte is new that lies a distance from an old one,
 /// the bytes at that distance one after another, up to a mark.
 fn extrapolate(old: &ByteSet, new: &mut ByteSet, marks: &ByteSet) {
-    for byte in 0..256 {
-        if contains(new, byte) && !contains(old, byte) {
-            for distance in 1..65 {
-                if byte >= distance && contains(old, byte - distance) {
-                    grow_up(new, marks, byte, distance);
-                    break;
-                }
-                if byte + distance < 256 && contains(old, byte + distance) {
-                    grow_down(new, marks, byte, distance);
-                    break;
-                }
+    let fresh = added(old, new);
+    let mut byte = next(&fresh, 0);
+    while byte < 256 {
+        for distance in 1..MOST_DISTANCE + 1 {
+            if byte >= distance && contains(old, byte - distance) {
+                grow_up(new, marks, byte, distance);
+                break;
+            }
+            if byte + distance < 256 && contains(old, byte + distance) {
+                grow_down(new, marks, byte, distance);
+                break;
             }
         }
+        byte = next(&fresh, byte + 1);
     }
 }
 
 /// Puts in the bytes from one on, a distance apart, up to a mark.
 fn grow_up(set: &mut ByteSet, marks: &ByteSet, from: usize, distance: usize) {
-    for byte in from..256 {
-        if (byte - from) % distance.max(1) == 0 {
-            insert(set, byte);
-            if contains(marks, byte) {
-                return;
-            }
+    let mut byte = from;
+    for _ in 0..256 {
+        if byte >= 256 {
+            return;
         }
+        insert(set, byte);
+        if contains(marks, byte) {
+            return;
+        }
+        byte = byte.saturating_add(distance);
     }
 }
 
 /// Puts in the bytes from one down, a distance apart, down to a mark.
 fn grow_down(set: &mut ByteSet, marks: &ByteSet, from: usize, distance: usize) {
-    for back in 0..256 {
-        if back <= from && back % distance.max(1) == 0 {
-            let byte = from - back;
-            if byte < 256 {
-                insert(set, byte);
-                if contains(marks, byte) {
-                    return;
-                }
-            }
+    let mut byte = from;
+    for _ in 0..256 {
+        if byte >= 256 {
+            return;
         }
+        insert(set, byte);
+        if contains(marks, byte) || byte < distance {
+            return;
+        }
+        byte -= distance;
     }
 }
 
@@ -80,9 +96,9 @@ pub(crate) fn widen(known: &mut Known, other: &Known) {
 }
 
 /// Lets the sets of registers that have grown grow on.
-pub(crate) fn hurry(known: &mut Known, old: &Known, marks: &ByteSet) {
+pub(crate) fn hurry(known: &mut Known, old: &[u64; 64], marks: &ByteSet) {
     for x in 0..16 {
-        let before = block(&old.registers, x);
+        let before = block(old, x);
         let mut after = block(&known.registers, x);
         if before != after {
             extrapolate(&before, &mut after, marks);

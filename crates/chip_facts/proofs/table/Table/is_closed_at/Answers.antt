@@ -7,7 +7,18 @@ use Rattle.chip_machine.specs.Step.{Stops, effect_of_word, perform, word_at}
 use Rattle.chip_facts.specs.Sets.{Holds}
 use Rattle.chip_facts.specs.inner.Steps.{IsAround, byte_at}
 use Rattle.chip_facts.specs.inner.Tables.{IsAllowed}
+use Rattle.chip_machine.specs.State.{State}
+use Rattle.chip_facts.specs.inner.Transfer.{IsAt}
+use Rattle.chip_facts.proofs.BitSets.{below_next}
 use Rattle.chip_facts.proofs.table.Table.is_closed_at.Goals as goal
+
+pub loop-high-preserved : goal.loop-high-preserved
+loop-high-preserved c =
+    below_next c.block-highs.result
+    (λ high. (low : ℕ) → low < 256 → Holds c.block-lows.result low → (s : State)
+    → IsAt (record { memory = c.deref.result; quirks = c.args.quirks; pc = c.args.row.now.pc; frames = c.deref-2.result; known = c.args.row.now.known }) s → (keys : ℕ)
+    → IsAllowed c.args.self.now c.args.quirks c.args.row.now.pc (perform keys s (effect_of_word (decode_of (high * 256 + low)) s.core)))
+    c.loop-high.high c.next-high-in-loop-high.result c.next-high-in-loop-high.ensures.none c.loop-high.invariant (c.in_ok-has_words.ensures c.if-not-branch.false)
 
 pub returns : goal.returns
 returns c = λ _ s lies around keys.
@@ -32,7 +43,7 @@ returns c = λ _ s lies around keys.
     subst (λ (b : Bool). IsAllowed c.args.self.now c.args.quirks s.core.pc (perform keys s (if b then Stops cause.PcOutOfRange else effect_of_word (decode_of (word_at s.memory s.core.pc)) s.core)))
     (sym (le-ltb 4094 s.core.pc inside))
     (subst (λ p. IsAllowed c.args.self.now c.args.quirks p (perform keys s (effect_of_word (decode_of (word_at s.memory s.core.pc)) s.core))) (sym row-pc)
-    (c.loop-high.invariant high low (omega (arith, high-small, c.loop-high-test.false)) low-small high-found low-found s
+    (c.loop-high.invariant high (omega (arith, high-small, c.loop-high-test.false)) high-found low low-small low-found s
     (record {
       pc = row-pc;
       frames_are = lies.frames_are ∙ sym c.deref-2.ensures.value;

@@ -11,6 +11,7 @@ use Rattle.chip_facts.specs.inner.Steps.{Meets}
 use Rattle.chip_facts.specs.inner.Transfer.{Gives}
 use Rattle.chip_facts.specs.declared.outcome.Outcome.{Outcome}
 use Rattle.chip_facts.specs.declared.transfer.Before.{Before}
+use Rattle.chip_facts.proofs.Changes.{on_next}
 use Rattle.chip_facts.proofs.transfer.Before.execute.Goals as goal
 
 -- by which row an instruction is
@@ -19,19 +20,19 @@ is_row before r instr row is h = subst (λ i. IfOk r (λ out. Gives before out (
 
 pub returns-in-ScrollDown : goal.returns-in-ScrollDown
 unfolding effect
-returns-in-ScrollDown c = is_row c.args.self.now c.if_super.result _ _ c.in-ScrollDown.is (c.if_super.ensures _ (IfOk-weaker c.on.result _ _ (λ out gives s at keys. gives s (next (with_lit (scrolled_down (scrolled_by c.in-ScrollDown.field-0 s.core) s.core.lit) s.core)) at (record { pc_is = refl; frames_stay = refl; calm = record { same_flags = refl; tape_is = refl; quirks_are = refl; stop_is = refl }; then_known = at.known })) c.on.ensures))
+returns-in-ScrollDown c = is_row c.args.self.now c.if_super.result _ _ c.in-ScrollDown.is (c.if_super.ensures _ (IfOk-weaker c.on.result _ _ (λ out gives s at keys. gives s (next (with_lit (scrolled_down (scrolled_by c.in-ScrollDown.field-0 s.core) s.core.lit) s.core)) at (on_next _ _ _ refl at.known)) c.on.ensures))
 
 pub returns-in-ClearScreen : goal.returns-in-ClearScreen
 unfolding effect
-returns-in-ClearScreen c = is_row c.args.self.now c.on-in-ClearScreen.result _ _ c.in-ClearScreen.is (IfOk-weaker c.on-in-ClearScreen.result _ _ (λ out gives s at keys. gives s (next (with_lit set.empty s.core)) at (record { pc_is = refl; frames_stay = refl; calm = record { same_flags = refl; tape_is = refl; quirks_are = refl; stop_is = refl }; then_known = at.known })) c.on-in-ClearScreen.ensures)
+returns-in-ClearScreen c = is_row c.args.self.now c.on-in-ClearScreen.result _ _ c.in-ClearScreen.is (IfOk-weaker c.on-in-ClearScreen.result _ _ (λ out gives s at keys. gives s (next (with_lit set.empty s.core)) at (on_next _ _ _ refl at.known)) c.on-in-ClearScreen.ensures)
 
 pub returns-in-ScrollRight : goal.returns-in-ScrollRight
 unfolding effect
-returns-in-ScrollRight c = is_row c.args.self.now c.if_super-in-ScrollRight.result _ _ c.in-ScrollRight.is (c.if_super-in-ScrollRight.ensures _ (IfOk-weaker c.on-in-ScrollRight.result _ _ (λ out gives s at keys. gives s (next (with_lit (scrolled_right (scrolled_by 4 s.core) s.core.lit) s.core)) at (record { pc_is = refl; frames_stay = refl; calm = record { same_flags = refl; tape_is = refl; quirks_are = refl; stop_is = refl }; then_known = at.known })) c.on-in-ScrollRight.ensures))
+returns-in-ScrollRight c = is_row c.args.self.now c.if_super-in-ScrollRight.result _ _ c.in-ScrollRight.is (c.if_super-in-ScrollRight.ensures _ (IfOk-weaker c.on-in-ScrollRight.result _ _ (λ out gives s at keys. gives s (next (with_lit (scrolled_right (scrolled_by 4 s.core) s.core.lit) s.core)) at (on_next _ _ _ refl at.known)) c.on-in-ScrollRight.ensures))
 
 pub returns-in-ScrollLeft : goal.returns-in-ScrollLeft
 unfolding effect
-returns-in-ScrollLeft c = is_row c.args.self.now c.if_super-in-ScrollLeft.result _ _ c.in-ScrollLeft.is (c.if_super-in-ScrollLeft.ensures _ (IfOk-weaker c.on-in-ScrollLeft.result _ _ (λ out gives s at keys. gives s (next (with_lit (scrolled_left (scrolled_by 4 s.core) s.core.lit) s.core)) at (record { pc_is = refl; frames_stay = refl; calm = record { same_flags = refl; tape_is = refl; quirks_are = refl; stop_is = refl }; then_known = at.known })) c.on-in-ScrollLeft.ensures))
+returns-in-ScrollLeft c = is_row c.args.self.now c.if_super-in-ScrollLeft.result _ _ c.in-ScrollLeft.is (c.if_super-in-ScrollLeft.ensures _ (IfOk-weaker c.on-in-ScrollLeft.result _ _ (λ out gives s at keys. gives s (next (with_lit (scrolled_left (scrolled_by 4 s.core) s.core.lit) s.core)) at (on_next _ _ _ refl at.known)) c.on-in-ScrollLeft.ensures))
 
 pub returns-in-Exit : goal.returns-in-Exit
 unfolding effect
@@ -107,11 +108,11 @@ returns-in-ShiftLeft c = is_row c.args.self.now c.arithmetic-in-ShiftLeft.result
 
 pub returns-in-LoadIndex : goal.returns-in-LoadIndex
 unfolding effect
-returns-in-LoadIndex c = is_row c.args.self.now c.on-in-LoadIndex.result _ _ c.in-LoadIndex.is (IfOk-weaker c.on-in-LoadIndex.result _ _ (λ out gives s at keys. gives s (next (with_index c.in-LoadIndex.address s.core)) at (record { pc_is = refl; frames_stay = refl; calm = record { same_flags = refl; tape_is = refl; quirks_are = refl; stop_is = refl }; then_known = c.with_index.ensures s.core c.in-LoadIndex.address at.known (omega (arith, c.number.ensures.range)) (subst (HoldsIndex c.only.result) c.number.ensures.value c.only.ensures) })) c.on-in-LoadIndex.ensures)
+returns-in-LoadIndex c = is_row c.args.self.now c.on-in-LoadIndex.result _ _ c.in-LoadIndex.is (IfOk-weaker c.on-in-LoadIndex.result _ _ (λ out gives s at keys. gives s (next (with_index c.in-LoadIndex.address s.core)) at (on_next _ _ _ refl (c.with_index.ensures s.core c.in-LoadIndex.address at.known (omega (arith, c.number.ensures.range)) (subst (HoldsIndex c.only.result) c.number.ensures.value c.only.ensures)))) c.on-in-LoadIndex.ensures)
 
 pub returns-in-Random : goal.returns-in-Random
 unfolding effect
-returns-in-Random c = is_row c.args.self.now c.on-in-Random.result _ _ c.in-Random.is (IfOk-weaker c.on-in-Random.result _ _ (λ out gives s at keys. let byte : ℕ = bit_and (random_byte s.core) c.in-Random.byte in gives s (next (with_reg c.in-Random.x byte (drawn s.core))) at (record { pc_is = refl; frames_stay = refl; calm = record { same_flags = refl; tape_is = refl; quirks_are = refl; stop_is = refl }; then_known = c.with.ensures s.core byte at.known (c.masked.ensures (random_byte s.core) (at.around.tape _)) })) c.on-in-Random.ensures)
+returns-in-Random c = is_row c.args.self.now c.on-in-Random.result _ _ c.in-Random.is (IfOk-weaker c.on-in-Random.result _ _ (λ out gives s at keys. let byte : ℕ = bit_and (random_byte s.core) c.in-Random.byte in gives s (next (with_reg c.in-Random.x byte (drawn s.core))) at (on_next _ _ _ refl (c.with.ensures s.core byte at.known (c.masked.ensures (random_byte s.core) (at.around.tape _))))) c.on-in-Random.ensures)
 
 pub returns-in-SkipIfKey : goal.returns-in-SkipIfKey
 unfolding effect
@@ -123,11 +124,11 @@ returns-in-SkipUnlessKey c = is_row c.args.self.now c.asks_key-in-SkipUnlessKey.
 
 pub returns-in-ReadDelay : goal.returns-in-ReadDelay
 unfolding effect
-returns-in-ReadDelay c = is_row c.args.self.now c.on-in-ReadDelay.result _ _ c.in-ReadDelay.is (IfOk-weaker c.on-in-ReadDelay.result _ _ (λ out gives s at keys. gives s (next (with_reg c.in-ReadDelay.x s.core.delay s.core)) at (record { pc_is = refl; frames_stay = refl; calm = record { same_flags = refl; tape_is = refl; quirks_are = refl; stop_is = refl }; then_known = c.with-in-ReadDelay.ensures s.core s.core.delay at.known (c.up_to.ensures s.core.delay at.known.bound) })) c.on-in-ReadDelay.ensures)
+returns-in-ReadDelay c = is_row c.args.self.now c.on-in-ReadDelay.result _ _ c.in-ReadDelay.is (IfOk-weaker c.on-in-ReadDelay.result _ _ (λ out gives s at keys. gives s (next (with_reg c.in-ReadDelay.x s.core.delay s.core)) at (on_next _ _ _ refl (c.with-in-ReadDelay.ensures s.core s.core.delay at.known (c.up_to.ensures s.core.delay at.known.bound)))) c.on-in-ReadDelay.ensures)
 
 pub returns-in-SetSound : goal.returns-in-SetSound
 unfolding effect
-returns-in-SetSound c = is_row c.args.self.now c.on-in-SetSound.result _ _ c.in-SetSound.is (IfOk-weaker c.on-in-SetSound.result _ _ (λ out gives s at keys. gives s (next (record s.core { sound = reg s.core c.in-SetSound.field-0 })) at (record { pc_is = refl; frames_stay = refl; calm = record { same_flags = refl; tape_is = refl; quirks_are = refl; stop_is = refl }; then_known = at.known })) c.on-in-SetSound.ensures)
+returns-in-SetSound c = is_row c.args.self.now c.on-in-SetSound.result _ _ c.in-SetSound.is (IfOk-weaker c.on-in-SetSound.result _ _ (λ out gives s at keys. gives s (next (record s.core { sound = reg s.core c.in-SetSound.field-0 })) at (on_next _ _ _ refl at.known)) c.on-in-SetSound.ensures)
 
 pub returns-in-SmallDigit : goal.returns-in-SmallDigit
 unfolding effect

@@ -1,0 +1,79 @@
+//! The rows that wait to be stepped from: one at the least address goes first, so that inner loops come to rest
+//! before what follows them.
+
+use crate::bits::{insert, next, remove};
+use chip_lang::limits::MEMORY_BYTES;
+use std::alloc::{AllocError, Global};
+
+/// How many addresses rows may be at: those of the memory, and where a jump by a register may lead.
+pub(crate) const PLACES: usize = MEMORY_BYTES + 512;
+
+/// The number of no row.
+const NO_ROW: u32 = u32::MAX;
+
+/// The rows that wait to be stepped from.
+#[derive(Drop)]
+pub(crate) struct Waiting {
+    /// The addresses at which a row waits.
+    places: [u64; PLACES / 64],
+    /// The row that waits at each address, or `NO_ROW`.
+    first: Vec<u32>,
+    rows: Vec<Wait>,
+}
+
+/// Whether a row waits, and another one that waits at its address, or `NO_ROW`.
+#[derive(Clone, Copy)]
+struct Wait {
+    waits: bool,
+    other: u32,
+}
+
+impl Waiting {
+    pub(crate) fn new(alloc: Global) -> Result<Waiting, AllocError> {
+        Ok(Waiting {
+            places: [0; PLACES / 64],
+            first: vec![in alloc; NO_ROW; PLACES]?,
+            rows: Vec::new(alloc),
+        })
+    }
+
+    /// There is one row more, which doesn't wait.
+    pub(crate) fn add(&mut self) -> Result<(), AllocError> {
+        self.rows.push(Wait {
+            waits: false,
+            other: NO_ROW,
+        })?;
+        Ok(())
+    }
+
+    /// A row at an address waits.
+    pub(crate) fn put(&mut self, pc: u16, number: u32) {
+        let Some(first) = self.first.get_mut(pc as usize) else {
+            return;
+        };
+        let Some(row) = self.rows.get_mut(number as usize) else {
+            return;
+        };
+        if row.waits || pc as usize >= PLACES {
+            return;
+        }
+        row.waits = true;
+        row.other = *first;
+        *first = number;
+        insert(&mut self.places, pc as usize);
+    }
+
+    /// A row that waits at the least address, which doesn't wait then any more.
+    pub(crate) fn take(&mut self) -> Option<u32> {
+        let pc = next(&self.places, 0);
+        let first = self.first.get_mut(pc)?;
+        let number = *first;
+        let row = self.rows.get_mut(number as usize)?;
+        row.waits = false;
+        *first = row.other;
+        if row.other == NO_ROW && pc < PLACES {
+            remove(&mut self.places, pc);
+        }
+        Some(number)
+    }
+}
