@@ -1,0 +1,4 @@
+pub mod Excluding
+pub mod Reaching
+pub mod Sums
+pub mod Values

@@ -1,0 +1,216 @@
+//! Whether a property may be met in a state of a row.
+
+ghost use Rattle.std.specs.Prelude.{◌≡◌, ◌≤◌, ◌<◌, ◌+◌, ◌*◌, ◌^◌, ◌∷◌, [], ℕ, IsTrue, IfSome, true};
+ghost use Rattle.std.specs.List.{list_all, list_any};
+ghost use Rattle.chip_machine.specs.State.{State};
+ghost use Rattle.chip_explore.specs.Property.{compares, holds_in, is_at, is_met, is_related, sum_in, value_in};
+ghost use Rattle.chip_verdicts.specs.inner.Possible.{IsPossible, IsSeen, IsWithin, is_as_wanted};
+
+use crate::bounds::{Bounds, mirrored, related};
+use crate::possible::{NEITHER, Possible};
+use crate::view::View;
+use chip_explore::{Comparison, Condition, Item, Property, Relation, Sum, Term};
+
+/// A value, so many times.
+fn product(factor: u32, value: u16) -> u64
+    ensures value { result ≡ factor * value }
+    ensures small { result < 2 ^ 48 }
+{
+    u64::from(factor) * u64::from(value)
+}
+
+/// The term of a sum that has no other.
+fn only_term(sum: &Sum) -> Option<&Term>
+    ensures { IfSome result (λ term. sum.now.terms.items ≡ term.now ∷ []) }
+{
+    match &sum.terms[..] {
+        [term] => Some(term),
+        _ => None,
+    }
+}
+
+/// The first item that a comparison names, if it names one.
+fn first_item(comparison: &Comparison) -> Option<&Item> {
+    match (&comparison.left.terms[..], &comparison.right.terms[..]) {
+        ([term, ..], _) | (_, [term, ..]) => Some(&term.item),
+        _ => None,
+    }
+}
+
+impl View<'_> {
+    /// A number that a sum is at least.
+    fn least_sum(&self, sum: &Sum) -> u128
+        ensures { (s : State) → IsSeen self.now s → result ≤ sum_in s sum.now }
+    {
+        let mut total = u128::from(sum.constant);
+        for term in &sum.terms {
+            total += u128::from(product(term.factor, self.least(&term.item)));
+        }
+        total
+    }
+
+    /// A number that a sum is at most.
+    fn most_sum(&self, sum: &Sum) -> u128
+        ensures { (s : State) → IsSeen self.now s → sum_in s sum.now ≤ result }
+    {
+        let mut total = u128::from(sum.constant);
+        for term in &sum.terms {
+            total += u128::from(product(term.factor, self.most(&term.item)));
+        }
+        total
+    }
+
+    /// The bounds of a sum.
+    fn bounds(&self, sum: &Sum) -> Bounds
+        ensures { (s : State) → IsSeen self.now s → IsWithin result (sum_in s sum.now) }
+    {
+        Bounds {
+            least: self.least_sum(sum),
+            most: self.most_sum(sum),
+        }
+    }
+
+    /// The results that the comparison of a constant and a term with a number may have, by each value of the term.
+    fn term_related(
+        &self,
+        constant: u32,
+        term: &Term,
+        relation: Relation,
+        other: Bounds,
+    ) -> Possible
+        ensures { (s : State) → IsSeen self.now s → (b : ℕ) → IsWithin other b
+            → IsPossible result (is_related relation (constant + term.now.factor * value_in s term.now.item) b) }
+    {
+        let least = u32::from(self.least(&term.item));
+        let most = u32::from(self.most(&term.item));
+        let mut possible = NEITHER;
+        for value in least..most + 1 {
+            if self.may_be(&term.item, value as u16) {
+                let sum = u128::from(constant) + u128::from(product(term.factor, value as u16));
+                possible = possible.united(related(relation, Bounds::exactly(sum), other));
+            }
+        }
+        possible
+    }
+
+    /// The results that the comparison of two sums may have. Where a side is one term, each value of it is tried.
+    fn sums_related(&self, left: &Sum, relation: Relation, right: &Sum) -> Possible
+        ensures { (s : State) → IsSeen self.now s
+            → IsPossible result (is_related relation (sum_in s left.now) (sum_in s right.now)) }
+    {
+        if let Some(term) = only_term(left) {
+            let other = self.bounds(right);
+            return self.term_related(left.constant, term, relation, other);
+        }
+        let bounds = self.bounds(left);
+        match only_term(right) {
+            Some(term) => self.term_related(right.constant, term, mirrored(relation), bounds),
+            None => related(relation, bounds, self.bounds(right)),
+        }
+    }
+
+    /// The results that a comparison may have.
+    fn compared(&self, comparison: &Comparison) -> Possible
+        ensures { (s : State) → IsSeen self.now s
+            → IsPossible result (compares s comparison.now) }
+    {
+        self.sums_related(&comparison.left, comparison.relation, &comparison.right)
+    }
+
+    /// The results of the test whether all comparisons hold.
+    fn all_hold(&self, comparisons: &[Comparison]) -> Possible
+        ensures { (s : State) → IsSeen self.now s
+            → IsPossible result (list_all (compares s) comparisons.now) }
+    {
+        let mut possible = Possible {
+            may_hold: true,
+            may_fail: false,
+        };
+        for comparison in comparisons {
+            possible = possible.and(self.compared(comparison));
+        }
+        possible
+    }
+
+    /// The results of the test whether one comparison holds at least.
+    fn any_holds(&self, comparisons: &[Comparison]) -> Possible
+        ensures { (s : State) → IsSeen self.now s
+            → IsPossible result (list_any (compares s) comparisons.now) }
+    {
+        let mut possible = Possible {
+            may_hold: false,
+            may_fail: true,
+        };
+        for comparison in comparisons {
+            possible = possible.or(self.compared(comparison));
+        }
+        possible
+    }
+
+    /// The results that a condition may have.
+    fn holds(&self, condition: &Condition) -> Possible
+        ensures { (s : State) → IsSeen self.now s
+            → IsPossible result (holds_in s condition.now) }
+    {
+        if condition.is_all {
+            self.all_hold(&condition.comparisons)
+        } else {
+            self.any_holds(&condition.comparisons)
+        }
+    }
+
+    /// Whether a property is asked in the row.
+    fn is_asked(&self, place: Option<u16>) -> bool
+        ensures { (s : State) → IsSeen self.now s → is_at place s.core.pc ≡ true → IsTrue result }
+    {
+        match place {
+            Some(place) => place == self.row.pc(),
+            None => true,
+        }
+    }
+
+    /// Whether the condition of a property may be as it is looked for.
+    fn may_be_wanted(&self, property: &Property) -> bool
+        ensures { (s : State) → IsSeen self.now s → is_as_wanted s property.now ≡ true → IsTrue result }
+    {
+        let possible = self.holds(&property.condition);
+        if property.wanted {
+            possible.may_hold
+        } else {
+            possible.may_fail
+        }
+    }
+
+    /// Whether the condition of a property may be as it is looked for, where an item has one of its values. Each
+    /// value is tried, so comparisons of the item in several places are taken together.
+    fn may_be_wanted_by(&self, property: &Property, item: &Item) -> bool
+        ensures { (s : State) → IsSeen self.now s → is_as_wanted s property.now ≡ true → IsTrue result }
+    {
+        let least = u32::from(self.least(item));
+        let most = u32::from(self.most(item));
+        for value in least..most + 1 {
+            if self.may_be(item, value as u16)
+                && self.fixed_at(item, value as u16).may_be_wanted(property)
+            {
+                return true;
+            }
+        }
+        false
+    }
+    /// Whether a property may be met.
+    pub(crate) fn may_meet(&self, property: &Property) -> bool
+        ensures { (s : State) → IsSeen self.now s → is_met s property.now ≡ true → IsTrue result }
+    {
+        if !self.is_asked(property.place) || !self.may_be_wanted(property) {
+            return false;
+        }
+        for comparison in &property.condition.comparisons {
+            if let Some(item) = first_item(comparison)
+                && !self.may_be_wanted_by(property, item)
+            {
+                return false;
+            }
+        }
+        true
+    }
+}
