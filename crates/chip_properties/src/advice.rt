@@ -6,7 +6,10 @@ ghost use Rattle.chip_properties.specs.Lines.{StandsAt};
 use crate::fault::{FaultCode, Found, PropertyFault};
 use crate::limits::{MOST_COMPARISONS, MOST_PROPERTIES, MOST_TERMS};
 use crate::near::{REGISTERS, fewest_edits, is_like_register, most_edits, undefined_sentence};
-use crate::other_words::{IMPLICATION, is_conditional, other_kind, text_help, word_help};
+use crate::other_words::{
+    IMPLICATION, hexadecimal_help, is_conditional, is_unequal, other_kind, text_help, word_help,
+};
+use crate::place_last::place_help;
 use crate::reader::Reader;
 use crate::stated::Kind;
 use crate::tokens::respelled;
@@ -34,7 +37,13 @@ pub(crate) fn fault_found(
     let span = span_of(&tokens(alloc, &text)?, line, start, found);
     let help = match text_help(&line[span.start..span.end]) {
         Some(help) => Vec::from_slice(alloc, help)?,
-        None => help_for(reader, &parts, found)?,
+        None => longer_help(
+            reader,
+            &line[start..],
+            &line[span.start..span.end],
+            &parts,
+            found,
+        )?,
     };
     Ok(PropertyFault {
         line: number,
@@ -170,7 +179,24 @@ fn why_not(token: &Lexeme) -> &'static [u8] {
     }
 }
 
-/// What helps with a fault, or nothing.
+/// What helps with a fault of a property of this text, where it shows these bytes, or nothing.
+fn longer_help(
+    reader: &Reader<'_>,
+    text: &[u8],
+    shown: &[u8],
+    tokens: &[Lexeme],
+    found: Found,
+) -> Result<Vec<u8>, AllocError> {
+    if let Some(help) = hexadecimal_help(reader.alloc, shown)? {
+        return Ok(help);
+    }
+    match place_help(reader, text, tokens, found)? {
+        Some(help) => Ok(help),
+        None => help_for(reader, tokens, found),
+    }
+}
+
+/// What helps with a fault at some tokens, or nothing.
 fn help_for(reader: &Reader<'_>, tokens: &[Lexeme], found: Found) -> Result<Vec<u8>, AllocError> {
     let alloc = reader.alloc;
     let (before, rest) = tokens.split_at(found.first.min(tokens.len()));
@@ -221,12 +247,16 @@ fn help_on_phrase(token: &Lexeme, before: &[Lexeme], rest: &[Lexeme]) -> Option<
         || is_arrow && has_relation(before)
     {
         Some(IMPLICATION)
+    } else if is_unequal(token, before, rest) {
+        Some(b"write <> or != for unequal")
     } else if !has_relation(before) && before.iter().any(|word| is_the(b"PIXEL", word)) {
         Some(b"write PIXEL(3, 4) for the pixel in column 3 and row 4")
     } else if is_last(b"LINE", before) {
         Some(
             b"a place is a label or an address: label that line, or write here in the line above it",
         )
+    } else if is_the(b"IN", token) && has_relation(before) {
+        Some(b"write at before a place, as in V0 < 5 at LOOP")
     } else if is_last(b"AT", before) && (second_is(b'+', rest) || second_is(b'-', rest)) {
         Some(b"put a calculation into parentheses, as in at (LOOP + 2)")
     } else if let Lexeme::Word(word) = token {
@@ -276,7 +306,14 @@ fn help_at(token: &Lexeme, before: &[Lexeme], rest: &[Lexeme]) -> &'static [u8] 
         Lexeme::Sign(b'=' | b'<' | b'>') if has_relation(before) => {
             b"write two comparisons, with and between them"
         }
+        Lexeme::Sign(b'-') if ends_with_sign(before) => {
+            b"no value is negative: a register is 0 to 255, and -1 is 255 there"
+        }
         Lexeme::Sign(b'-') => b"put what is subtracted on the other side",
+        Lexeme::Sign(b'/') if second_is(b'/', rest) => b"a comment begins with ;",
+        Lexeme::Sign(b'/' | b'&' | b'|' | b'^') if ends_with_item(before) => {
+            b"registers are only added, and multiplied by numbers, as in 2 * V0 + V1"
+        }
         Lexeme::Sign(b'/' | b'&' | b'|' | b'^' | b'~' | b'\\' | b'*') => {
             b"put a calculation with names and numbers into parentheses"
         }
@@ -304,7 +341,9 @@ fn has_relation(tokens: &[Lexeme]) -> bool {
 /// What helps where a word can't stand after the tokens before it, or nothing: `rest` begins with it.
 fn help_at_word(word: &[u8], before: &[Lexeme], rest: &[Lexeme]) -> &'static [u8] {
     let follows_at = is_last(b"AT", before);
-    if word == b"AND".as_slice() || word == b"OR".as_slice() {
+    if is_stop_word(word) && !follows_at && !has_relation(before) && !has_relation(rest) {
+        b"explore asks whether the game can crash or stop; a property asks for values"
+    } else if word == b"AND".as_slice() || word == b"OR".as_slice() {
         b"a condition has and alone, or or alone: write two properties"
     } else if word == b"HERE".as_slice() && follows_at {
         b"write here without at"
@@ -322,6 +361,24 @@ fn help_at_word(word: &[u8], before: &[Lexeme], rest: &[Lexeme]) -> &'static [u8
         b"write at before a place, as in never at BUG"
     } else {
         b""
+    }
+}
+
+/// Words with which an author asks for a crash or an end, in upper case.
+const STOP_WORDS: &[&[u8]] = &[
+    b"CRASH", b"CRASHES", b"HALTS", b"STOPS", b"STOPPED", b"S1", b"S2", b"S3", b"S4", b"S5", b"S6",
+    b"S7",
+];
+
+fn is_stop_word(word: &[u8]) -> bool {
+    STOP_WORDS.iter().any(|known| *known == word)
+}
+
+/// Whether some tokens end with what a property may ask for.
+fn ends_with_item(tokens: &[Lexeme]) -> bool {
+    match tokens.last() {
+        Some(Lexeme::Word(word)) => is_item_word(word.get()),
+        _ => false,
     }
 }
 

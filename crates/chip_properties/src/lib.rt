@@ -8,6 +8,7 @@ mod line;
 pub mod near;
 mod other_words;
 mod part;
+mod place_last;
 mod properties;
 mod reader;
 mod relation;

@@ -1,7 +1,8 @@
 //! What other languages write in a property, and what is written here.
 
 use crate::near::{fewest_edits, most_edits};
-use chip_lang::{Lexeme, is_the};
+use chip_lang::{Lexeme, is_sign_of, is_the};
+use std::alloc::{AllocError, Global};
 
 /// Words with which others state a condition on a condition.
 const CONDITIONALS: &[&str] = &[
@@ -49,6 +50,34 @@ pub(crate) fn text_help(text: &[u8]) -> Option<&'static [u8]> {
         [b'.', ..] => Some(RANGE),
         _ => None,
     }
+}
+
+/// Help with a hexadecimal number that others write with a dollar sign before its digits, if a text is one.
+pub(crate) fn hexadecimal_help(alloc: Global, text: &[u8]) -> Result<Option<Vec<u8>>, AllocError> {
+    let [b'$', digits @ ..] = text else {
+        return Ok(None);
+    };
+    let is_binary = digits.iter().all(|digit| matches!(digit, b'0' | b'1'));
+    let is_hexadecimal = digits.iter().all(
+        |digit| matches!(digit, b'0'..=b'9' | b'a'..=b'f' | b'A'..=b'F'),
+    );
+    if is_binary || !is_hexadecimal {
+        return Ok(None);
+    }
+    let front = b"$ begins a binary number here, and # a hexadecimal one: write #".as_slice();
+    Ok(Some([front, digits].concat(alloc)?))
+}
+
+/// Whether a sign, with which the rest begins, and one beside it are what others write for unequal.
+pub(crate) fn is_unequal(token: &Lexeme, before: &[Lexeme], rest: &[Lexeme]) -> bool {
+    let is_slash = matches!(token, Lexeme::Sign(b'/' | b'\\'));
+    let is_sign = is_slash || matches!(token, Lexeme::Sign(b'~' | b'^'));
+    is_sign && is_equal_sign(rest.get(1)) || is_slash && is_equal_sign(before.last())
+}
+
+/// Whether a token is there, and is `=`.
+fn is_equal_sign(token: Option<&Lexeme>) -> bool {
+    token.is_some_and(|token| is_sign_of(b'=', token))
 }
 
 /// A kind's word, in lower and in upper case, and what others write for it.
