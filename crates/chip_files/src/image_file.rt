@@ -13,8 +13,12 @@ use std::{fs, io};
 // How many links are followed, one after another: as many as Linux follows.
 const MOST_LINKS: u32 = 40;
 
+/// The name of the standard input, in the place of a file's.
+pub const STANDARD_INPUT: &str = "/dev/stdin";
+
 /// Writes the file of a name whole. On an error it is as it was, or there is none, as before. A
-/// file of the names in `taken`, which the command reads or has written, isn't written.
+/// file of the names in `taken`, which the command reads or has written, isn't written, and neither is
+/// one that is the standard input, where `taken` has `STANDARD_INPUT`.
 ///
 /// The bytes go to a new file in the same folder, `chipbench.part1`, say, which gets the name once
 /// they are on the disk, and which is taken away on an error. A file of that name is replaced if it
@@ -76,12 +80,23 @@ fn write_over<F: Files>(
 fn is_taken<F: Files>(files: &F, taken: &[Option<&str>], open: &Metadata) -> io::Result<bool> {
     for name in taken {
         if let Some(name) = name
-            && is_same(open, &fs::metadata(files, *name)?)
+            && is_named(files, name, open)?
         {
             return Ok(true);
         }
     }
     Ok(false)
+}
+
+// Whether this is told of what has that name. The standard input has it only where it is a file: a terminal
+// is read and written, and a system may not tell what it is.
+fn is_named<F: Files>(files: &F, name: &str, open: &Metadata) -> io::Result<bool> {
+    let is_input = name == STANDARD_INPUT;
+    match fs::metadata(files, name) {
+        Ok(named) => Ok(is_same(open, &named) && (open.is_file() || !is_input)),
+        Err(_) if is_input => Ok(false),
+        Err(error) => Err(error),
+    }
 }
 
 // Whether both tell of one file, by whatever names. A file system that isn't the system's has no

@@ -12,6 +12,15 @@ pub fn read_file<F: Files>(alloc: Global, files: &F, name: &str, most: u32) -> i
     read_whole(alloc, fs::open(files, name)?, most)
 }
 
+/// That there is a folder of a name, or why none is found.
+pub fn find_folder<F: Files>(files: &F, name: &str) -> io::Result<()> {
+    if fs::metadata(files, name)?.is_dir() {
+        Ok(())
+    } else {
+        Err(io::Error::from(io::ErrorKind::NotADirectory))
+    }
+}
+
 // What a file has. Room for it is taken at once, where the file tells its length.
 fn read_whole<F: OpenFile + Read + Drop>(alloc: Global, file: F, most: u32) -> io::Result<Vec<u8>>
     ensures { IfOk result (λ bytes. IfSome (F.remaining file)

@@ -93,7 +93,7 @@ static LINE_PAGES: [Page; 32] = [
         title: "operands don't fit",
         meaning: "The operands fit no form of the instruction or directive: one too many or too few, a comma that is missing, or a register where a value belongs.",
         example: Example::Source("LD V0"),
-        fix: "Compare the line with the table of instructions in docs/LANGUAGE.md. Text of several bytes belongs in `DA 'text'`.",
+        fix: "Compare the line with the table of instructions in docs/MACHINE.md. Text of several bytes belongs in `DA 'text'`.",
     },
     Page {
         code: "F5",

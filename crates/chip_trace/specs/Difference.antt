@@ -37,8 +37,16 @@ IsComparison ours theirs None =
     map str_to_ascii_lowercase ours ≡ map str_to_ascii_lowercase theirs
 IsComparison ours theirs (Some found) = IsFirstDifference ours theirs found
 
--- what is printed of a difference begins with its step
+-- what stands behind the step of a difference: a colon, and which of the two has ended, if one has. Ours is
+-- the trace of a run, and theirs that of a file.
+abbrev pub ended_text : (ours theirs : Option (Vec ℕ)) → List ℕ
+ended_text None theirs = codes ": the run has ended, and the file goes on\n"
+ended_text (Some ours) None = codes ": the file has ended, and the run goes on\n"
+ended_text (Some ours) (Some theirs) = codes ":"
+
+-- what is printed of a difference begins with its step, and with which of the two has ended
 abbrev pub IsDifferenceText : (from : ℕ) → Difference → (text : List ℕ) → Type 0
 IsDifferenceText from found text =
     (rest : List ℕ)
-    × (text ≡ codes "differs at step " ++ decimal (from + found.index) ++ rest)
+    × (text ≡ codes "differs at step " ++ decimal (from + found.index)
+    ++ ended_text found.ours found.theirs ++ rest)

@@ -15,8 +15,8 @@ use thiserror::Error;
 /// Why a line does not name the columns of a trace.
 #[derive(Clone, Copy, Debug, PartialEq, Eq, Error)]
 pub enum HeaderError {
-    /// The line does not begin with a `#` and a space.
-    #[error("the first line does not begin with `# `")]
+    /// There is no line, or it does not begin with a `#` and a space.
+    #[error("it is empty, or the first line does not begin with `# `")]
     NotAHeader,
     /// No column has one of the names.
     #[error("a column has an unknown name")]

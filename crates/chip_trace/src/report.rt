@@ -1,7 +1,7 @@
 //! A difference of two traces, as text.
 
-ghost use Rattle.std.specs.Prelude.{IfOk};
-ghost use Rattle.chip_trace.specs.Difference.{IsDifferenceText};
+ghost use Rattle.std.specs.Prelude.{◌≡◌, IfOk};
+ghost use Rattle.chip_trace.specs.Difference.{IsDifferenceText, ended_text};
 
 use crate::column::Column;
 use crate::columns::Columns;
@@ -9,8 +9,9 @@ use crate::difference::Difference;
 use itoa::Buffer;
 use std::alloc::{AllocError, Global};
 
-/// What is printed of a difference of traces that begin at the step `from`: its step and the
-/// columns that differ, our lines before it, our line there after `< `, and theirs after `> `.
+/// The text of a difference of traces that begin at the step `from`: its step, then the columns that
+/// differ or which of the two has ended, our lines before it, our line there after `< `, and theirs
+/// after `> `. Ours is the trace of a run, and theirs that of a file.
 ///
 /// # Errors
 ///
@@ -24,33 +25,32 @@ pub fn difference_text(
     ensures { IfOk result (λ text. IsDifferenceText from found.now text.items) }
 {
     let mut details = Vec::new(alloc);
-    push_changes(&mut details, columns.as_slice(), found)?;
+    if let (Some(ours), Some(theirs)) = (&found.ours, &found.theirs) {
+        push_changed_names(&mut details, columns.as_slice(), ours, theirs)?;
+    }
     push_lines(&mut details, found)?;
     let step = u128::from(from) + found.index as u128;
     let mut digits = Buffer::new();
     let mut text = Vec::from_slice(alloc, b"differs at step ")?;
     text.extend_from_slice(digits.format(step).as_bytes())?;
+    text.extend_from_slice(ended_text(found))?;
     text.extend_from_slice(&details)?;
     Ok(text)
 }
 
-/// Adds which columns differ, or that one of the traces has no line there.
-fn push_changes(
-    text: &mut Vec<u8>,
-    columns: &[Column],
-    found: &Difference,
-) -> Result<(), AllocError> {
-    text.push(b':')?;
+/// The colon behind the step, and which of the traces has ended, if one has.
+fn ended_text(found: &Difference) -> &'static [u8]
+    ensures { result.now ≡ ended_text found.now.ours found.now.theirs }
+{
     match (&found.ours, &found.theirs) {
-        (Some(ours), Some(theirs)) => push_changed_names(text, columns, ours, theirs)?,
-        (None, _) => text.extend_from_slice(b" no line")?,
-        (Some(_), None) => text.extend_from_slice(b" one line more")?,
+        (None, _) => b": the run has ended, and the file goes on\n",
+        (Some(_), None) => b": the file has ended, and the run goes on\n",
+        (Some(_), Some(_)) => b":",
     }
-    text.push(b'\n')?;
-    Ok(())
 }
 
-/// Adds the names of the columns whose fields differ. The last field takes the rest of its line.
+/// Adds the names of the columns whose fields differ, and the end of the line. The last field takes the
+/// rest of its line.
 fn push_changed_names(
     text: &mut Vec<u8>,
     columns: &[Column],
@@ -65,6 +65,7 @@ fn push_changed_names(
             text.extend_from_slice(column.name())?;
         }
     }
+    text.push(b'\n')?;
     Ok(())
 }
 
