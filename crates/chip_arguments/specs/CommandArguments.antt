@@ -176,6 +176,7 @@ pub record AsksCheck (rows : List Row) (arguments : CheckArguments) : Type 0 whe
   pub color : arguments.color ≡ color_asked (first_of (codes "color") rows)
   pub settings : AsksSettings rows arguments.settings
   pub is_covering : AsksFlag (one_of (codes "cover") rows) arguments.is_covering
+  pub seconds : ReadsNumber 32 (first_of (codes "seconds") rows) arguments.seconds
 
 -- the trace that they ask for
 pub record AsksTrace (rows : List Row) (arguments : TraceArguments) : Type 0 where
@@ -204,11 +205,13 @@ pub record AsksSearch (rows : List Row) (arguments : SearchArguments) : Type 0 w
   pub source : arguments.source.now ≡ needed (codes "source") rows
   pub steps : ReadsNumber 32 (first_of (codes "steps") rows) arguments.steps
   pub states : ReadsOr 32 (first_of (codes "states") rows) USUAL_STATES arguments.states
+  pub seconds : ReadsNumber 32 (first_of (codes "seconds") rows) arguments.seconds
   pub is_deep : AsksFlag (one_of (codes "deep") rows) arguments.is_deep
   pub is_any_speed : AsksFlag (one_of (codes "any-speed") rows) arguments.is_any_speed
   pub allowed_keys : option_copied arguments.allowed_keys ≡ first_of (codes "keys-allowed") rows
   pub keys_to : option_copied arguments.keys_to ≡ first_of (codes "keys-to") rows
   pub is_progress_shown : AsksFlag (one_of (codes "progress") rows) arguments.is_progress_shown
+  pub is_without_facts : AsksFlag (one_of (codes "no-facts") rows) arguments.is_without_facts
   pub settings : AsksSettings rows arguments.settings
 
 -- what they have searched for
@@ -225,7 +228,6 @@ pub record AsksExplore (rows : List Row) (arguments : ExploreArguments) : Type 0
 pub record AsksProve (rows : List Row) (arguments : ProveArguments) : Type 0 where
   pub search : AsksSearch rows arguments.search
   pub only : ReadsNumber 32 (first_of (codes "only") rows) arguments.only
-  pub seconds : ReadsNumber 32 (first_of (codes "seconds") rows) arguments.seconds
   pub is_json : AsksFlag (one_of (codes "json") rows) arguments.is_json
 
 -- What the values of a command of that name ask for.

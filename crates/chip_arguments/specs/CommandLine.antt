@@ -110,10 +110,15 @@ color = option (codes "color")
 unfoldable pub cover : Rule
 cover = flag (codes "cover")
 
+-- after how many seconds a search ends
+unfoldable pub seconds : Rule
+seconds = number (codes "seconds") 1 MOST_SECONDS
+
 unfoldable pub check : App
 check =
-    with_rule (with_rule (with_rule (with_rule (with_rule (with_rule (with_rule (with_rule (with_rule (new_app (codes "check"))
-    sources) json) allow) cover) color) tape) seed) profile) quirks
+    with_rule (with_rule (with_rule (with_rule (with_rule (with_rule (with_rule (with_rule (with_rule (with_rule
+    (new_app (codes "check"))
+    sources) json) allow) cover) seconds) color) tape) seed) profile) quirks
 
 unfoldable pub dis : App
 dis = with_rule (new_app (codes "dis")) image
@@ -207,10 +212,6 @@ always = option (codes "always")
 unfoldable pub only : Rule
 only = number (codes "only") 1 MOST_LINE
 
--- after how many seconds a search ends
-unfoldable pub seconds : Rule
-seconds = number (codes "seconds") 1 MOST_SECONDS
-
 -- a second search, of the deepest states first
 unfoldable pub deep : Rule
 deep = flag (codes "deep")
@@ -219,14 +220,18 @@ deep = flag (codes "deep")
 unfoldable pub any_speed : Rule
 any_speed = flag (codes "any-speed")
 
+-- a search that begins at once
+unfoldable pub no_facts : Rule
+no_facts = flag (codes "no-facts")
+
 unfoldable pub progress : Rule
 progress = flag (codes "progress")
 
 -- the arguments that say how a search goes
 unfoldable pub with_search : App → App
 with_search app =
-    with_rule (with_rule (with_rule (with_rule (with_rule (with_rule (with_rule (with_rule app
-    needed_source) search_steps) states) deep) any_speed) allowed_keys) keys_to) progress
+    with_rule (with_rule (with_rule (with_rule (with_rule (with_rule (with_rule (with_rule (with_rule (with_rule app
+    needed_source) search_steps) states) seconds) deep) any_speed) allowed_keys) keys_to) progress) no_facts
 
 unfoldable pub explore : App
 explore =
@@ -235,8 +240,7 @@ explore =
 
 unfoldable pub prove : App
 prove =
-    with_rule (with_rule (with_rule (with_settings (with_search (new_app (codes "prove")))) only)
-    seconds) json
+    with_rule (with_rule (with_settings (with_search (new_app (codes "prove")))) only) json
 
 unfoldable pub explain : App
 explain = with_rule (new_app (codes "explain")) code

@@ -56,6 +56,7 @@ pub(crate) enum Argument {
     Reach,
     Cover,
     CheckCover,
+    NoFacts,
     Progress,
     Hex,
     Quiet,
@@ -119,6 +120,7 @@ impl Argument {
             Argument::Reach => option(alloc, "reach", "PLACE", help),
             Argument::Cover => flag(alloc, "cover", help),
             Argument::CheckCover => flag(alloc, "cover", help),
+            Argument::NoFacts => flag(alloc, "no-facts", help),
             Argument::Progress => flag(alloc, "progress", help),
             Argument::Hex => flag(alloc, "hex", help),
             Argument::Quiet => flag(alloc, "quiet", help),
@@ -190,7 +192,7 @@ impl Argument {
             Argument::Always =>
                 "Also looks for a step before which this doesn't hold, such as '[LIVES] <= 3'",
             Argument::AllowedKeys =>
-                "The keys that a player has, 0 to 15 with commas between them [default: all]",
+                "The keys that a player has, 0 to 15 or A to F, with commas between them [default: all]",
             Argument::KeysTo =>
                 "Writes the key events of the script that was found to a file, as `run --keys` takes them",
             Argument::KeysToPath =>
@@ -209,11 +211,13 @@ impl Argument {
                 "The warnings that are not printed, W1 to W9 and P1 to P6 with commas between them \
                  [default: none]",
             Argument::Reach =>
-                "Also looks for a step at this label of the source, or at an address such as #2A0",
+                "Also looks for a step at this label of the source, or at an address such as '#2A0'",
             Argument::Cover =>
                 "Also prints the listing, with a mark at each line that some key script executes",
             Argument::CheckCover =>
                 "Also searches all key scripts, and warns of each instruction that none executes",
+            Argument::NoFacts =>
+                "Searches at once, without asking first what holds for any keys, random bytes and speed",
             Argument::Progress =>
                 "Says on standard error how far the search is, also where that is no terminal",
             Argument::Hex => "Prints the values of names in hexadecimal, as a source writes them",

@@ -113,6 +113,8 @@ pub struct CheckArguments<'a> {
     pub settings: SettingArguments<'a>,
     /// Whether each source is searched for instructions that no key script executes.
     pub is_covering: bool,
+    /// After how many seconds these searches end, 1 to 1000000.
+    pub seconds: Option<u32>,
 }
 
 /// When a text has colours.
@@ -185,6 +187,8 @@ pub struct SearchArguments<'a> {
     pub steps: Option<u32>,
     /// How many states it keeps at most.
     pub states: u32,
+    /// After how many seconds it ends, 1 to 1000000.
+    pub seconds: Option<u32>,
     /// Whether a search of the deepest states first follows where it keeps that many.
     pub is_deep: bool,
     /// Whether it is told where the answer is `never` at any speed, for which all states serve.
@@ -195,6 +199,8 @@ pub struct SearchArguments<'a> {
     pub keys_to: Option<&'a str>,
     /// Whether standard error says how far the search is.
     pub is_progress_shown: bool,
+    /// Whether the search begins at once, and facts aren't asked first.
+    pub is_without_facts: bool,
     pub settings: SettingArguments<'a>,
 }
 
@@ -222,8 +228,6 @@ pub struct ProveArguments<'a> {
     pub search: SearchArguments<'a>,
     /// The line of the one property that is answered, 1 to 1000000.
     pub only: Option<u32>,
-    /// After how many seconds the search ends, 1 to 1000000.
-    pub seconds: Option<u32>,
     /// Whether JSON objects are printed, and not text.
     pub is_json: bool,
 }
@@ -624,6 +628,7 @@ fn check_arguments<'a>(
         color: color_asked(value(found, "color")),
         settings: setting_arguments(found, quirks),
         is_covering: is_set(found, "cover"),
+        seconds: number_of(found, "seconds"),
     })
 }
 
@@ -682,11 +687,13 @@ fn search_arguments<'a>(found: &ArgMatches<'a>, quirks: Quirks) -> SearchArgumen
         source: required_text(found, "source"),
         steps: number_of(found, "steps"),
         states: number_or(found, "states", USUAL_STATES),
+        seconds: number_of(found, "seconds"),
         is_deep: is_set(found, "deep"),
         is_any_speed: is_set(found, "any-speed"),
         allowed_keys: value(found, "keys-allowed"),
         keys_to: value(found, "keys-to"),
         is_progress_shown: is_set(found, "progress"),
+        is_without_facts: is_set(found, "no-facts"),
         settings: setting_arguments(found, quirks),
     }
 }
@@ -711,7 +718,6 @@ fn prove_arguments<'a>(found: &ArgMatches<'a>, quirks: Quirks) -> ProveArguments
     ProveArguments {
         search: search_arguments(found, quirks),
         only: number_of(found, "only"),
-        seconds: number_of(found, "seconds"),
         is_json: is_set(found, "json"),
     }
 }

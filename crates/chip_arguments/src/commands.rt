@@ -33,7 +33,7 @@ Commands, with an example each; N is a line's number, S a step, K a key, A an ad
   mem S A N     N bytes of the memory from A       mem 100 #200 16
   screen S      the lit rows of the screen         screen 100
   dis S A N     N words of the memory from A       dis 100 #200 8
-Numbers are decimal, or hexadecimal after `#`. An answer is `ok`, `no CODE`, or lines.
+Numbers are decimal, or hexadecimal after `#`: key A is 10 or #A. An answer is `ok`, `no CODE`, or lines.
 `chipbench explain CODE` says what a code means, `chipbench explain regs` what a command does.
 At a terminal, standard error says why a command is refused. All commands: docs/FORMATS.md;
 the language of sources: docs/LANGUAGE.md; the machine: docs/MACHINE.md; a guide: docs/GUIDE.md.
@@ -42,7 +42,8 @@ Example: chipbench debug game.asm --rate 15 --seed 7";
 
 const CHECK_NOTES: &str = "\
 With --cover each instruction that no key script executes has W8, with that tape and the rate 10. The search for
-them may take some seconds, and keeps up to 1000000 states: where it ends there, W8 names the step up to which.
+them may take some seconds, and keeps up to 1000000 states: where it ends there, or by --seconds, W8 names the
+step up to which.
 Without --tape and --seed, the first RND has W9, because each of its random bytes is 0.
 
 Example: chipbench check game.asm --allow W2";
@@ -64,7 +65,9 @@ Status: 0 where all cases pass, 1 where one fails, 3 for a file that can't be re
 Example: chipbench test game.test";
 
 const EXPLORE_NOTES: &str = "\
-Answers `found`, `within` or `never`, each with what it rests on:
+First it tries to exclude what it looks for with any keys, random bytes and speed. Where it can, it prints
+`never`, `with any keys, random bytes and speed`, and `facts N`, the number of facts behind that.
+Otherwise it searches all key scripts, and answers one of these:
   Sk T                 some key script makes the machine stop for Sk at step T, and none does so earlier;
                        below it, `keys N`: how many key events that script has
   reached T            the same of the place that --reach names
@@ -75,6 +78,8 @@ Answers `found`, `within` or `never`, each with what it rests on:
   broken T             of the property that --never or --always states: some script breaks it at step T
   never at any speed   with --any-speed alone: nor at any rate, nor whenever else the timers tick
 Then a line `Sj T` for each other cause that was met, with the least step that was, and `states N`.
+  left Sk ADDRESS      a stop that could not be excluded: the machine may stop at this address for Sk. With any
+                       keys, random bytes and speed, it stops for no wanted cause that has no such line
 With --cover the listing follows, with `+ ` before each line at whose address some script makes a step:
 a line of code without it is executed under no key script, up to the step that is printed, or ever.
 A key script is any choice of the allowed keys at each step. Tape and profile are fixed, and so is the
@@ -90,15 +95,18 @@ A property is a line that begins with `;!`, which other assemblers take for a co
   ;! always [LIVES] <= 3       holds before each step
   ;! never VF = 1 at ADDED     never holds at this label
   ;! ever at WIN               some player comes there
-Answers, each after the line's place and before its text:
+First it tries to prove each property, except `can`, for any keys, random bytes and speed. Then it searches all
+key scripts for the others. Answers, each after the line's place and before its text:
+  never broken with any keys, random bytes and speed
   broken at step T             some key script breaks it at step T, and none does so earlier
   broken at step T, unbroken up to step M    with --deep alone: some may do so earlier, but none up to M
   unbroken up to step N        no key script breaks it at a step up to N
-  never broken                 no key script does at any step below 2^64 - 1
+  never broken                 no key script does at any step below 2^64 - 1, with this tape and rate
   never broken at any speed    with --any-speed alone: nor whenever else the timers tick
   reached at step T, not reached up to step N, never reached    the same of `ever`
-Then `states N`. A key script is any choice of the allowed keys at each step. Tape and profile are fixed,
-and so is the rate, but for the answers at any speed. The language of properties: docs/LANGUAGE.md.
+Then `facts N`, the number of facts behind the first kind of answer, and `states N`. A key script is any choice of
+the allowed keys at each step. A search has one tape and one profile, and one rate except for the answers at any
+speed. The language of properties: docs/LANGUAGE.md.
 Status: 0 where nothing is broken and each `ever` is reached, 1 where not, for a property that can't be
 read, and for a source with faults, 4 where memory ran out: what was covered until then is printed.
 
@@ -221,6 +229,7 @@ const COMMANDS: [CommandRow; 14] = [
             Argument::Json,
             Argument::Allow,
             Argument::CheckCover,
+            Argument::Seconds,
             Argument::Color,
             Argument::Tape,
             Argument::Seed,
@@ -242,11 +251,13 @@ const COMMANDS: [CommandRow; 14] = [
             Argument::NeededSource,
             Argument::SearchSteps,
             Argument::States,
+            Argument::Seconds,
             Argument::Deep,
             Argument::AnySpeed,
             Argument::AllowedKeys,
             Argument::KeysTo,
             Argument::Progress,
+            Argument::NoFacts,
             Argument::Rate,
             Argument::Tape,
             Argument::Seed,
@@ -268,18 +279,19 @@ const COMMANDS: [CommandRow; 14] = [
             Argument::NeededSource,
             Argument::SearchSteps,
             Argument::States,
+            Argument::Seconds,
             Argument::Deep,
             Argument::AnySpeed,
             Argument::AllowedKeys,
             Argument::KeysToPath,
             Argument::Progress,
+            Argument::NoFacts,
             Argument::Rate,
             Argument::Tape,
             Argument::Seed,
             Argument::Profile,
             Argument::Quirks,
             Argument::Only,
-            Argument::Seconds,
             Argument::Json,
         ],
     },

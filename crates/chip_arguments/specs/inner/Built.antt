@@ -76,6 +76,7 @@ rule_by argument.Allow = line.allow
 rule_by argument.Reach = line.reach
 rule_by argument.Cover = line.cover
 rule_by argument.CheckCover = line.cover
+rule_by argument.NoFacts = line.no_facts
 rule_by argument.Progress = line.progress
 rule_by argument.Hex = line.hex
 rule_by argument.Quiet = line.quiet
