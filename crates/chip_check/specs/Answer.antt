@@ -2,6 +2,7 @@
 --     met_words, unmet_words, never_words   what is said of a property that a script breaks, of an
 --                        `ever` that one reaches, or of a `can` of which one leads to a dead end; of one
 --                        that none does up to a step; of one that none ever does
+--     scope_words        behind it, for which machines that is so
 --     answer_words       what was found, in words
 --     answer_line, answer_object, answer_text    the line of an answer, or its JSON object
 --     is_bad             whether a property is broken, an `ever` isn't reached, or a `can` has a dead end
@@ -14,6 +15,8 @@ use Rattle.chip_explore.specs.declared.question.Outcome.TheVariants.{Found, Late
 use Rattle.chip_properties.specs.declared.stated.Kind.{Kind}
 use Rattle.chip_properties.specs.declared.stated.Kind.TheVariants as kind
 use Rattle.chip_check.specs.Json.{quoted}
+use Rattle.chip_check.specs.declared.answer.Scope.{Scope}
+use Rattle.chip_check.specs.declared.answer.Scope.TheVariants as scope
 
 abbrev pub met_words : Kind → List ℕ
 met_words kind.Ever = codes "reached"
@@ -25,10 +28,16 @@ unmet_words kind.Ever = codes "not reached"
 unmet_words kind.Can = codes "undecided"
 unmet_words other = codes "unbroken"
 
-abbrev pub never_words : Kind → (is_at_any_speed : Bool) → List ℕ
-never_words kind.Can is_at_any_speed = codes "always"
-never_words kind is_at_any_speed =
-    codes "never " ++ met_words kind ++ (if is_at_any_speed then codes " at any speed" else [])
+-- for the rate and the random bytes of the settings; for these random bytes at any speed; for all keys,
+-- random bytes and speeds
+abbrev pub scope_words : Scope → List ℕ
+scope_words scope.AtRate = []
+scope_words scope.AtAnySpeed = codes " at any speed"
+scope_words scope.Anything = codes " with any keys, random bytes and speed"
+
+abbrev pub never_words : Kind → Scope → List ℕ
+never_words kind.Can scope = codes "always"
+never_words kind scope = codes "never " ++ met_words kind ++ scope_words scope
 
 -- broken, reached, or a dead end, at a step
 abbrev pub met_at : Kind → ℕ → List ℕ
@@ -44,23 +53,23 @@ words_at_rate kind (Found events step met) = met_at kind step
 words_at_rate kind (Later events step met covered) =
     met_at kind step ++ codes ", " ++ unmet_up_to kind covered
 words_at_rate kind (Within step) = unmet_up_to kind step
-words_at_rate kind Never = never_words kind false
+words_at_rate kind Never = never_words kind scope.AtRate
 
--- the same, where it may be so whenever the timers tick
-abbrev pub answer_words : Kind → (is_at_any_speed : Bool) → Outcome → List ℕ
-answer_words kind is_at_any_speed outcome =
-    if is_at_any_speed then never_words kind true else words_at_rate kind outcome
+-- the same, where more is known than what was found at the rate
+abbrev pub answer_words : Kind → Scope → Outcome → List ℕ
+answer_words kind scope.AtRate outcome = words_at_rate kind outcome
+answer_words kind scope outcome = never_words kind scope
 
 -- the words without their steps
 abbrev pub word_at_rate : Kind → Outcome → List ℕ
 word_at_rate kind (Found events step met) = met_words kind
 word_at_rate kind (Later events step met covered) = met_words kind
 word_at_rate kind (Within step) = unmet_words kind
-word_at_rate kind Never = never_words kind false
+word_at_rate kind Never = never_words kind scope.AtRate
 
-abbrev pub answer_word : Kind → (is_at_any_speed : Bool) → Outcome → List ℕ
-answer_word kind is_at_any_speed outcome =
-    if is_at_any_speed then never_words kind true else word_at_rate kind outcome
+abbrev pub answer_word : Kind → Scope → Outcome → List ℕ
+answer_word kind scope.AtRate outcome = word_at_rate kind outcome
+answer_word kind scope outcome = never_words kind scope
 
 abbrev pub key_event : KeyEvent → List ℕ
 key_event event =
@@ -94,17 +103,17 @@ answer_line name line text words =
     name ++ codes ":" ++ decimal line ++ codes ": " ++ words ++ codes ": " ++ text ++ codes "\n"
 
 unfoldable pub answer_object : (name : List ℕ) (line : ℕ) (text : List ℕ) → Kind
-    → (is_at_any_speed : Bool) → Outcome → List ℕ
-answer_object name line text kind is_at_any_speed outcome =
+    → Scope → Outcome → List ℕ
+answer_object name line text kind scope outcome =
     codes "{\"line\":" ++ decimal line ++ codes ",\"property\":" ++ quoted text
-    ++ codes ",\"answer\":\"" ++ answer_word kind is_at_any_speed outcome ++ codes "\""
+    ++ codes ",\"answer\":\"" ++ answer_word kind scope outcome ++ codes "\""
     ++ answer_members outcome ++ codes ",\"file\":" ++ quoted name ++ codes "}\n"
 
 abbrev pub answer_text : (is_json : Bool) (name : List ℕ) (line : ℕ) (text : List ℕ) → Kind
-    → (is_at_any_speed : Bool) → Outcome → List ℕ
-answer_text is_json name line text kind is_at_any_speed outcome =
-    if is_json then answer_object name line text kind is_at_any_speed outcome
-    else answer_line name line text (answer_words kind is_at_any_speed outcome)
+    → Scope → Outcome → List ℕ
+answer_text is_json name line text kind scope outcome =
+    if is_json then answer_object name line text kind scope outcome
+    else answer_line name line text (answer_words kind scope outcome)
 
 -- a property that is broken, an `ever` that isn't reached, or a `can` with a dead end
 abbrev pub is_bad : Kind → Outcome → Bool

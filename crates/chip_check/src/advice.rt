@@ -2,10 +2,10 @@
 
 use crate::forms::{near_heading, push_forms, stands_alone};
 use crate::hint::{Hint, push_formatted, push_help, push_note, push_sentence};
-use crate::known::Known;
+use crate::known::{Known, Skipped};
 use crate::missing::missing_word;
 use crate::mistakes::push_mistake;
-use crate::operand_advice::{ORIGIN, out_of_range, wrong_operands};
+use crate::operand_advice::{NO_HERE, NO_REMAINDER, ORIGIN, out_of_range, wrong_operands};
 use crate::other_assemblers::{Radix, other_number, other_word};
 use crate::place::tokens_after;
 use crate::reserved::push_meaning;
@@ -69,9 +69,46 @@ fn push_fault_advice(
 ) -> Result<(), AllocError> {
     match fault {
         Fault::UndefinedName => undefined_name(alloc, hints, known, faulty),
-        Fault::OutOfRange => out_of_range(alloc, hints, known, faulty.line.reading()),
+        Fault::OutOfRange => {
+            out_of_range(alloc, hints, known, faulty.line.reading())?;
+            push_address_help(alloc, hints, known, statement_of(faulty.words))
+        }
         Fault::DefinedTwice => defined_twice(alloc, hints, known, faulty.rest),
         _ => push_line_advice(alloc, hints, fault, faulty),
+    }
+}
+
+/// Adds how an address is used that stands in the place of a smaller value.
+fn push_address_help(
+    alloc: Global,
+    hints: &mut Vec<Hint>,
+    known: &Known,
+    statement: &[Word<'_>],
+) -> Result<(), AllocError> {
+    match statement {
+        [Word { text: b"LD", .. }, register, _, name] if is_register(register.text) => {
+            match known.find(name.text) {
+                Some(symbol) if symbol.value >= IMAGE_START as i32 => {
+                    let end = format!(in alloc;
+                        ", then LD V0, [I] reads the byte at address {}",
+                        symbol.value
+                    )?;
+                    push_help(alloc, hints, &[b"LD I, ", name.text, end.as_bytes()])
+                }
+                _ => Ok(()),
+            }
+        }
+        [Word { text: b"DRW", .. }, _, _, _, _, name] if known.find(name.text).is_some() =>
+            push_help(
+                alloc,
+                hints,
+                &[
+                    b"the third operand is the number of rows; LD I, ",
+                    name.text,
+                    b" points I to the sprite",
+                ],
+            ),
+        _ => Ok(()),
     }
 }
 
@@ -134,7 +171,10 @@ fn bad_character(
         }
     }
     match (faulty.rest, other_number(faulty.rest)) {
-        (_, Some((radix, digits))) => push_other_number(alloc, hints, radix, digits),
+        (_, Some((radix, digits))) => {
+            push_other_number(alloc, hints, radix, digits)?;
+            push_binary_note(alloc, hints, &faulty)
+        }
         ([Word { text: b".", .. }, word, ..], None) if other_word(word.text).is_some() => {
             push_other_word(alloc, hints, word.text)
         }
@@ -152,6 +192,10 @@ fn sentence_for_statement(text: &[u8], first: &[u8]) -> Option<&'static str> {
     match (first, text) {
         (b"*", _) => Some(ORIGIN),
         (_, [b'!', ..]) => missing_word(first),
+        (
+            b"JP" | b"CALL",
+            [b'0'..=b'9', b'b' | b'f'] | [b'0'..=b'9', b'b' | b'f', b' ' | b';', ..],
+        ) => { Some("no label is a number; a label has a name, as in LOOP: and JP LOOP") }
         _ => None,
     }
 }
@@ -169,19 +213,42 @@ fn sentence_for_file(line: &[u8]) -> Option<&'static str> {
     None
 }
 
+/// Whether a text begins with some letters of either case.
+fn begins_with(text: &[u8], front: &[u8]) -> bool {
+    match text.get(..front.len()) {
+        Some(first) => first.eq_ignore_ascii_case(front),
+        None => false,
+    }
+}
+
 /// What helps with a byte that begins no token: `text` is the line from it on, `rest` its words.
 fn sentence_for_character(text: &[u8], rest: &[Word<'_>]) -> Option<&'static str> {
     match (text, rest) {
+        ([b'#', ..], _) if begins_with(text, b"#define") => {
+            Some("EQU names a value, as in SIZE EQU 5; a comment begins with `;`")
+        }
+        ([b'#', ..], _) if begins_with(text, b"#include") => Some("a source is one file"),
         ([b'#', ..], _) => {
             Some("`#` begins a hexadecimal number, as in `#1F`; a comment begins with `;`")
         }
+        ([b'.'] | [b'.', b' ' | b',' | b';', ..], _) => Some(NO_HERE),
+        ([b'$'] | [b'$', b' ' | b',' | b';', ..], _) => Some(
+            "`$` begins a binary number, as in `$101`; for the address of this line give it a label, as in HALT: JP HALT",
+        ),
         ([b'$', ..], _) => Some("`$` begins a binary number, as in `$101`"),
+        ([b'@', b'A'..=b'Z' | b'a'..=b'z' | b'_', ..], _) => {
+            Some("no `@` stands before a label; it begins an octal number, as in `@17`")
+        }
         ([b'@', ..], _) => Some("`@` begins an octal number, as in `@17`"),
         ([b'%', b'0'..=b'9', ..], _) => Some("a binary number begins with `$`, as in `$101`"),
-        ([b'%', ..], _) => Some("no sign divides with a remainder; `& 7` gives the remainder by 8"),
+        ([b'%', b'A'..=b'Z' | b'a'..=b'z', ..], _) => Some("there are no macros"),
+        ([b'%', ..], _) => Some(NO_REMAINDER),
         ([b'!', ..], _) => missing_word(b"CMP"),
         ([b'.', ..], [_, word, ..]) if word.kind == Kind::Word => {
             Some("no full stop stands before a directive or a label")
+        }
+        ([b'.', b'.', b'V' | b'v', ..], _) => {
+            Some("LD V2, [I] loads V0 to V2, and LD [I], V2 stores them")
         }
         ([b'.', b'.' | b'1', ..], _) => {
             Some("a binary number begins with `$`, and a full stop in it is a 0: $..11....")
@@ -220,6 +287,44 @@ fn push_other_number(
     push_help(alloc, hints, &[front.as_bytes(), digits])
 }
 
+/// Adds what the first number with a `$` of the line is, where the number at fault has a `$` too.
+fn push_binary_note(
+    alloc: Global,
+    hints: &mut Vec<Hint>,
+    faulty: &FaultyLine<'_>,
+) -> Result<(), AllocError> {
+    if !faulty.text.starts_with(b"$") {
+        return Ok(());
+    }
+    for word in faulty.words {
+        if let (Kind::Number(value), [b'$', digits @ ..]) = (word.kind, word.text) {
+            let middle = format!(in alloc; " on this line is binary, {value}; #")?;
+            let end = format!(in alloc; " is {}", hexadecimal_value(digits))?;
+            let parts: &[&[u8]] = &[word.text, middle.as_bytes(), digits, end.as_bytes()];
+            return push_note(alloc, hints, parts);
+        }
+    }
+    Ok(())
+}
+
+/// The value of the digits of a binary number if they were hexadecimal; in a binary number a full stop is a 0.
+fn hexadecimal_value(digits: &[u8]) -> u64 {
+    let mut value = 0u64;
+    for digit in digits {
+        let unit = if *digit == b'1' { 1 } else { 0 };
+        value = value.saturating_mul(16).saturating_add(unit);
+    }
+    value
+}
+
+/// Whether a colon stands behind the first word at fault, and a label before it.
+fn has_second_label(faulty: &FaultyLine<'_>) -> bool {
+    match faulty.rest {
+        [_, colon, ..] => colon.text == b":".as_slice() && faulty.rest.len() < faulty.words.len(),
+        _ => false,
+    }
+}
+
 /// Help with a word that begins a statement and isn't known.
 fn unknown_word(
     alloc: Global,
@@ -235,12 +340,15 @@ fn unknown_word(
     if push_mistake(alloc, hints, faulty.rest)? {
         return Ok(());
     }
-    if is_register(word) || is_special(word) {
+    if has_second_label(&faulty) {
         return push_help(
             alloc,
             hints,
-            &[b"an instruction stands first, as in LD ", word, b", 5"],
+            &[b"a line has one label; put the other one on a line of its own"],
         );
+    }
+    if is_register(word) || is_special(word) {
+        return push_example(alloc, hints, word, faulty.rest);
     }
     let (written, behind) = faulty.text.split_at(word.len().min(faulty.text.len()));
     let is_label = reads_as_label(alloc, faulty.words, written, behind)?;
@@ -270,6 +378,27 @@ fn unknown_word(
             )
         }
         _ => Ok(()),
+    }
+}
+
+/// Help with a register, or another part of the machine, that begins a statement of these words.
+fn push_example<'a>(
+    alloc: Global,
+    hints: &mut Vec<Hint>,
+    word: &'a [u8],
+    rest: &[Word<'a>],
+) -> Result<(), AllocError> {
+    let register: &'a [u8] = match rest {
+        [_, second, ..] if is_register(second.text) => second.text,
+        _ => b"V0",
+    };
+    let front = b"an instruction stands first, as in LD ".as_slice();
+    if word == b"K".as_slice() {
+        push_help(alloc, hints, &[front, register, b", K"])
+    } else if is_register(word) || word == b"I".as_slice() {
+        push_help(alloc, hints, &[front, word, b", 5"])
+    } else {
+        push_help(alloc, hints, &[front, word, b", ", register])
     }
 }
 
@@ -419,8 +548,28 @@ fn undefined_name(
             line,
             ", which has a fault of its own",
         ),
-        _ => unknown_name(alloc, hints, known, name, faulty.words, faulty.rest),
+        _ => match known.skipped_line_of(name) {
+            Some(skipped) => push_skipped_note(alloc, hints, name, skipped),
+            None => unknown_name(alloc, hints, known, name, faulty.words, faulty.rest),
+        },
     }
+}
+
+/// Adds why the line that begins with a name isn't active.
+fn push_skipped_note(
+    alloc: Global,
+    hints: &mut Vec<Hint>,
+    name: &[u8],
+    skipped: &Skipped,
+) -> Result<(), AllocError> {
+    let Skipped { line, end, .. } = skipped;
+    let why = match *end {
+        0 => format!(in alloc;
+            " is on line {line}, which isn't active: an IF above leaves it out"
+        )?,
+        _ => format!(in alloc; " is on line {line}, behind the END on line {end}")?,
+    };
+    push_note(alloc, hints, &[name, why.as_bytes()])
 }
 
 /// Adds a note on the line of a name: the name, the text before the line's number, the number, and the

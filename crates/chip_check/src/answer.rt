@@ -2,7 +2,7 @@
 ghost use Rattle.std.specs.Prelude.{◌≡◌, ◌++◌, OnOk};
 ghost use Rattle.std.specs.Fmt.{decimal};
 ghost use Rattle.std.specs.List.{flat_map};
-ghost use Rattle.chip_check.specs.Answer.{answer_members, answer_object, answer_text, answer_word, answer_words, further_event, is_bad, key_event, key_events, met_at, met_words, never_words, unmet_up_to, unmet_words};
+ghost use Rattle.chip_check.specs.Answer.{answer_members, answer_object, answer_text, answer_word, answer_words, further_event, is_bad, key_event, key_events, met_at, met_words, never_words, scope_words, unmet_up_to, unmet_words};
 
 use crate::json::push_quoted;
 use chip_explore::{KeyEvent, Outcome};
@@ -10,13 +10,24 @@ use chip_properties::Kind;
 use chip_trace::push_decimal;
 use std::alloc::{AllocError, Global};
 
-/// What a search says of a property of this kind.
+/// The machines that an answer `never` covers.
+#[derive(Clone, Copy, PartialEq, Eq)]
+pub enum Scope {
+    /// Those with the rate and the random bytes of the settings.
+    AtRate,
+    /// Those with the random bytes of the settings, at any speed.
+    AtAnySpeed,
+    /// All, with any keys, random bytes and speed.
+    Anything,
+}
+
+/// The answer to a property of this kind.
 #[derive(Clone, Copy)]
 pub struct PropertyAnswer<'a> {
     pub kind: Kind,
     pub outcome: &'a Outcome,
-    /// It says so whenever the timers tick, and that is asked for.
-    pub is_at_any_speed: bool,
+    /// The machines that the answer covers. Beyond `AtRate` the answer is `never`, whatever the outcome says.
+    pub scope: Scope,
 }
 
 /// Where a property stands: the name of the source, its line's number, and its text.
@@ -42,7 +53,7 @@ impl PropertyAnswer<'_> {
     ) -> Result<(), AllocError>
         ensures { OnOk result (text.new.items ≡ text.old.items ++ answer_text is_json
             place.now.name.now place.now.line place.now.text.now self.now.kind
-            self.now.is_at_any_speed self.now.outcome.now) }
+            self.now.scope self.now.outcome.now) }
     {
         if is_json {
             return self.push_object(alloc, text, place);
@@ -64,7 +75,7 @@ impl PropertyAnswer<'_> {
         place: &PropertyPlace<'_>,
     ) -> Result<(), AllocError>
         ensures { OnOk result (text.new.items ≡ text.old.items ++ answer_object place.now.name.now
-            place.now.line place.now.text.now self.now.kind self.now.is_at_any_speed
+            place.now.line place.now.text.now self.now.kind self.now.scope
             self.now.outcome.now) }
     {
         text.extend_from_slice(b"{\"line\":")?;
@@ -83,10 +94,10 @@ impl PropertyAnswer<'_> {
     /// Adds what was found, in words.
     fn push_words(&self, text: &mut Vec<u8>) -> Result<(), AllocError>
         ensures { OnOk result (text.new.items ≡ text.old.items
-            ++ answer_words self.now.kind self.now.is_at_any_speed self.now.outcome.now) }
+            ++ answer_words self.now.kind self.now.scope self.now.outcome.now) }
     {
-        if self.is_at_any_speed {
-            return push_never(text, self.kind, true);
+        if self.scope != Scope::AtRate {
+            return push_never(text, self.kind, self.scope);
         }
         match self.outcome {
             Outcome::Found { step, .. } => push_met(text, self.kind, *step),
@@ -96,24 +107,24 @@ impl PropertyAnswer<'_> {
                 push_unmet(text, self.kind, *covered)
             }
             Outcome::Within(step) => push_unmet(text, self.kind, *step),
-            Outcome::Never => push_never(text, self.kind, false),
+            Outcome::Never => push_never(text, self.kind, Scope::AtRate),
         }
     }
 
     /// Adds what was found, without its steps.
     fn push_word(&self, text: &mut Vec<u8>) -> Result<(), AllocError>
         ensures { OnOk result (text.new.items ≡ text.old.items
-            ++ answer_word self.now.kind self.now.is_at_any_speed self.now.outcome.now) }
+            ++ answer_word self.now.kind self.now.scope self.now.outcome.now) }
     {
-        if self.is_at_any_speed {
-            return push_never(text, self.kind, true);
+        if self.scope != Scope::AtRate {
+            return push_never(text, self.kind, self.scope);
         }
         match self.outcome {
             Outcome::Found { .. } | Outcome::Later { .. } => {
                 text.extend_from_slice(met_words(self.kind))
             }
             Outcome::Within(_) => text.extend_from_slice(unmet_words(self.kind)),
-            Outcome::Never => push_never(text, self.kind, false),
+            Outcome::Never => push_never(text, self.kind, Scope::AtRate),
         }
     }
 }
@@ -168,20 +179,26 @@ fn push_unmet(text: &mut Vec<u8>, kind: Kind, step: u64) -> Result<(), AllocErro
     push_decimal(text, step)
 }
 
-fn push_never(text: &mut Vec<u8>, kind: Kind, is_at_any_speed: bool) -> Result<(), AllocError>
-    ensures { OnOk result (text.new.items ≡ text.old.items ++ never_words kind is_at_any_speed) }
+/// The words behind an answer for the machines that it covers.
+fn scope_words(scope: Scope) -> &'static [u8]
+    ensures { result.now ≡ scope_words scope }
+{
+    match scope {
+        Scope::AtRate => b"",
+        Scope::AtAnySpeed => b" at any speed",
+        Scope::Anything => b" with any keys, random bytes and speed",
+    }
+}
+
+fn push_never(text: &mut Vec<u8>, kind: Kind, scope: Scope) -> Result<(), AllocError>
+    ensures { OnOk result (text.new.items ≡ text.old.items ++ never_words kind scope) }
 {
     if kind == Kind::Can {
         return text.extend_from_slice(b"always");
     }
-    let speed: &[u8] = if is_at_any_speed {
-        b" at any speed"
-    } else {
-        b""
-    };
     text.extend_from_slice(b"never ")?;
     text.extend_from_slice(met_words(kind))?;
-    text.extend_from_slice(speed)
+    text.extend_from_slice(scope_words(scope))
 }
 
 /// Adds the members of an object for the steps and the key events of what was found.

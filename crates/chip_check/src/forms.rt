@@ -100,11 +100,16 @@ pub(crate) fn stands_alone(word: &[u8]) -> bool {
     is_one_of(word, forms_of(word))
 }
 
+/// Whether a word is an instruction or a directive.
+pub(crate) fn is_heading(word: &[u8]) -> bool {
+    !forms_of(word).is_empty()
+}
+
 /// Whether a word has a meaning of its own, so that it can't be a name.
 pub(crate) fn is_reserved(word: &[u8]) -> bool {
     is_register(word)
         || is_special(word)
-        || !forms_of(word).is_empty()
+        || is_heading(word)
         || is_one_of(word, &["USED", "INCLUDE", "UNDEF"])
 }
 

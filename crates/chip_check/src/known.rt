@@ -6,9 +6,9 @@ ghost use Rattle.chip_asm.specs.Program.{symbols_of};
 ghost use Rattle.chip_check.specs.inner.Known.{Agree, listed};
 
 use crate::foreign::Tally;
-use crate::words::words_of;
+use crate::words::{Word, words_of};
 use chip_asm::{LineView, NameHasher, Source, Symbol};
-use chip_lang::{Bytes, Kind, Names};
+use chip_lang::{Body, Bytes, Kind, Line, Names};
 use chip_properties::near::{fewest_edits, most_edits};
 use indexmap::IndexMap;
 use std::alloc::{AllocError, Global};
@@ -18,6 +18,16 @@ use std::alloc::{AllocError, Global};
 pub(crate) struct Lost {
     name: Vec<u8>,
     line: usize,
+}
+
+/// A name that begins a line that isn't active.
+#[derive(Drop)]
+pub(crate) struct Skipped {
+    name: Vec<u8>,
+    /// The number of its line.
+    pub(crate) line: usize,
+    /// The number of the line with the END before it, or 0 where an IF leaves the line out.
+    pub(crate) end: usize,
 }
 
 /// Symbols by their names in upper case.
@@ -30,6 +40,8 @@ pub(crate) struct Known {
     symbols: Symbols,
     /// Those that begin a line with a fault, in line order.
     lost: Vec<Lost>,
+    /// Those that begin a line that isn't active, in line order.
+    skipped: Vec<Skipped>,
     /// How many lines with a fault look as others write them.
     tally: Tally,
 }
@@ -60,9 +72,11 @@ impl Known {
         let symbols = by_name(alloc, &listed)?;
         let mut tally = Tally::new();
         let lost = lost_names(alloc, source, &mut tally)?;
+        let skipped = skipped_names(alloc, source)?;
         Ok(Known {
             symbols,
             lost,
+            skipped,
             tally,
         })
     }
@@ -93,6 +107,13 @@ impl Known {
             }
         }
         None
+    }
+
+    /// The first line that isn't active and begins with a name.
+    pub(crate) fn skipped_line_of(&self, name: &[u8]) -> Option<&Skipped> {
+        self.skipped
+            .iter()
+            .find(|skipped| skipped.name.as_slice() == name)
     }
 
     /// The note on the whole source that is printed below the fault of a line, if that is the first one.
@@ -176,13 +197,66 @@ fn push_front_name(
     let upper = line.text().to_ascii_uppercase(alloc)?;
     let words = words_of(alloc, &upper, &line.tokens(alloc)?)?;
     tally.add(line.number(), &words);
-    let name = match words.as_slice() {
-        [first, name, ..] if first.text == b"DEFINE".as_slice() => name.text,
-        [name, ..] if name.kind == Kind::Word => name.text,
-        _ => return Ok(()),
-    };
-    let name = Vec::from_slice(alloc, name)?;
-    let line = line.number();
-    lost.push(Lost { name, line })?;
+    if let Some(name) = front_name(&words) {
+        let name = Vec::from_slice(alloc, name)?;
+        let line = line.number();
+        lost.push(Lost { name, line })?;
+    }
+    Ok(())
+}
+
+/// The word that begins a line, or the one after DEFINE.
+fn front_name<'a>(words: &[Word<'a>]) -> Option<&'a [u8]> {
+    match words {
+        [first, name, ..] if first.text == b"DEFINE".as_slice() => Some(name.text),
+        [name, ..] if name.kind == Kind::Word => Some(name.text),
+        _ => None,
+    }
+}
+
+/// The names that begin the lines that aren't active, in line order.
+fn skipped_names(alloc: Global, source: &Source) -> Result<Vec<Skipped>, AllocError> {
+    let mut skipped = Vec::new(alloc);
+    if source.image().is_some() {
+        return Ok(skipped);
+    }
+    let mut end = 0;
+    for place in 0..source.lines() {
+        if let Some(line) = source.line(place + 1) {
+            if !line.is_active() {
+                push_skipped(alloc, &mut skipped, &line, end)?;
+            } else if is_end(&line) {
+                end = line.number();
+            }
+        }
+    }
+    Ok(skipped)
+}
+
+/// Whether a line is END.
+fn is_end(line: &LineView<'_>) -> bool {
+    matches!(
+        line.reading(),
+        Line::Read {
+            body: Body::End,
+            ..
+        }
+    )
+}
+
+/// Adds the name that begins a line that isn't active. `end` is the number of the line with END, or 0.
+fn push_skipped(
+    alloc: Global,
+    skipped: &mut Vec<Skipped>,
+    line: &LineView<'_>,
+    end: usize,
+) -> Result<(), AllocError> {
+    let upper = line.text().to_ascii_uppercase(alloc)?;
+    let words = words_of(alloc, &upper, &line.tokens(alloc)?)?;
+    if let Some(name) = front_name(&words) {
+        let name = Vec::from_slice(alloc, name)?;
+        let line = line.number();
+        skipped.push(Skipped { name, line, end })?;
+    }
     Ok(())
 }

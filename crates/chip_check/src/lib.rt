@@ -25,7 +25,7 @@ mod reserved;
 mod spelling;
 mod words;
 
-pub use answer::{PropertyAnswer, PropertyPlace, is_bad};
+pub use answer::{PropertyAnswer, PropertyPlace, Scope, is_bad};
 pub use check::{check_json, check_text, fault_text, unopened_json, unopened_report};
 pub use json::push_quoted;
 pub use property::push_property_fault;

@@ -11,9 +11,21 @@ const MISSING: &[(&str, &[&str])] = &[
     (
         "a jump on a condition is two lines: SE or SNE, and the JP that it may skip",
         &[
-            "JZ", "JNZ", "JE", "JNE", "JEQ", "JC", "JNC", "JG", "JL", "JGE", "JLE", "JLT", "JGT",
-            "BEQ", "BNE", "BZ", "BNZ", "BEQZ", "BNEZ", "BCC", "BCS", "BGT", "BGE", "BLT", "BLE",
-            "BMI", "BPL", "DJNZ",
+            "JZ", "JNZ", "JE", "JNE", "JEQ", "JC", "JNC", "BEQ", "BNE", "BZ", "BNZ", "BEQZ",
+            "BNEZ", "BCC", "BCS", "BMI", "BPL", "DJNZ",
+        ],
+    ),
+    (
+        "no instruction asks which value is less: SUB V0, V1, then SNE VF, 0 skips the JP below it unless V0 was less than V1; with SUBN, unless it was greater",
+        &[
+            "JG", "JL", "JGE", "JLE", "JGT", "JLT", "JA", "JB", "JAE", "JBE", "BGT", "BLT", "BGE",
+            "BLE", "BHI", "BHS", "BLO", "BLS", "BGTU", "BLTU", "BGEU", "BLEU",
+        ],
+    ),
+    (
+        "no instruction asks which value is less: SUB V0, V1, then SE VF, 0 skips the next line if V0 was less than V1; with SUBN, if it was greater",
+        &[
+            "SGT", "SLT", "SGE", "SLE", "SGTU", "SLTU", "SLTI", "SKGT", "SKLT", "SKGE", "SKLE",
         ],
     ),
     (
@@ -43,6 +55,23 @@ const MISSING: &[(&str, &[&str])] = &[
     (
         "LD Vx, K waits for a key; SKP Vx and SKNP Vx ask whether the key in Vx is down",
         &["KEY", "KEYS", "INPUT"],
+    ),
+    ("there are no macros", &["MACRO", "ENDM"]),
+    (
+        "no directive repeats lines; write them out, or make a loop of a label and a JP back to it",
+        &["REPT", "ENDR", "ENDREPT", "DUP", "EDUP", "TIMES"],
+    ),
+    (
+        "the machine is a SUPER-CHIP 1.1, which has no instructions of XO-CHIP",
+        &["PLANE", "AUDIO", "PITCH"],
+    ),
+    (
+        "no instruction waits for a time: LD DT, V0 sets the delay timer, and a loop reads it by LD V0, DT until it is 0",
+        &["WAIT", "SLEEP", "PAUSE"],
+    ),
+    (
+        "no instruction rotates; SHL and SHR shift, and put the bit that falls out into VF",
+        &["ROL", "ROR", "RLC", "RRC", "RL", "RR"],
     ),
     (
         "no instruction is without effect; LD V0, V0 changes nothing",

@@ -3,12 +3,14 @@
 use crate::forms::is_reserved;
 use crate::hint::{Hint, push_help};
 use crate::words::{Word, is_atom, is_register};
+use chip_lang::Kind;
 use chip_properties::near::is_like_register;
 use std::alloc::{AllocError, Global};
 
 /// Statements that have no meaning here, and what to write. In a statement `v` is a register, `n` a
-/// number or a name, `o` either of them, and a `*` at the end anything. In the help `{0}` is the first
-/// of these, `{1}` the second.
+/// number or a name, `o` either of them, `h` a text of one hexadecimal digit, `t` any text, and a `*`
+/// at the end anything. In the help `{0}` is the first of these, `{1}` the second; of a digit it is
+/// the value.
 const MISTAKES: &[(&str, &str)] = &[
     // values that go through a register
     ("LD v , KEY", "the key wait is written K: LD {0}, K"),
@@ -20,6 +22,18 @@ const MISTAKES: &[(&str, &str)] = &[
     (
         "LD ST , n",
         "put the number into a register first: LD V0, {0}, then LD ST, V0",
+    ),
+    (
+        "LD F , h",
+        "put the digit's value into a register first: LD V0, {0}, then LD F, V0",
+    ),
+    (
+        "LD F , t",
+        "the machine has sprites of the digits 0 to F alone; draw other letters in the source, in DB lines as in examples/breaker.asm",
+    ),
+    (
+        "LD HF , t",
+        "the machine has large sprites of the digits 0 to 9 alone: LD V0, 5, then LD HF, V0",
     ),
     (
         "LD F , n",
@@ -60,6 +74,59 @@ const MISTAKES: &[(&str, &str)] = &[
     (
         "XOR v , n",
         "put the number into a register first: LD VE, {1}, then XOR {0}, VE",
+    ),
+    (
+        "SE DT , n",
+        "put the timer into a register first: LD V0, DT, then SE V0, {0}",
+    ),
+    (
+        "SNE DT , n",
+        "put the timer into a register first: LD V0, DT, then SNE V0, {0}",
+    ),
+    (
+        "SE DT , v",
+        "put the timer into a register first: LD VE, DT, then SE VE, {0}",
+    ),
+    (
+        "SNE DT , v",
+        "put the timer into a register first: LD VE, DT, then SNE VE, {0}",
+    ),
+    (
+        "SE v , DT",
+        "put the timer into a register first: LD VE, DT, then SE {0}, VE",
+    ),
+    (
+        "SNE v , DT",
+        "put the timer into a register first: LD VE, DT, then SNE {0}, VE",
+    ),
+    (
+        "SE ST , *",
+        "the sound timer can't be read; the delay timer DT can: LD V0, DT",
+    ),
+    (
+        "SNE ST , *",
+        "the sound timer can't be read; the delay timer DT can: LD V0, DT",
+    ),
+    (
+        "SHL v , n",
+        "SHL {0} shifts by one bit; write it once for each bit",
+    ),
+    (
+        "SHR v , n",
+        "SHR {0} shifts by one bit; write it once for each bit",
+    ),
+    (
+        "INC I",
+        "put the number into a register first: LD VE, 1, then ADD I, VE",
+    ),
+    ("LD v , TIMER", "the delay timer is DT: LD {0}, DT"),
+    ("LD v , DELAY", "the delay timer is DT: LD {0}, DT"),
+    ("DELAY v", "the delay timer is DT: LD DT, {0}"),
+    ("SOUND v", "the sound timer is ST: LD ST, {0}"),
+    ("WAITKEY v", "the key wait is written K: LD {0}, K"),
+    (
+        "SKIP v , o",
+        "SE skips the next line if two values are equal, and SNE if they differ: SE {0}, {1}",
     ),
     // several registers, and the sprites of digits
     ("LD v - v , [ I ]", "LD {1}, [I] loads V0 to {1}"),
@@ -105,6 +172,16 @@ const MISTAKES: &[(&str, &str)] = &[
         "LD v , HIGH n",
         "the high byte of an address is {1} / 256: LD {0}, {1} / 256",
     ),
+    (
+        "LD I , n + v",
+        "a register is added by ADD: LD I, {0}, then ADD I, {1}",
+    ),
+    ("JP n + V0", "V0 stands before the address: JP V0, {0}"),
+    ("JP n + v", "JP adds V0 alone: LD V0, {1}, then JP V0, {0}"),
+    (
+        "CALL n ( *",
+        "CALL takes no arguments; put them into registers first, then CALL {0}",
+    ),
     // random values
     (
         "LD v , RANDOM n",
@@ -115,7 +192,19 @@ const MISTAKES: &[(&str, &str)] = &[
         "RND gives a register a random value: RND {0}, {1}",
     ),
     (
+        "LD v , RND , n",
+        "RND gives a register a random value: RND {0}, {1}",
+    ),
+    (
+        "LD v , RND *",
+        "RND gives a register a random value: RND {0}, 255",
+    ),
+    (
         "LD v , RANDOM",
+        "RND gives a register a random value: RND {0}, 255",
+    ),
+    (
+        "LD v , RAND",
         "RND gives a register a random value: RND {0}, 255",
     ),
     // instructions that others spell out
@@ -202,6 +291,10 @@ const MISTAKES: &[(&str, &str)] = &[
     ),
     ("DELAY : = v", "the delay timer is DT: LD DT, {0}"),
     ("BUZZER : = v", "the sound timer is ST: LD ST, {0}"),
+    (
+        "PITCH : = v",
+        "the machine is a SUPER-CHIP 1.1, which has no instructions of XO-CHIP",
+    ),
     (
         "n : = v",
         "a name has no register as its value; write {1} itself",
@@ -291,6 +384,8 @@ fn is_wanted(wanted: &[u8], word: &Word<'_>) -> bool {
         b"v" => is_register(word.text),
         b"n" => is_value(word),
         b"o" => is_register(word.text) || is_value(word),
+        b"h" => digit_in(word).is_some(),
+        b"t" => word.kind == Kind::Text,
         _ => wanted == word.text,
     }
 }
@@ -298,6 +393,23 @@ fn is_wanted(wanted: &[u8], word: &Word<'_>) -> bool {
 /// Whether a word is a number, a text or what may be a name.
 fn is_value(word: &Word<'_>) -> bool {
     is_atom(word) && !is_reserved(word.text) && !is_like_register(word.text)
+}
+
+/// The values of hexadecimal digits, in decimal.
+const VALUES: [&str; 16] = [
+    "0", "1", "2", "3", "4", "5", "6", "7", "8", "9", "10", "11", "12", "13", "14", "15",
+];
+
+/// The value of a text of one hexadecimal digit, in decimal.
+fn digit_in(word: &Word<'_>) -> Option<&'static [u8]> {
+    let value = match (word.kind, word.text) {
+        (Kind::Text, [_, digit @ b'0'..=b'9', _]) => *digit - b'0',
+        (Kind::Text, [_, digit @ b'A'..=b'F', _]) => *digit - b'A' + 10,
+        _ => return None,
+    };
+    VALUES
+        .get(usize::from(value))
+        .map(|written| written.as_bytes())
 }
 
 /// A help with the words of a statement in the places of `{0}` and `{1}`.
@@ -324,13 +436,17 @@ fn filled(
     Ok(sentence)
 }
 
-/// The word in the place of a statement's `v`, `n` or `o` that comes after so many others of them.
+/// What is shown in the place of a statement's `v`, `n`, `o` or `h` that comes after so many others of
+/// them.
 fn written_at<'a>(before: usize, statement: &str, words: &[Word<'a>]) -> &'a [u8] {
     let mut left = before;
     for (wanted, word) in statement.split(' ').zip(words) {
-        if matches!(wanted, "v" | "n" | "o") {
+        if matches!(wanted, "v" | "n" | "o" | "h") {
             if left == 0 {
-                return word.text;
+                return match wanted {
+                    "h" => digit_in(word).unwrap_or(word.text),
+                    _ => word.text,
+                };
             }
             left -= 1;
         }

@@ -1,6 +1,6 @@
 //! What may help with operands.
 
-use crate::forms::{is_reserved, push_forms, stands_alone};
+use crate::forms::{is_heading, is_reserved, push_forms, stands_alone};
 use crate::hint::{Hint, push_formatted, push_help, push_sentence};
 use crate::known::Known;
 use crate::mistakes::push_mistake;
@@ -37,6 +37,7 @@ pub(crate) fn wrong_operands(
     }
     let sentence = sentence_for(heading, words, rest);
     push_sentence(alloc, hints, sentence)?;
+    push_split_binary(alloc, hints, rest)?;
     if operands.iter().any(|word| is_like_register(word.text)) {
         push_help(alloc, hints, &[REGISTERS])
     } else if sentence.is_some() && !rest.is_empty() {
@@ -44,6 +45,31 @@ pub(crate) fn wrong_operands(
     } else {
         forms_help(alloc, hints, heading, operands)
     }
+}
+
+/// Adds the binary number whose digits a blank splits, where the words at fault begin with its two parts.
+fn push_split_binary(
+    alloc: Global,
+    hints: &mut Vec<Hint>,
+    rest: &[Word<'_>],
+) -> Result<(), AllocError> {
+    match rest {
+        [front, end, ..] if front.text.starts_with(b"$") && is_binary(end.text) => push_help(
+            alloc,
+            hints,
+            &[
+                b"or the blank splits one binary number: ",
+                front.text,
+                end.text,
+            ],
+        ),
+        _ => Ok(()),
+    }
+}
+
+/// Whether a word has binary digits alone.
+fn is_binary(word: &[u8]) -> bool {
+    word.iter().all(|byte| matches!(byte, b'0' | b'1'))
 }
 
 /// Whether a word after an instruction or a directive was meant as a name, if it is a reserved one.
@@ -109,6 +135,8 @@ fn wrong_front(alloc: Global, hints: &mut Vec<Hint>, rest: &[Word<'_>]) -> Resul
                 b" takes no label; put the label on a line of its own",
             ],
         ),
+        [Word { text: b"/", .. }, ..] | [Word { text: b"-", .. }, Word { text: b"-", .. }, ..] =>
+            push_help(alloc, hints, &[b"a comment begins with `;`"]),
         _ => push_help(
             alloc,
             hints,
@@ -159,6 +187,17 @@ fn is_part(operand: &[Word<'_>]) -> bool {
     }
 }
 
+/// Help with an instruction or a directive among operands.
+const ONE_INSTRUCTION: &str = "a line has one instruction; put the second one on a line of its own";
+
+/// Help with a sign that other assemblers write for the address of the line.
+pub(crate) const NO_HERE: &str =
+    "no sign stands for the address of the line: give it a label, as in HALT: JP HALT";
+
+/// Help with a sign or a word that divides with a remainder elsewhere.
+pub(crate) const NO_REMAINDER: &str =
+    "no sign divides with a remainder; `& 7` gives the remainder by 8";
+
 /// What helps with an operand by the tokens that it begins with.
 fn sentence_for_front(heading: &[u8], operand: &[Word<'_>]) -> Option<&'static str> {
     match operand {
@@ -168,6 +207,12 @@ fn sentence_for_front(heading: &[u8], operand: &[Word<'_>]) -> Option<&'static s
         [_, Word { text: b":", .. }, ..] => Some(
             "a colon stands only after a name that the line defines",
         ),
+        [_, Word { text: b"MOD", .. }, ..] => Some(NO_REMAINDER),
+        [Word { text: b"*", .. }] => Some(NO_HERE),
+        [Word { text: b"(", .. }, Word { text: b"I", .. }, ..] => Some(
+            "the bytes at I are written `[I]`, as in LD [I], V0",
+        ),
+        [_, second, ..] if is_heading(second.text) => Some(ONE_INSTRUCTION),
         [first, Word { text: b"=", .. }, ..] if is_register(first.text) => Some(
             "a comma stands between two operands",
         ),
@@ -196,6 +241,8 @@ fn sentence_for_word(word: &[u8]) -> Option<&'static str> {
         Some("memory is reached by `[I]` alone; LD I gives the address")
     } else if is_register(word) {
         Some("a register has no place in an expression; ADD and SUB compute with it")
+    } else if is_heading(word) {
+        Some(ONE_INSTRUCTION)
     } else if is_reserved(word) {
         Some("a reserved word has no value; in an expression stand names and numbers")
     } else {

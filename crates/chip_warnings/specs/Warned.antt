@@ -1,6 +1,7 @@
 -- Which lines have which warnings (own).
 use Rattle.std.specs.Prelude.{ℕ, ◌+◌, ◌%◌, ◌==◌, ◌&&◌, not, Bool, true, false, List, [], ◌∷◌, length, map, filter, is_none, reverse, take, Option, Some, None, slice_get, slice_index_or}
 use Rattle.std.specs.List.{flat_map, range_with_len}
+use Rattle.std.specs.Borrow.{Bor}
 use Rattle.chip_machine.specs.declared.quirks.Quirks.{Quirks}
 use Rattle.chip_warnings.specs.declared.asked.Asked.{Asked}
 use Rattle.chip_warnings.specs.declared.coverage.Coverage.{Coverage}
@@ -55,10 +56,17 @@ abbrev pub is_coming : Reach → Bool
 is_coming Comes = true
 is_coming reach = false
 
--- W3: execution never comes to an instruction, of a program that doesn't write over its own
-abbrev pub is_unreachable : Marked → Flow → Seen → Bool
-is_unreachable marked flow s =
+-- no step is made at an address, where it is known at which addresses steps may be made
+abbrev pub is_never_made : (reachable : Option (Bor (List Bool))) → (address : ℕ) → Bool
+is_never_made None address = false
+is_never_made (Some reachable) address = not (slice_index_or reachable.now address true)
+
+-- W3: the lines above lead to no instruction, in a program that doesn't write over its own, and with any
+-- keys, random bytes and speed no step is made there
+abbrev pub is_unreachable : (reachable : Option (Bor (List Bool))) → Marked → Flow → Seen → Bool
+is_unreachable reachable marked flow s =
     is_code s.says && is_never (reach_at marked.jumped flow s) && not marked.writes_code
+    && is_never_made reachable s.address
 
 -- W4: directly before data stands an instruction from which execution comes to the data, other than
 -- JP, RET and EXIT, in a program that doesn't write over its instructions
@@ -101,13 +109,13 @@ draws_first flow s = is_draw s.says && not flow.has_drawn
 abbrev pub has_warning : Asked → Marked → Flow → Seen → WarningCode → Bool
 has_warning asked marked flow s SplitRows = splits_rows flow s
 has_warning asked marked flow s UnusedName = s.unused
-has_warning asked marked flow s Unreachable = is_unreachable marked flow s
+has_warning asked marked flow s Unreachable = is_unreachable asked.reachable marked flow s
 has_warning asked marked flow s FallsIntoData = falls_into_data marked flow s
 has_warning asked marked flow s JumpsToData = jumps_to_data marked s
 has_warning asked marked flow s OddAddress = is_at_odd_address flow s
 has_warning asked marked flow s NotInProfile = is_not_in_profile asked.quirks s
 has_warning asked marked flow s NeverExecuted =
-    is_left_out asked.coverage s && not (is_unreachable marked flow s)
+    is_left_out asked.coverage s && not (is_unreachable asked.reachable marked flow s)
 has_warning asked marked flow s AlwaysZero = draws_first flow s && not asked.has_tape
 has_warning asked marked flow s (Property code) = false
 

@@ -14,4 +14,7 @@ pub struct Asked<'a> {
     pub has_tape: bool,
     /// What a search saw executed. Without it, no line has W8.
     pub coverage: Option<Coverage<'a>>,
+    /// Whether a step may be made at an address, by the address, with any keys, random bytes and speed. Without
+    /// it, no line has W3.
+    pub reachable: Option<&'a [bool]>,
 }

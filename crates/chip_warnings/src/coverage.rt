@@ -21,6 +21,13 @@ impl<'a> Coverage<'a> {
         ensures { result ≡ (is_code seen.now.says
             && not (slice_index_or self.now.executed.now seen.now.address true)) }
     {
-        seen.says.is_code() && matches!(self.executed.get(seen.address), Some(false))
+        seen.says.is_code() && is_never_at(self.executed, seen.address)
     }
+}
+
+/// Whether an address is one at which no step is made. One past the end counts as executed.
+pub(crate) fn is_never_at(executed: &[bool], address: usize) -> bool
+    ensures { result ≡ not (slice_index_or executed.now address true) }
+{
+    matches!(executed.get(address), Some(false))
 }

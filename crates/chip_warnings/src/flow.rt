@@ -8,6 +8,7 @@ ghost use Rattle.chip_warnings.specs.Warned.{draws_first, falls_into_data, has_w
 ghost use Rattle.chip_warnings.specs.inner.Noted.{marked_in};
 
 use crate::asked::Asked;
+use crate::coverage::is_never_at;
 use crate::instruction::{
     goes_elsewhere, is_super_instruction, jumps_by_table, leads_to_one, may_skip,
 };
@@ -159,13 +160,15 @@ impl Flow {
         match code {
             WarningCode::SplitRows => self.splits_rows(seen),
             WarningCode::UnusedName => seen.unused,
-            WarningCode::Unreachable => self.is_unreachable(marks, seen),
+            WarningCode::Unreachable => self.is_unreachable(asked, marks, seen),
             WarningCode::FallsIntoData => self.falls_into_data(marks, seen),
             WarningCode::JumpsToData => data_line(marks, seen).is_some(),
             WarningCode::OddAddress => self.is_at_odd_address(seen),
             WarningCode::NotInProfile => is_not_in_profile(asked.quirks, seen),
             WarningCode::NeverExecuted => match asked.coverage {
-                Some(coverage) => coverage.leaves_out(seen) && !self.is_unreachable(marks, seen),
+                Some(coverage) => {
+                    coverage.leaves_out(seen) && !self.is_unreachable(asked, marks, seen)
+                }
                 None => false,
             },
             WarningCode::AlwaysZero => self.draws_first(seen) && !asked.has_tape,
@@ -174,12 +177,16 @@ impl Flow {
     }
 
     /// Whether nothing reaches an instruction.
-    fn is_unreachable(&self, marks: &Marks, seen: &Seen) -> bool
-        ensures { result ≡ is_unreachable (marked_in marks.now) self.now seen.now }
+    fn is_unreachable(&self, asked: &Asked<'_>, marks: &Marks, seen: &Seen) -> bool
+        ensures { result ≡ is_unreachable asked.now.reachable (marked_in marks.now) self.now seen.now }
     {
         seen.says.is_code()
             && matches!(self.reach_at(marks, seen), Reach::Never)
             && !marks.writes_code
+            && match asked.reachable {
+                Some(reachable) => is_never_at(reachable, seen.address),
+                None => false,
+            }
     }
 
     /// Whether a line is the first one that draws a random byte.

@@ -19,7 +19,7 @@ use chip_properties::{PropertyFault, properties_of};
 use std::alloc::{AllocError, Global};
 
 /// The warnings of a source, in the order of the lines; none where a line has a fault. Properties that
-/// can't be read are among them, as P1 to P6. `asked.coverage` is that of the source's image.
+/// can't be read are among them, as P1 to P6. `asked.coverage` and `asked.reachable` are those of the source's image.
 ///
 /// # Errors
 ///
