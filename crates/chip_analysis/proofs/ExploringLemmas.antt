@@ -12,15 +12,15 @@ use Rattle.chip_explore.specs.declared.question.Explored.{Explored}
 use Rattle.chip_explore.specs.declared.question.Outcome.{Outcome as SearchOutcome}
 use Rattle.chip_explore.specs.declared.question.Outcome.TheVariants.{Found, Later, Within, Never}
 use Rattle.chip_explore.specs.declared.target.Target.{Target}
-use Rattle.chip_machine.specs.Start.{start_of}
+use Rattle.chip_facts.specs.declared.table.Left.{Left}
 use Rattle.chip_machine.specs.State.{State}
 use Rattle.chip_session.specs.Settings.{SessionSettings}
 use Rattle.chip_session.specs.Tally.{Tally}
 use Rattle.chip_host.specs.Reading.{Declined, FromGiven, IfSettled, IsGiven, IsNotGiven}
-use Rattle.chip_analysis.specs.Commands.{Explores, IfSet, IsBadProperty, IsBadSet, Searches, SearchesFrom}
+use Rattle.chip_analysis.specs.Commands.{ExcludesOrSearches, Explores, IfSet, IsBadProperty, IsBadSet, Searches, SearchesFrom}
 use Rattle.chip_host.specs.Printing.{Fails, IfOpens, Prints, printed, printed_faults}
 use Rattle.chip_host.specs.Endings.{Outcome}
-use Rattle.chip_analysis.specs.Exploring.{AsksCauses, AsksKeys, AsksProperty, answer_lines, covering_text, search_ending, target_asked}
+use Rattle.chip_analysis.specs.Exploring.{AreStopsLeft, AsksCauses, AsksKeys, AsksProperty, answer_lines, covering_text, search_ending, target_asked}
 use Rattle.chip_host.specs.SettingArguments.{settings_asked}
 use Rattle.chip_host.specs.declared.ending.Ending.{Ending}
 use Rattle.chip_host.specs.declared.ending.Ending.TheVariants.{Faulty}
@@ -45,15 +45,15 @@ found_written wrote Never false name faulty written = cc
 
 module _ {W : Type 0} (contents : W → Option (List ℕ)) (out_old out_new : Tally W) where
   -- what is printed of a search
-  pub search_printed : (arguments : ExploreArguments) (lines : List (List ℕ)) (rate keys : ℕ) (target : Target) (start : State) (explored : Explored)
-      (text place others : List ℕ) (ending : Ending) (ended : Outcome) → Answers rate keys target start explored.outcome →
+  pub search_printed : (arguments : ExploreArguments) (lines : List (List ℕ)) (rate keys : ℕ) (target : Target) (left : Option (List Left)) (start : State)
+      (explored : Explored) (text place others stops : List ℕ) (ending : Ending) (ended : Outcome) → Answers rate keys target start explored.outcome →
       AreExecuted rate keys explored.executed start explored.outcome →
       (explored.is_at_any_speed ≡ true → NeverAtAnySpeed keys target start) →
-      text ≡ answer_lines arguments.search.is_any_speed place explored ++ others ++ covering_text arguments.is_covering explored.executed lines →
-      ending ≡ search_ending explored.outcome explored.is_short → Prints contents out_old out_new (printed text ending) ended →
-      SearchesFrom contents out_old out_new arguments lines rate keys target start ended
-  search_printed arguments lines rate keys target start explored text place others ending ended answers executed speed is end prints =
-      inl (explored, answers, executed, speed, inl (printed text ending, record { place = place; others = others; text = is; ending = end }, prints))
+      text ≡ answer_lines arguments.search.is_any_speed place explored ++ others ++ stops ++ covering_text arguments.is_covering explored.executed lines →
+      AreStopsLeft target.causes left stops → ending ≡ search_ending explored.outcome explored.is_short → Prints contents out_old out_new (printed text ending) ended →
+      SearchesFrom contents out_old out_new arguments lines rate keys target left start ended
+  search_printed arguments lines rate keys target left start explored text place others stops ending ended answers executed speed is listed end prints =
+      inl (explored, answers, executed, speed, inl (printed text ending, record { place = place; others = others; stops = stops; text = is; listed = listed; ending = end }, prints))
 
   -- memory ran out for a search
   pub searches_short : (arguments : ExploreArguments) (settings : SessionSettings) (causes keys : ℕ) (lines : List (List ℕ)) (ended : Outcome) →
@@ -64,7 +64,7 @@ module _ {W : Type 0} (contents : W → Option (List ℕ)) (out_old out_new : Ta
           MatchOption image (Prints contents out_old out_new (printed_faults lines) ended)
           (λ image. ((properties : Bor (List Property)) × AsksProperty arguments lines properties.now
           × MatchOption (target_asked causes (option_copied arguments.place) properties (symbols_of lines)) (Fails contents out_old out_new (λ why. (text : Bor (List ℕ)) × (why ≡ failure.BadPlace text)) ended)
-          (λ target. SearchesFrom contents out_old out_new arguments lines settings.rate keys target (start_of image settings.tape settings.quirks) ended))
+          (λ target. ExcludesOrSearches contents out_old out_new arguments settings keys lines image target ended))
           ⊎ Fails contents out_old out_new IsBadProperty ended)
       by_image None = rw e same
       by_image (Some image) = inr (fails IsBadProperty ended failure.OutOfMemory e (inl refl), same)

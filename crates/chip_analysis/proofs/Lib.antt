@@ -1,5 +1,6 @@
 pub mod CheckLemmas
 pub mod SetLemmas
+pub mod ExcludingLemmas
 pub mod ExploringLemmas
 pub mod NextLemmas
 pub mod ProvingLemmas

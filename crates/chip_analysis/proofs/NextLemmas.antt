@@ -8,7 +8,6 @@ use Rattle.std.proofs.lemmas.Grind.{common_steps}
 use Rattle.std.proofs.lemmas.List.Quantifiers.{position-Some}
 use Rattle.std.proofs.lemmas.List.Sums.{fails_before_first}
 use Rattle.std.proofs.lemmas.Option.{get_or_from_slice_get, slice_get-map, slice_get_within}
-use Rattle.chip_arguments.specs.declared.command_line.ProveArguments.{ProveArguments}
 use Rattle.chip_explore.specs.Answers.{Answers}
 use Rattle.chip_explore.specs.OneOf.{told_of}
 use Rattle.chip_explore.specs.Speeds.{NeverAtAnySpeed}
@@ -24,22 +23,33 @@ use Rattle.chip_properties.specs.declared.stated.Kind.{Kind}
 use Rattle.chip_properties.specs.declared.stated.Kind.TheVariants as kind
 use Rattle.chip_properties.specs.declared.stated.Stated.{Stated}
 use Rattle.chip_analysis.specs.Proving.{AnswersKind, IsForeseen, IsRight, looks_for}
-use Rattle.chip_check.specs.Answer.{answer_object, is_bad}
+use Rattle.chip_check.specs.Answer.{answer_object, answer_text, is_bad}
 use Rattle.chip_analysis.specs.declared.proving.Head.{Head}
 use Rattle.chip_analysis.specs.declared.proving.Left.{Left}
-use Rattle.chip_analysis.specs.declared.proving.Next.{Next}
-use Rattle.chip_analysis.specs.inner.Proofs.{IsAnswered, IsLeft, IsNext, IsSameAnswer, IsUnmet, answered, head_of, is_can, met_property}
+use Rattle.chip_analysis.specs.declared.proving.Verdict.{Verdict}
+use Rattle.chip_analysis.specs.inner.Proofs.{AreFactsFrom, IsAnswered, IsExcluded, IsLeft, IsNext, IsSameAnswer, IsUnmet, answered, head_of, is_can, met_property, searched_scope}
+use Rattle.chip_check.specs.declared.answer.Scope.{Scope}
+use Rattle.chip_check.specs.declared.answer.Scope.TheVariants as scope
+use Rattle.chip_explore.specs.Scripts.{Avoids}
+use Rattle.chip_facts.specs.declared.facts.Facts.{Facts}
+use Rattle.chip_verdicts.specs.Verdict.{AvoidsAll}
 
 -- ---- what is printed of an outcome
 
 -- what is said of a property that was met doesn't depend on its place among the others
 pub same_answer : (outcome : Outcome) → IsSameAnswer outcome outcome
-same_answer outcome = record { text = λ is_json name line text kind any. refl; bad = λ kind. refl }
+same_answer outcome = record { text = λ is_json name line text kind scope. refl; bad = λ kind. refl }
 
 same_found : (events : Vec KeyEvent) (step : ℕ) (a b : Met) → IsSameAnswer (Found events step a) (Found events step b)
 unfolding answer_object
-same_found events step a b = record { text = λ is_json name line text kind any. refl; bad = bad }
+same_found events step a b = record { text = text; bad = bad }
   where
+    text : (is_json : Bool) (name : List ℕ) (line : ℕ) (stated : List ℕ) (kind : Kind) (covers : Scope)
+        → answer_text is_json name line stated kind covers (Found events step a) ≡ answer_text is_json name line stated kind covers (Found events step b)
+    text is_json name line stated kind scope.AtRate = refl
+    text is_json name line stated kind scope.AtAnySpeed = refl
+    text is_json name line stated kind scope.Anything = refl
+
     bad : (kind : Kind) → is_bad kind (Found events step a) ≡ is_bad kind (Found events step b)
     bad kind.Ever = refl
     bad kind.Always = refl
@@ -48,8 +58,14 @@ same_found events step a b = record { text = λ is_json name line text kind any.
 
 same_later : (events : Vec KeyEvent) (step covered : ℕ) (a b : Met) → IsSameAnswer (Later events step a covered) (Later events step b covered)
 unfolding answer_object
-same_later events step covered a b = record { text = λ is_json name line text kind any. refl; bad = bad }
+same_later events step covered a b = record { text = text; bad = bad }
   where
+    text : (is_json : Bool) (name : List ℕ) (line : ℕ) (stated : List ℕ) (kind : Kind) (covers : Scope)
+        → answer_text is_json name line stated kind covers (Later events step a covered) ≡ answer_text is_json name line stated kind covers (Later events step b covered)
+    text is_json name line stated kind scope.AtRate = refl
+    text is_json name line stated kind scope.AtAnySpeed = refl
+    text is_json name line stated kind scope.Anything = refl
+
     bad : (kind : Kind) → is_bad kind (Later events step a covered) ≡ is_bad kind (Later events step b covered)
     bad kind.Ever = refl
     bad kind.Always = refl
@@ -141,7 +157,15 @@ property_is properties k property read there is = is ∙ get_or_from_slice_get p
 
 -- ---- what the next search answers
 
-module _ (arguments : ProveArguments) (rate keys : ℕ) (start : State) where
+not_searched : (b : Bool) → searched_scope b ≡ scope.Anything → ⊥
+not_searched true is = cc
+not_searched false is = cc
+
+at_any_speed : (b : Bool) → searched_scope b ≡ scope.AtAnySpeed → b ≡ true
+at_any_speed true is = refl
+at_any_speed false is = cc
+
+module _ (rate keys : ℕ) (start : State) where
   abbrev pub Rights : List Property → Explored → Type 0
   Rights properties explored = record {
     answers : (k : ℕ) (property : Property) → slice_get properties k ≡ Some property →
@@ -161,16 +185,19 @@ module _ (arguments : ProveArguments) (rate keys : ℕ) (start : State) where
   answers_kind kind.Can plain property outcome a = cc
 
   -- of a property that doesn't ask whether it can be met from everywhere
-  pub is_right : (asked : List Stated) (properties : List Property) (explored : Explored) (k : ℕ) (one : Stated) (told : Outcome) →
+  pub is_right : (asked : List Stated) (properties : List Property) (explored : Explored) (is_any_speed : Bool) (verdict : Verdict) →
+      verdict.scope ≡ searched_scope (is_any_speed && explored.is_at_any_speed) → (k : ℕ) (one : Stated) (told : Outcome) →
       properties ≡ map (λ (s : Stated). s.property) asked → Rights properties explored → slice_get asked k ≡ Some one → is_can one.kind ≡ false →
-      told_of k explored.outcome ≡ Some told → IsRight rate keys start (answered arguments explored one told)
-  is_right asked properties explored k one told same rights here plain says =
+      told_of k explored.outcome ≡ Some told → IsRight rate keys start (answered verdict one told)
+  is_right asked properties explored is_any_speed verdict covers k one told same rights here plain says =
       let there : slice_get properties k ≡ Some one.property =
       ap (λ (ps : List Property). slice_get ps k) same ∙ slice_get-map (λ (s : Stated). s.property) asked k ∙ ap (option_map (λ (s : Stated). s.property)) here in
       record {
         answers = answers_kind one.kind plain one.property told
             (if_some (told_of k explored.outcome) told (Answers rate keys (looks_for one.property) start) says (rights.answers k one.property there));
-        any_speed = λ any. rights.any_speed k one.property there (both_true arguments.search.is_any_speed explored.is_at_any_speed any);
+        any_speed = λ any. rights.any_speed k one.property there
+            (both_true is_any_speed explored.is_at_any_speed (at_any_speed (is_any_speed && explored.is_at_any_speed) (sym covers ∙ any)));
+        anything = λ all. absurd (not_searched (is_any_speed && explored.is_at_any_speed) (sym covers ∙ all));
       }
 
   foreseen_kind : (kind : Kind) → is_can kind ≡ true → (property : Property) (outcome : Outcome) →
@@ -181,17 +208,40 @@ module _ (arguments : ProveArguments) (rate keys : ℕ) (start : State) where
   foreseen_kind kind.Ever can property outcome f = cc
 
   -- and of one that does
-  pub is_foreseen : (explored : Explored) (one : Stated) → is_can one.kind ≡ true → explored.is_at_any_speed ≡ false →
-      IsForeseen rate keys one.property start explored.outcome → IsAnswered arguments rate keys start explored one
-  is_foreseen explored one can slow foreseen = record {
-    outcome = explored.outcome;
+  pub is_foreseen : (verdict : Verdict) (one : Stated) → is_can one.kind ≡ true → verdict.scope ≡ scope.AtRate →
+      IsForeseen rate keys one.property start verdict.outcome → IsAnswered rate keys start verdict one
+  is_foreseen verdict one can slow foreseen = record {
+    outcome = verdict.outcome;
     right = record {
-      answers = foreseen_kind one.kind can one.property explored.outcome foreseen;
-      any_speed = λ any. absurd (let both : explored.is_at_any_speed ≡ true = both_true arguments.search.is_any_speed explored.is_at_any_speed any in
-          let no : true ≡ false = sym both ∙ slow in cc);
+      answers = foreseen_kind one.kind can one.property verdict.outcome foreseen;
+      any_speed = λ any. absurd (let no : scope.AtRate ≡ scope.AtAnySpeed = sym slow ∙ any in cc);
+      anything = λ all. absurd (let no : scope.AtRate ≡ scope.Anything = sym slow ∙ all in cc);
     };
-    same = same_answer explored.outcome;
+    same = same_answer verdict.outcome;
   }
+
+  -- of one that facts exclude
+  pub is_excluded : AvoidsAll → (facts : Facts) (left : Left) (place : ℕ) (verdict : Verdict) (asked : List Stated) → AreFactsFrom start facts
+      → IsExcluded facts left place → IsLeft asked left → verdict.outcome ≡ Never → verdict.scope ≡ scope.Anything → (one : Stated)
+      → slice_get asked place ≡ Some one → IsAnswered rate keys start verdict one
+  is_excluded avoids facts left place verdict asked from excluded is never all one there =
+      let property = property_there asked left is place one there in
+      let unmet = excluded.never one.property property from.image from.quirks from.hold in
+      let plain : is_can one.kind ≡ false = if_some (slice_get left.heads.items place) (head_of one) (λ head. is_can head.kind ≡ false)
+      (head_there asked left is place one there) excluded.plain in
+      let answers : Answers rate keys (looks_for one.property) start Never =
+      λ n below. subst (λ (s : State). Avoids rate keys (looks_for one.property) s n) (sym from.starts)
+      (avoids from.image from.tape from.quirks (looks_for one.property) rate keys n from.bytes unmet) in
+      record {
+        outcome = verdict.outcome;
+        right = record {
+          answers = answers_kind one.kind plain one.property verdict.outcome
+              (subst (Answers rate keys (looks_for one.property) start) (sym never) answers);
+          any_speed = λ any. absurd (let no : scope.Anything ≡ scope.AtAnySpeed = sym all ∙ any in cc);
+          anything = λ covers. record { image = from.image; tape = from.tape; quirks = from.quirks; starts = from.starts; never = unmet };
+        };
+        same = same_answer verdict.outcome;
+      }
 
   match_some : {A : Type 0} (o : Option A) (x : A) (Other : Type 0) (P : A → Type 0) → Some x ≡ o → MatchOption o Other P → P x
   match_some o x Other P is h = rw (sym is) at h
@@ -200,41 +250,45 @@ module _ (arguments : ProveArguments) (rate keys : ℕ) (start : State) where
   match_none o Other P is h = rw (sym is) at h
 
   -- what the next search answers, of the property at a place or of all
-  module _ (asked : List Stated) (next : Next) where
+  module _ (asked : List Stated) (next : Option ℕ) (verdict : Verdict) where
     abbrev pub Each : Type 0
-    Each = (k : ℕ) (one : Stated) → slice_get asked k ≡ Some one → IsRight rate keys start (answered arguments next.explored one next.explored.outcome)
+    Each = (k : ℕ) (one : Stated) → slice_get asked k ≡ Some one → IsRight rate keys start (answered verdict one verdict.outcome)
 
     abbrev pub At : ℕ → Type 0
-    At place = (one : Stated) → slice_get asked place ≡ Some one → IsAnswered arguments rate keys start next.explored one
+    At place = (one : Stated) → slice_get asked place ≡ Some one → IsAnswered rate keys start verdict one
 
-    pub at_place : IsNext arguments rate keys start asked next → (place : ℕ) → Some place ≡ next.place → At place
-    at_place right place is = match_some next.place place Each At is right
+    pub at_place : IsNext rate keys start asked next verdict → (place : ℕ) → Some place ≡ next → At place
+    at_place right place is = match_some next place Each At is right
 
-    pub at_each : IsNext arguments rate keys start asked next → ◌≡◌ {A = Option ℕ} None next.place → Each
-    at_each right is = match_none next.place Each At is right
+    pub at_each : IsNext rate keys start asked next verdict → ◌≡◌ {A = Option ℕ} None next → Each
+    at_each right is = match_none next Each At is right
 
   -- the search for all
-  module _ (asked : List Stated) (left : Left) (next : Next) (is : IsLeft asked left) (rights : Rights left.properties.items next.explored)
+  module _ (asked : List Stated) (left : Left) (next : Option ℕ) (verdict : Verdict) (explored : Explored) (is_any_speed : Bool) (is : IsLeft asked left)
+      (same : verdict.outcome ≡ explored.outcome) (covers : verdict.scope ≡ searched_scope (is_any_speed && explored.is_at_any_speed))
+      (rights : Rights left.properties.items explored)
       (none : position (λ (head : Head). is_can head.kind) left.heads.items ≡ None)
-      (unmet : met_property next.explored.outcome (length left.heads.items) ≡ None → IsUnmet next.explored.outcome)
-      (met : next.place ≡ met_property next.explored.outcome (length left.heads.items)) where
-    at_met : (k : ℕ) → met_property next.explored.outcome (length left.heads.items) ≡ Some k → At asked next k
+      (unmet : met_property explored.outcome (length left.heads.items) ≡ None → IsUnmet explored.outcome)
+      (met : next ≡ met_property explored.outcome (length left.heads.items)) where
+    at_met : (k : ℕ) → met_property explored.outcome (length left.heads.items) ≡ Some k → At asked next verdict k
     at_met k here one there =
-        let told = met_told k (length left.heads.items) next.explored.outcome (sym here) in
+        let told = met_told k (length left.heads.items) explored.outcome (sym here) in
         record {
           outcome = told.0;
-          right = is_right asked left.properties.items next.explored k one told.0 is.properties rights there (is_no_can asked left is k one none there) told.1;
-          same = told.2;
+          right = is_right asked left.properties.items explored is_any_speed verdict covers k one told.0 is.properties rights there
+              (is_no_can asked left is k one none there) told.1;
+          same = subst (IsSameAnswer told.0) (sym same) told.2;
         }
 
-    at_unmet : met_property next.explored.outcome (length left.heads.items) ≡ None → Each asked next
+    at_unmet : met_property explored.outcome (length left.heads.items) ≡ None → Each asked next verdict
     at_unmet here k one there =
-        is_right asked left.properties.items next.explored k one next.explored.outcome is.properties rights there (is_no_can asked left is k one none there)
-        (unmet_told next.explored.outcome (unmet here) k)
+        subst (λ (outcome : Outcome). IsRight rate keys start (answered verdict one outcome)) (sym same)
+        (is_right asked left.properties.items explored is_any_speed verdict covers k one explored.outcome is.properties rights there
+        (is_no_can asked left is k one none there) (unmet_told explored.outcome (unmet here) k))
 
-    by : (o : Option ℕ) → met_property next.explored.outcome (length left.heads.items) ≡ o → MatchOption o (Each asked next) (At asked next)
+    by : (o : Option ℕ) → met_property explored.outcome (length left.heads.items) ≡ o → MatchOption o (Each asked next verdict) (At asked next verdict)
     by (Some k) here = at_met k here
     by None here = at_unmet here
 
-    pub others_next : IsNext arguments rate keys start asked next
-    others_next = by next.place (sym met)
+    pub others_next : IsNext rate keys start asked next verdict
+    others_next = by next (sym met)

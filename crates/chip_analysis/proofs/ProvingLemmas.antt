@@ -1,5 +1,5 @@
 -- What `prove` did, from what its steps did.
-use Rattle.std.proofs.Common.{◌≡◌, ◌≢◌, ◌⊎◌, inl, inr, ℕ, zero, suc, ◌<◌, ◌||◌, Bool, true, false, List, [], ◌∷◌, ◌++◌, append_assoc, append-nil, Option, Some, None, Result, Ok, Err, IfOk, length, map, option_map, slice_get, refl, sym, ◌∙◌, ap, subst}
+use Rattle.std.proofs.Common.{◌≡◌, ◌≢◌, ◌⊎◌, inl, inr, ℕ, zero, suc, ◌<◌, ◌||◌, Bool, true, false, List, [], ◌∷◌, ◌++◌, append_assoc, append-nil, Option, Some, None, Result, Ok, Err, IfErr, IfOk, length, map, option_map, slice_get, refl, sym, ◌∙◌, ap, subst}
 use Rattle.std.specs.Prelude.{slice_index_or}
 use Rattle.std.specs.List.{All, flat_map, list_any, remove}
 use Rattle.std.specs.List.Sorted.{IsPermutation}
@@ -11,7 +11,6 @@ use Rattle.std.proofs.lemmas.List.Sorted.{IsPermutation-cons, IsPermutation-refl
 use Rattle.std.proofs.lemmas.Option.{get_or_from_slice_get, slice_get-get_or, slice_get-map}
 use Rattle.chip_arguments.specs.declared.command_line.ProveArguments.{ProveArguments}
 use Rattle.chip_explore.specs.declared.property.Property.{Property}
-use Rattle.chip_explore.specs.declared.question.Explored.{Explored}
 use Rattle.chip_explore.specs.declared.question.Outcome.{Outcome as SearchOutcome}
 use Rattle.chip_lang.specs.Meter.{one_more}
 use Rattle.chip_machine.specs.State.{State}
@@ -30,6 +29,7 @@ use Rattle.chip_host.specs.declared.ending.Failure.TheVariants as failure
 use Rattle.chip_analysis.specs.declared.proving.Head.{Head}
 use Rattle.chip_analysis.specs.declared.proving.Left.{Left}
 use Rattle.chip_analysis.specs.declared.proving.Told.{Told}
+use Rattle.chip_analysis.specs.declared.proving.Verdict.{Verdict}
 use Rattle.chip_analysis.specs.inner.Proofs.{IsAnswered, IsAnswering, IsLeft, IsSameAnswer, WritesAll, WritesUpTo, answered, head_of, missing_line, printed_head}
 
 -- ---- what was written, one part after another
@@ -144,9 +144,9 @@ mapped_at f xs i y e = by (slice_get xs i) refl
     by None is = absurd (none_some (sym (slice_get-map f xs i ∙ ap (option_map f) is) ∙ e))
 
 module _ (arguments : ProveArguments) (lines : List (List ℕ)) (rate keys : ℕ) (start : State) where
-  pub same_line : (explored : Explored) (one : Stated) (told : SearchOutcome) → IsSameAnswer told explored.outcome →
-      printed_answer arguments lines (answered arguments explored one told) ≡ printed_head arguments lines explored (head_of one)
-  same_line explored one told same = same.text _ _ _ _ _ _
+  pub same_line : (verdict : Verdict) (one : Stated) (told : SearchOutcome) → IsSameAnswer told verdict.outcome →
+      printed_answer arguments lines (answered verdict one told) ≡ printed_head arguments lines verdict (head_of one)
+  same_line verdict one told same = same.text _ _ _ _ _ _
 
   module _ {W : Type 0} (contents : W → Option (List ℕ)) (old new : Tally W) where
     abbrev pub Comes : List Stated → (was_bad was_short : Bool) → Result Told Failure → Type 0
@@ -173,45 +173,45 @@ module _ (arguments : ProveArguments) (lines : List (List ℕ)) (rate keys : ℕ
     }
 
     -- the search met nothing, and what it says is told of all that are left
-    module _ (asked : List Stated) (heads : List Head) (explored : Explored) (told later : Told) (heads_are : heads ≡ map head_of asked)
-        (each : (k : ℕ) (one : Stated) → slice_get asked k ≡ Some one → IsRight rate keys start (answered arguments explored one explored.outcome)) where
+    module _ (asked : List Stated) (heads : List Head) (verdict : Verdict) (told later : Told) (heads_are : heads ≡ map head_of asked)
+        (each : (k : ℕ) (one : Stated) → slice_get asked k ≡ Some one → IsRight rate keys start (answered verdict one verdict.outcome)) where
       abbrev all_given : List Answered
-      all_given = map (λ one. answered arguments explored one explored.outcome) asked
+      all_given = map (λ one. answered verdict one verdict.outcome) asked
 
-      stated_again : (xs : List Stated) → map (λ (one : Answered). one.stated) (map (λ one. answered arguments explored one explored.outcome) xs) ≡ xs
+      stated_again : (xs : List Stated) → map (λ (one : Answered). one.stated) (map (λ one. answered verdict one verdict.outcome) xs) ≡ xs
       stated_again [] = refl
       stated_again (x ∷ xs) = ap (λ ys. x ∷ ys) (stated_again xs)
 
-      text_again : (xs : List Stated) → flat_map (printed_answer arguments lines) (map (λ one. answered arguments explored one explored.outcome) xs)
-          ≡ flat_map (printed_head arguments lines explored) (map head_of xs)
+      text_again : (xs : List Stated) → flat_map (printed_answer arguments lines) (map (λ one. answered verdict one verdict.outcome) xs)
+          ≡ flat_map (printed_head arguments lines verdict) (map head_of xs)
       text_again [] = refl
-      text_again (x ∷ xs) = ap (λ (l : List ℕ). printed_head arguments lines explored (head_of x) ++ l) (text_again xs)
+      text_again (x ∷ xs) = ap (λ (l : List ℕ). printed_head arguments lines verdict (head_of x) ++ l) (text_again xs)
 
-      bad_again : (xs : List Stated) → has_bad (map (λ one. answered arguments explored one explored.outcome) xs)
-          ≡ list_any (λ (head : Head). is_bad head.kind explored.outcome) (map head_of xs)
+      bad_again : (xs : List Stated) → has_bad (map (λ one. answered verdict one verdict.outcome) xs)
+          ≡ list_any (λ (head : Head). is_bad head.kind verdict.outcome) (map head_of xs)
       bad_again [] = refl
-      bad_again (x ∷ xs) = ap (λ (b : Bool). is_bad x.kind explored.outcome || b) (bad_again xs)
+      bad_again (x ∷ xs) = ap (λ (b : Bool). is_bad x.kind verdict.outcome || b) (bad_again xs)
 
-      short_again : (xs : List Stated) → xs ≢ [] → has_short (map (λ one. answered arguments explored one explored.outcome) xs) ≡ explored.is_short
+      short_again : (xs : List Stated) → xs ≢ [] → has_short (map (λ one. answered verdict one verdict.outcome) xs) ≡ verdict.is_short
       short_again [] some = absurd (some refl)
-      short_again (x ∷ []) some = or-false explored.is_short
+      short_again (x ∷ []) some = or-false verdict.is_short
       short_again (x ∷ y ∷ ys) some =
-          ap (λ (b : Bool). explored.is_short || b) (short_again (y ∷ ys) (λ none. absurd (cc))) ∙ or_same explored.is_short
+          ap (λ (b : Bool). verdict.is_short || b) (short_again (y ∷ ys) (λ none. absurd (cc))) ∙ or_same verdict.is_short
 
       all_right : All (IsRight rate keys start) all_given
       all_right =
-          All-map (IsRight rate keys start) (λ one. answered arguments explored one explored.outcome) asked
+          All-map (IsRight rate keys start) (λ one. answered verdict one verdict.outcome) asked
           (λ k d within. each k (slice_index_or asked k d) (slice_get-get_or asked k d within))
 
       all_answered : AreAnswered rate keys start asked all_given []
       all_answered = record { all = rw (stated_again asked, append-nil asked) (IsPermutation-refl asked); right = all_right }
 
-      text_is : flat_map (printed_head arguments lines explored) heads ≡ flat_map (printed_answer arguments lines) all_given
-      text_is = ap (flat_map (printed_head arguments lines explored)) heads_are ∙ sym (text_again asked)
+      text_is : flat_map (printed_head arguments lines verdict) heads ≡ flat_map (printed_answer arguments lines) all_given
+      text_is = ap (flat_map (printed_head arguments lines verdict)) heads_are ∙ sym (text_again asked)
 
-      pub comes_all : (found : Bool) → found ≡ list_any (λ (head : Head). is_bad head.kind explored.outcome) heads →
-          Writes contents old new (flat_map (printed_head arguments lines explored) heads) → later.is_bad ≡ (told.is_bad || found) →
-          later.is_short ≡ (told.is_short || explored.is_short) → asked ≢ [] → Comes asked told.is_bad told.is_short (Ok later)
+      pub comes_all : (found : Bool) → found ≡ list_any (λ (head : Head). is_bad head.kind verdict.outcome) heads →
+          Writes contents old new (flat_map (printed_head arguments lines verdict) heads) → later.is_bad ≡ (told.is_bad || found) →
+          later.is_short ≡ (told.is_short || verdict.is_short) → asked ≢ [] → Comes asked told.is_bad told.is_short (Ok later)
       comes_all found is w bad short some = record {
         given = all_given;
         left = [];
@@ -219,12 +219,12 @@ module _ (arguments : ProveArguments) (lines : List (List ℕ)) (rate keys : ℕ
         written = inl (subst (λ (l : List ℕ). Writes contents old new l) text_is w);
         whole = refl;
         bad = bad ∙ ap (λ (b : Bool). told.is_bad || b)
-            (is ∙ ap (list_any (λ (head : Head). is_bad head.kind explored.outcome)) heads_are ∙ sym (bad_again asked));
+            (is ∙ ap (list_any (λ (head : Head). is_bad head.kind verdict.outcome)) heads_are ∙ sym (bad_again asked));
         short = short ∙ ap (λ (b : Bool). told.is_short || b) (sym (short_again asked some));
       }
 
       pub comes_all_stopped : (result : Result Told Failure) (why : Failure) → result ≡ Err why →
-          WritesAll contents old new {T = Bool} (flat_map (printed_head arguments lines explored) heads) (Err why) → Comes asked told.is_bad told.is_short result
+          WritesAll contents old new {T = Bool} (flat_map (printed_head arguments lines verdict) heads) (Err why) → Comes asked told.is_bad told.is_short result
       comes_all_stopped result why e w =
           rw e (record {
             given = all_given;
@@ -237,8 +237,8 @@ module _ (arguments : ProveArguments) (lines : List (List ℕ)) (rate keys : ℕ
           })
 
   -- the search met one, and the others are left
-  module _ {W : Type 0} (contents : W → Option (List ℕ)) (asked : List Stated) (left after : Left) (explored : Explored) (k : ℕ) (head : Head)
-      (is : IsLeft asked left) (says : (one : Stated) → slice_get asked k ≡ Some one → IsAnswered arguments rate keys start explored one)
+  module _ {W : Type 0} (contents : W → Option (List ℕ)) (asked : List Stated) (left after : Left) (verdict : Verdict) (k : ℕ) (head : Head)
+      (is : IsLeft asked left) (says : (one : Stated) → slice_get asked k ≡ Some one → IsAnswered rate keys start verdict one)
       (taken : slice_get left.heads.items k ≡ Some head) (within : k < length left.heads.items)
       (heads : after.heads.items ≡ remove left.heads.items k) (properties : after.properties.items ≡ remove left.properties.items k) where
     found : (one : Stated) × (slice_get asked k ≡ Some one) × (head ≡ head_of one)
@@ -247,21 +247,21 @@ module _ (arguments : ProveArguments) (lines : List (List ℕ)) (rate keys : ℕ
     abbrev one : Stated
     one = found.0
 
-    told_here : IsAnswered arguments rate keys start explored one
+    told_here : IsAnswered rate keys start verdict one
     told_here = says one found.1
 
     abbrev first : Answered
-    first = answered arguments explored one told_here.outcome
+    first = answered verdict one told_here.outcome
 
     first_right : IsRight rate keys start first
     first_right = told_here.right
 
-    line_is : flat_map (printed_head arguments lines explored) (head ∷ []) ≡ printed_answer arguments lines first
-    line_is = append-nil (printed_head arguments lines explored head) ∙ ap (printed_head arguments lines explored) found.2
-        ∙ sym (same_line explored one told_here.outcome told_here.same)
+    line_is : flat_map (printed_head arguments lines verdict) (head ∷ []) ≡ printed_answer arguments lines first
+    line_is = append-nil (printed_head arguments lines verdict head) ∙ ap (printed_head arguments lines verdict) found.2
+        ∙ sym (same_line verdict one told_here.outcome told_here.same)
 
-    bad_is : list_any (λ (h : Head). is_bad h.kind explored.outcome) (head ∷ []) ≡ is_bad first.stated.kind first.outcome
-    bad_is = or-false (is_bad head.kind explored.outcome) ∙ ap (λ (h : Head). is_bad h.kind explored.outcome) found.2 ∙ sym (told_here.same.bad one.kind)
+    bad_is : list_any (λ (h : Head). is_bad h.kind verdict.outcome) (head ∷ []) ≡ is_bad first.stated.kind first.outcome
+    bad_is = or-false (is_bad head.kind verdict.outcome) ∙ ap (λ (h : Head). is_bad h.kind verdict.outcome) found.2 ∙ sym (told_here.same.bad one.kind)
 
     within_asked : k < length asked
     within_asked = rw (sym (length-map asked head_of), sym is.heads) within
@@ -282,7 +282,7 @@ module _ (arguments : ProveArguments) (lines : List (List ℕ)) (rate keys : ℕ
     module _ (old mid : Tally W) where
       -- telling it failed
       pub comes_stopped : (was_bad was_short : Bool) (result : Result Told Failure) (why : Failure) → result ≡ Err why →
-          WritesAll contents old mid {T = Bool} (flat_map (printed_head arguments lines explored) (head ∷ [])) (Err why) → Comes contents old mid asked was_bad was_short result
+          WritesAll contents old mid {T = Bool} (flat_map (printed_head arguments lines verdict) (head ∷ [])) (Err why) → Comes contents old mid asked was_bad was_short result
       comes_stopped was_bad was_short result why e w =
           let at : WritesAll contents old mid {T = Bool} (printed_answer arguments lines first ++ []) (Err why) =
           subst (λ (l : List ℕ). WritesAll contents old mid {T = Bool} l (Err why)) (sym (append-nil (printed_answer arguments lines first)))
@@ -297,7 +297,7 @@ module _ (arguments : ProveArguments) (lines : List (List ℕ)) (rate keys : ℕ
             short = tt;
           })
 
-      module _ (w : Writes contents old mid (flat_map (printed_head arguments lines explored) (head ∷ []))) where
+      module _ (w : Writes contents old mid (flat_map (printed_head arguments lines verdict) (head ∷ []))) where
         written_first : Writes contents old mid (printed_answer arguments lines first)
         written_first = subst (λ (l : List ℕ). Writes contents old mid l) line_is w
 
@@ -317,8 +317,8 @@ module _ (arguments : ProveArguments) (lines : List (List ℕ)) (rate keys : ℕ
 
         -- the others were answered
         pub comes_on : (new : Tally W) (was_bad was_short now_bad now_short bad_here : Bool) (result : Result Told Failure) →
-            bad_here ≡ list_any (λ (h : Head). is_bad h.kind explored.outcome) (head ∷ []) →
-            now_bad ≡ (was_bad || bad_here) → now_short ≡ (was_short || explored.is_short) → Comes contents mid new (remove asked k) now_bad now_short result →
+            bad_here ≡ list_any (λ (h : Head). is_bad h.kind verdict.outcome) (head ∷ []) →
+            now_bad ≡ (was_bad || bad_here) → now_short ≡ (was_short || verdict.is_short) → Comes contents mid new (remove asked k) now_bad now_short result →
             Comes contents old new asked was_bad was_short result
         comes_on new was_bad was_short now_bad now_short bad_here result here now short rest = record {
           given = first ∷ rest.given;
@@ -343,8 +343,8 @@ module _ (arguments : ProveArguments) (lines : List (List ℕ)) (rate keys : ℕ
             bad_after (Err why) f e = tt
 
             short_after : (result : Result Told Failure) → IfOk result (λ told. told.is_short ≡ (now_short || has_short rest.given)) →
-                IfOk result (λ told. told.is_short ≡ (was_short || (explored.is_short || has_short rest.given)))
-            short_after (Ok told) e = e ∙ ap (λ (b : Bool). b || has_short rest.given) short ∙ or_assoc was_short explored.is_short (has_short rest.given)
+                IfOk result (λ told. told.is_short ≡ (was_short || (verdict.is_short || has_short rest.given)))
+            short_after (Ok told) e = e ∙ ap (λ (b : Bool). b || has_short rest.given) short ∙ or_assoc was_short verdict.is_short (has_short rest.given)
             short_after (Err why) e = tt
 
   -- ---- the reports before the answers, and what stands below them
@@ -364,6 +364,12 @@ module _ (arguments : ProveArguments) (lines : List (List ℕ)) (rate keys : ℕ
 
     none_answered : AreAnswered rate keys start asked [] asked
     none_answered = record { all = IsPermutation-refl asked; right = All-nil (IsRight rate keys start) }
+
+    -- the folder for scripts isn't there
+    pub from_unfound : (old new : Tally W) (ended : Outcome) (why : Failure) → ended ≡ Err why → new ≡ old →
+        IsScriptUnwritten arguments.search.keys_to why → From old new ended
+    from_unfound old new ended why e same unwritten =
+        rw e ([], asked, shown [] [], none_answered, tt, shown_is [] [], inr (unwritten, no_front contents old new _ same))
 
     -- the reports couldn't be printed
     pub from_unreported : (old new : Tally W) (ended : Outcome) (why : Failure) → ended ≡ Err why → Prints contents old new (printed reports Done) (Err why) →
@@ -419,6 +425,24 @@ module _ (arguments : ProveArguments) (lines : List (List ℕ)) (rate keys : ℕ
             inl (subst (λ l. WritesFront contents old late l) (one_text []) (front_more contents old late _ [] (whole_front contents old late _ both_written))),
           )
 
+      -- all was printed, but a script of the folder couldn't be written
+      pub from_unwritten : (new : Tally W) (others : List ℕ) (ended : Outcome) (why : Failure) → ended ≡ Err why → Writes contents late new others →
+          IsScriptUnwritten arguments.search.keys_to why → From old new ended
+      from_unwritten new others ended why e w unwritten =
+          rw e (
+            rest.given,
+            rest.left,
+            shown rest.given others,
+            rest.answered,
+            tt,
+            shown_is rest.given others,
+            inr (
+              unwritten,
+              whole_front contents old new _
+                  (subst (λ l. Writes contents old new l) (one_text others) (writes_after contents old late new _ others both_written w)),
+            ),
+          )
+
       -- the last line was printed, or it couldn't be
       pub from_ended : (new : Tally W) (others : List ℕ) (ending : Ending) (ended : Outcome) → ending ≡ proof_ending told.is_short (is_faulty || told.is_bad) →
           Prints contents late new (printed others ending) ended → From old new ended
@@ -439,6 +463,13 @@ module _ (arguments : ProveArguments) (lines : List (List ℕ)) (rate keys : ℕ
           by (Err failure.OutOfMemory) p =
               rw p (subst (λ l. WritesFront contents old late l) (one_text others) (front_more contents old late _ others (whole_front contents old late _ both_written)))
           by (Err _) p = absurd p
+
+      -- all was printed, and maybe a script of the folder couldn't be written
+      pub from_all : (new : Tally W) (others : List ℕ) (ending wanted : Ending) (ended : Outcome) → wanted ≡ proof_ending told.is_short (is_faulty || told.is_bad) →
+          ending ≡ wanted → Writes contents late new others → IfOk ended (λ e. e ≡ ending) → IfErr ended (IsScriptUnwritten arguments.search.keys_to) →
+          From old new ended
+      from_all new others ending wanted (Ok e) is shown w same unwritten = from_ended new others wanted (Ok e) is (same ∙ shown, w)
+      from_all new others ending wanted (Err why) is shown w same unwritten = from_unwritten new others (Err why) why refl w unwritten
 
 -- no property is asked for in the line that is named
 pub missing : (only : Option ℕ) (line : ℕ) (is_empty is_faulty : Bool) (asked : List Stated) → Some line ≡ missing_line only is_empty is_faulty →

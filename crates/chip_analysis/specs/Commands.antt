@@ -2,10 +2,11 @@
 --     IsBadSet, IsBadProperty, IsScriptUnwritten    what hinders them
 --     IfSet                          what a command did with the set that an argument asks for
 --     ChecksOne, ChecksEach, Checks  what `check` did with a source, with each of some, and by its arguments
---     SearchesFrom, Searches, Explores    what `explore` did with a machine, a source, and by its arguments
+--     SearchesFrom, ExcludesOrSearches, Searches, Explores    what `explore` did with a machine, with a target,
+--                                    with a source, and by its arguments
 --     ProvesFrom, ProvesWith, ProvesBy, Proves    what `prove` did with properties, a source, and by its
 --                                    arguments
-use Rattle.std.specs.Prelude.{◌≡◌, ◌⊎◌, ℕ, Bool, true, false, List, [], ◌∷◌, Option, Some, None, MatchOption, MatchResult, option_copied, Ok, Err, IsErrAnd, IfOk}
+use Rattle.std.specs.Prelude.{◌≡◌, ◌⊎◌, ℕ, Bool, true, false, List, [], ◌∷◌, Option, Some, None, MatchOption, MatchResult, option_copied, Ok, Err, IsErrAnd, IfOk, IfSome}
 use Rattle.std.specs.Borrow.{Bor}
 use Rattle.chip_asm.specs.Lines.{lines_of, open_fault}
 use Rattle.chip_asm.specs.Program.{image_of, symbols_of}
@@ -14,7 +15,7 @@ use Rattle.chip_host.specs.Printing.{Printed, IfOpens, Streams, WritesFront, Pri
 use Rattle.chip_host.specs.SettingArguments.{settings_asked}
 use Rattle.chip_session.specs.Settings.{SessionSettings}
 use Rattle.chip_session.specs.Tally.{Tally}
-use Rattle.chip_analysis.specs.Exploring.{AsksCauses, AsksKeys, AsksProperty, AsksSet, IsSearchPrinted, key_named, target_asked, usual_keys, warning_named}
+use Rattle.chip_analysis.specs.Exploring.{AreLeft, AsksCauses, AsksKeys, AsksProperty, AsksSet, IsExclusionPrinted, IsSearchPrinted, key_named, target_asked, usual_keys, warning_named}
 use Rattle.chip_analysis.specs.Proving.{Answered, AreAnswered, IsProofPrinted, asked_of, has_faults, unstated_line}
 use Rattle.chip_properties.specs.Properties.{AreProperties}
 use Rattle.chip_properties.specs.declared.properties.Properties.{Properties}
@@ -24,6 +25,8 @@ use Rattle.chip_explore.specs.Answers.{Answers, AreExecuted}
 use Rattle.chip_explore.specs.Speeds.{NeverAtAnySpeed}
 use Rattle.chip_explore.specs.declared.question.Explored.{Explored}
 use Rattle.chip_explore.specs.declared.target.Target.{Target}
+use Rattle.chip_facts.specs.declared.table.Left.{Left}
+use Rattle.chip_verdicts.specs.Verdict.{NeverMet}
 use Rattle.chip_machine.specs.Start.{start_of}
 use Rattle.chip_machine.specs.State.{State}
 use Rattle.chip_arguments.specs.declared.command_line.CheckArguments.{CheckArguments}
@@ -62,18 +65,30 @@ module _ {R : Type 0} (remaining : R → Option (List ℕ)) (in_old in_new : Tal
 
 module _ {W : Type 0} (contents : W → Option (List ℕ)) (out_old out_new : Tally W) where
   -- what a search over all key scripts of a machine answers is printed, also of all speeds of the
-  -- timers, and where it is asked for the listing of these lines with what is executed
+  -- timers, with the stops that facts leave, if there are facts, and where it is asked for the listing of
+  -- these lines with what is executed
   abbrev pub SearchesFrom : ExploreArguments → (lines : List (List ℕ)) → (rate keys : ℕ) → Target
-      → State → Outcome → Type 0
-  SearchesFrom arguments lines rate keys target start ended =
+      → (left : Option (List Left)) → State → Outcome → Type 0
+  SearchesFrom arguments lines rate keys target left start ended =
       ((explored : Explored) × Answers rate keys target start explored.outcome
       × AreExecuted rate keys explored.executed start explored.outcome
       × (explored.is_at_any_speed ≡ true → NeverAtAnySpeed keys target start)
-      × PrintsSuch contents out_old out_new (IsSearchPrinted arguments lines explored) ended)
+      × PrintsSuch contents out_old out_new (IsSearchPrinted arguments lines target.causes left explored) ended)
       ⊎ Fails contents out_old out_new (IsScriptUnwritten arguments.search.keys_to) ended
 
-  -- `explore`: where the lines have an image, a search of its machine is printed, for the property that
-  -- the arguments state and the place, if the lines have it; else the faults
+  -- with any keys, random bytes and speed, the machines of the image never meet what is looked for, which
+  -- is printed; or a search is
+  abbrev pub ExcludesOrSearches : ExploreArguments → SessionSettings → (keys : ℕ)
+      → (lines : List (List ℕ)) → (image : List ℕ) → Target → Outcome → Type 0
+  ExcludesOrSearches arguments settings keys lines image target ended =
+      (NeverMet image settings.quirks target
+      × PrintsSuch contents out_old out_new (IsExclusionPrinted arguments.search.is_any_speed) ended)
+      ⊎ ((left : Option (List Left)) × IfSome left (AreLeft image settings.quirks)
+      × SearchesFrom arguments lines settings.rate keys target left
+      (start_of image settings.tape settings.quirks) ended)
+
+  -- `explore`: where the lines have an image, its machine is searched, for the property that the arguments
+  -- state and the place, if the lines have it; else the faults are printed
   abbrev pub Searches : ExploreArguments → SessionSettings → (causes keys : ℕ)
       → (lines : List (List ℕ)) → Outcome → Type 0
   Searches arguments settings causes keys lines ended =
@@ -83,8 +98,7 @@ module _ {W : Type 0} (contents : W → Option (List ℕ)) (out_old out_new : Ta
       × MatchOption
       (target_asked causes (option_copied arguments.place) properties (symbols_of lines))
       (Fails contents out_old out_new (λ why. (text : Bor (List ℕ)) × (why ≡ failure.BadPlace text)) ended)
-      (λ target. SearchesFrom arguments lines settings.rate keys target
-      (start_of image settings.tape settings.quirks) ended))
+      (λ target. ExcludesOrSearches arguments settings keys lines image target ended))
       ⊎ Fails contents out_old out_new IsBadProperty ended)
 
   -- the answers to these properties were printed, each as soon as it was found: to all of them, where

@@ -7,8 +7,10 @@
 --     address_of, target_asked               the address of a place, and what a search looks for
 --     first_lines             what is printed first of what a search found
 --     answer_lines            the same where an answer at any speed may be asked for
---     IsSearchPrinted         the same, with more below it, and how the program ends
-use Rattle.std.specs.Prelude.{◌≡◌, ℕ, ℤ, pos, ◌+◌, ◌-◌, ◌^◌, ◌&&◌, Bool, List, [], ◌∷◌, ◌++◌, codes, fold, length, map, nat_le, nat_lt, bit_or, Option, Some, None, option_copied, option_map, if◌then◌else◌}
+--     excluded_lines, IsExclusionPrinted     what is printed where facts exclude what is looked for
+--     AreLeft, left_line, AreLeftLines, AreStopsLeft     the stops that facts leave, and their lines
+--     IsSearchPrinted         what is printed of a search, and how the program ends
+use Rattle.std.specs.Prelude.{◌≡◌, ℕ, ℤ, pos, ◌+◌, ◌-◌, ◌^◌, ◌&&◌, Bool, true, false, List, [], ◌∷◌, ◌++◌, codes, fold, length, map, nat_le, nat_lt, bit_or, Option, Some, None, option_copied, option_map, if◌then◌else◌}
 use Rattle.std.specs.Borrow.{Bor}
 use Rattle.std.specs.Fmt.{decimal}
 use Rattle.memchr.specs.Find.{Nowhere, Passes, is_byte}
@@ -18,9 +20,13 @@ use Rattle.chip_asm.specs.Program.{symbols_of}
 use Rattle.chip_symbols.specs.declared.table.Symbol.{Symbol}
 use Rattle.chip_cover.specs.Marks.{marked_listing}
 use Rattle.chip_lang.specs.Line.{upper}
+use Rattle.chip_facts.specs.Facts.{AreFacts}
+use Rattle.chip_facts.specs.declared.table.Left.{Left}
 use Rattle.chip_machine.specs.Limits.{MEMORY_BYTES}
 use Rattle.chip_machine.specs.Numbers.{stop_number}
+use Rattle.chip_machine.specs.declared.quirks.Quirks.{Quirks}
 use Rattle.chip_machine.specs.declared.stop.Stop.{Stop}
+use Rattle.chip_explore.specs.Causes.{is_wanted}
 use Rattle.chip_explore.specs.declared.question.Outcome.{Outcome}
 use Rattle.chip_explore.specs.declared.question.Outcome.TheVariants.{Found, Later, Within, Never}
 use Rattle.chip_explore.specs.declared.question.Explored.{Explored}
@@ -34,6 +40,7 @@ use Rattle.chip_properties.specs.Tokens.{property_tokens}
 use Rattle.chip_properties.specs.declared.stated.Kind.{Kind}
 use Rattle.chip_properties.specs.declared.stated.Kind.TheVariants as kind
 use Rattle.chip_session.specs.Commands.{number_spelled}
+use Rattle.chip_trace.specs.Digits.{hex_word}
 use Rattle.chip_host.specs.Printing.{Printed}
 use Rattle.chip_host.specs.declared.ending.Ending.{Ending}
 use Rattle.chip_host.specs.declared.ending.Ending.TheVariants.{Done, Faulty, Short}
@@ -84,9 +91,11 @@ warning_named (letter ∷ digit ∷ []) =
     then option_map (λ k. 9 + k) (digit_to 6 digit) else None)
 warning_named _ = None
 
--- a number in decimal, 0 to 15
+-- a number in decimal, 0 to 15, or a letter A to F, of either case
 abbrev pub key_named : List ℕ → Option ℕ
-key_named (digit ∷ []) = digit_to 9 digit
+key_named (digit ∷ []) =
+    if nat_le 65 digit && nat_le digit 70 then Some (10 + (digit - 65))
+    else (if nat_le 97 digit && nat_le digit 102 then Some (10 + (digit - 97)) else digit_to 9 digit)
 key_named (one ∷ digit ∷ []) =
     if nat_le 49 one && nat_le one 49 then option_map (λ k. 10 + k) (digit_to 5 digit) else None
 key_named _ = None
@@ -212,14 +221,52 @@ abbrev pub covering_text : (is_covering : Bool) → (executed : List Bool) → L
 covering_text is_covering executed lines =
     if is_covering then marked_listing executed lines else []
 
--- What is printed of what a search found: those lines, others of which no contract speaks (the
--- other causes that it met, and how many states it kept), and the listing. No contract says which
--- place of the source or of the image stands behind the step.
-pub record IsSearchPrinted (arguments : ExploreArguments) (lines : List (List ℕ))
-    (explored : Explored) (wanted : Printed) : Type 0 where
+-- the answer where facts exclude what is looked for, with the number of rows of their table
+abbrev pub excluded_lines : (is_any_speed : Bool) → (rows : ℕ) → List ℕ
+excluded_lines is_any_speed rows =
+    (if is_any_speed then codes "never at any speed\n" else codes "never\n")
+    ++ codes "with any keys, random bytes and speed\n" ++ number_line (codes "facts ") rows
+
+pub record IsExclusionPrinted (is_any_speed : Bool) (wanted : Printed) : Type 0 where
+  pub rows : ℕ
+  pub text : wanted.text ≡ excluded_lines is_any_speed rows
+  pub ending : wanted.ending ≡ Done
+
+-- with any keys, random bytes and speed, the machine stops at no other address and for no other cause
+abbrev pub AreLeft : (image : List ℕ) → Quirks → List Left → Type 0
+AreLeft image quirks left = (executed : List Bool) × AreFacts image quirks left executed
+
+-- the cause and the address of a stop, and where that is in the source or in the image
+abbrev pub left_line : (place : List ℕ) → Left → List ℕ
+left_line place one = codes "left " ++ cause_word one.stop ++ hex_word one.pc ++ place ++ 10 ∷ []
+
+-- the line of a stop, where its cause is looked for
+abbrev pub IsLeftLine : (is_wanted : Bool) → Left → (text : List ℕ) → Type 0
+IsLeftLine false one text = text ≡ []
+IsLeftLine true one text = (place : List ℕ) × (text ≡ left_line place one)
+
+-- the lines of the stops whose causes are looked for, one after another
+abbrev pub AreLeftLines : (causes : ℕ) → List Left → (text : List ℕ) → Type 0
+AreLeftLines causes [] text = text ≡ []
+AreLeftLines causes (one ∷ others) text =
+    (first rest : List ℕ) × (text ≡ first ++ rest)
+    × IsLeftLine (is_wanted causes one.stop) one first × AreLeftLines causes others rest
+
+-- none where there are no facts
+abbrev pub AreStopsLeft : (causes : ℕ) → Option (List Left) → (text : List ℕ) → Type 0
+AreStopsLeft causes None text = text ≡ []
+AreStopsLeft causes (Some left) text = AreLeftLines causes left text
+
+-- What is printed of a search: the answer, other lines of which no contract speaks (the other causes that
+-- it met, and how many states it kept), the stops that facts leave, and the listing. No contract says which
+-- place of the source or of the image stands behind a step or an address.
+pub record IsSearchPrinted (arguments : ExploreArguments) (lines : List (List ℕ)) (causes : ℕ)
+    (left : Option (List Left)) (explored : Explored) (wanted : Printed) : Type 0 where
   pub place : List ℕ
   pub others : List ℕ
+  pub stops : List ℕ
   pub text : wanted.text
-      ≡ answer_lines arguments.search.is_any_speed place explored ++ others
+      ≡ answer_lines arguments.search.is_any_speed place explored ++ others ++ stops
       ++ covering_text arguments.is_covering explored.executed lines
+  pub listed : AreStopsLeft causes left stops
   pub ending : wanted.ending ≡ search_ending explored.outcome explored.is_short

@@ -4,6 +4,7 @@
 --     text_at            the text of the property of a line
 --     looks_for          a search that looks for a property alone
 --     IsForeseen, AnswersKind    whether the answer to a `can` holds; whether that to any property does
+--     NeverMetFrom       whether a target is never met with any keys, random bytes and speed
 --     Answered, IsRight  a property with an answer; that the answer holds
 --     proof_ending       how the program ends after the answers
 --     IsProofPrinted     what is printed of properties that are answered
@@ -19,7 +20,12 @@ use Rattle.chip_explore.specs.Speeds.{NeverAtAnySpeed}
 use Rattle.chip_explore.specs.declared.prospect.Prospect.{Prospect}
 use Rattle.chip_explore.specs.declared.property.Property.{Property}
 use Rattle.chip_explore.specs.declared.target.Target.{Target}
+use Rattle.chip_machine.specs.Start.{start_of}
 use Rattle.chip_machine.specs.State.{State}
+use Rattle.chip_machine.specs.declared.quirks.Quirks.{Quirks}
+use Rattle.chip_verdicts.specs.Verdict.{NeverMet}
+use Rattle.chip_check.specs.declared.answer.Scope.{Scope}
+use Rattle.chip_check.specs.declared.answer.Scope.TheVariants as scope
 use Rattle.chip_properties.specs.Lines.{property_text_of}
 use Rattle.chip_properties.specs.declared.fault.PropertyFault.{PropertyFault}
 use Rattle.chip_properties.specs.declared.stated.Stated.{Stated}
@@ -62,11 +68,11 @@ looks_for property = record {
   properties = record { ref_ptr = (0, 0); now = property ∷ [] };
 }
 
--- a property, an answer, whether that is said of all speeds, and whether memory ran out in its search
+-- a property, an answer, the machines that it covers, and whether memory ran out in its search
 pub record Answered : Type 0 where
   pub stated : Stated
   pub outcome : Outcome
-  pub is_at_any_speed : Bool
+  pub scope : Scope
   pub is_short : Bool
 
 -- an outcome says whether the property can be met from everywhere
@@ -81,17 +87,26 @@ AnswersKind kind.Can rate keys property start outcome = IsForeseen rate keys pro
 AnswersKind kind rate keys property start outcome =
     Answers rate keys (looks_for property) start outcome
 
--- the answer holds, and so does what is said of all speeds
+-- with any keys, random bytes and speed, no machine with the image and the quirks of this one meets the target
+pub record NeverMetFrom (target : Target) (start : State) : Type 0 where
+  pub image : List ℕ
+  pub tape : List ℕ
+  pub quirks : Quirks
+  pub starts : start ≡ start_of image tape quirks
+  pub never : NeverMet image quirks target
+
+-- the answer holds, and it does so for all machines that it covers
 pub record IsRight (rate keys : ℕ) (start : State) (one : Answered) : Type 0 where
   pub answers : AnswersKind one.stated.kind rate keys one.stated.property start one.outcome
-  pub any_speed : one.is_at_any_speed ≡ true
+  pub any_speed : one.scope ≡ scope.AtAnySpeed
       → NeverAtAnySpeed keys (looks_for one.stated.property) start
+  pub anything : one.scope ≡ scope.Anything → NeverMetFrom (looks_for one.stated.property) start
 
 -- what is printed of an answer to a property of these lines
 abbrev pub printed_answer : ProveArguments → (lines : List (List ℕ)) → Answered → List ℕ
 printed_answer arguments lines one =
     answer_text arguments.is_json arguments.search.source.now one.stated.line
-    (text_at lines one.stated.line) one.stated.kind one.is_at_any_speed one.outcome
+    (text_at lines one.stated.line) one.stated.kind one.scope one.outcome
 
 abbrev pub has_bad : List Answered → Bool
 has_bad given = list_any (λ one. is_bad one.stated.kind one.outcome) given

@@ -1,13 +1,15 @@
 //! `check`: the faults of sources with their places, and their warnings.
-ghost use Rattle.std.specs.Prelude.{◌≡◌, IfOk, IsErr, false, true};
+ghost use Rattle.std.specs.Prelude.{◌≡◌, IfOk, IfSome, IsErr, MatchOption, false, true};
 ghost use Rattle.chip_asm.specs.Lines.{lines_of, open_fault};
 ghost use Rattle.chip_asm.specs.Program.{image_of};
 ghost use Rattle.chip_analysis.specs.Commands.{Checks, ChecksEach};
 ghost use Rattle.chip_analysis.specs.Checking.{gives_tape, paints, worse, IsCheckText, IsPrintedCheckOf, unopened_check};
 ghost use Rattle.chip_analysis.specs.inner.Covering.{IsCovered};
+ghost use Rattle.chip_facts.specs.Rows.{HoldFacts};
 ghost use Rattle.chip_host.specs.Printing.{printed_by, printed};
 
 use crate::covering::Covered;
+use crate::excluding::{CHECK_FACT_STEPS, executed_in, facts_within};
 use crate::noting::tell_lines;
 use crate::progress::{Progress, Teller};
 use crate::sets::warnings_of;
@@ -15,6 +17,7 @@ use chip_arguments::{CheckArguments, ColorChoice, SettingArguments};
 use chip_asm::{OpenError, Source};
 use chip_check::{check_json, check_text, unopened_json, unopened_report};
 use chip_explore::Watcher;
+use chip_facts::Facts;
 use chip_host::{Answer, Ending, Failure, FileAccess, System, deliver, read_source, settings_of};
 use chip_session::{Counted, Settings};
 use chip_warnings::{Asked, Warning, warnings};
@@ -63,7 +66,8 @@ pub fn check<'a, F: FileAccess + Clock, I: Read, O: Write, E: Write>(
         is_painted: paints(arguments.color, system.host.takes_color),
         is_covering: arguments.is_covering,
     };
-    let mut progress = Progress::new(errors, system.host.has_reader, system.files, None);
+    let is_shown = system.host.has_reader;
+    let mut progress = Progress::new(errors, is_shown, system.files, arguments.seconds);
     checker.check_each(system, names, input, output, &mut progress)
 }
 
@@ -150,11 +154,13 @@ impl<'p> Checker<'p> {
         tell_lines(alloc, str::from_utf8(name).unwrap_or(""), &source, teller);
         let covered = self.covered(alloc, &source, teller)?;
         let coverage = covered.as_ref().map(|covered| covered.coverage());
+        let facts = self.facts_about(alloc, &source);
         let asked = Asked {
             allowed: self.allowed,
             quirks: self.settings.quirks(),
             has_tape: self.has_tape,
             coverage,
+            reachable: executed_in(&facts),
         };
         let warnings = warnings(alloc, &source, asked)?;
         let text = self.text_of(alloc, name, &source, &warnings)?;
@@ -178,6 +184,15 @@ impl<'p> Checker<'p> {
             return Ok(None);
         };
         Ok(Some(Covered::of(alloc, image, self.settings, watcher)?))
+    }
+
+    // The facts about a source's image, where there are any.
+    fn facts_about(&self, alloc: Global, source: &Source) -> Option<Facts>
+        ensures { IfSome result (λ facts. MatchOption (image_of source.now.lines) ⊥
+            (λ image. HoldFacts image self.now.settings.now.quirks facts)) }
+    {
+        let image = source.image()?;
+        facts_within(alloc, CHECK_FACT_STEPS, image, self.settings.quirks())
     }
 
     // What is printed of a source and its warnings.

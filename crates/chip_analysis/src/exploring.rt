@@ -6,6 +6,7 @@ ghost use Rattle.chip_analysis.specs.Commands.{Explores, IsBadProperty, IsScript
 ghost use Rattle.chip_analysis.specs.inner.Written.{IsNamedWritten, IsScriptWritten};
 ghost use Rattle.chip_analysis.specs.Exploring.{AsksProperty, StatesOne, address_of, answer_lines, cause_word, covering_text, in_memory, met_line, met_word, number_line, search_ending, target_asked};
 
+use crate::excluding::{Searched, excluded_text, fact_steps, facts_within, left_of};
 use crate::noting::tell_target;
 use crate::progress::{News, Progress, Teller};
 use crate::sets::{Sets, sets_of};
@@ -18,6 +19,7 @@ use chip_cover::marked_listing;
 use chip_explore::{
     Bounds, Causes, END, Explored, KeyEvent, Met, Outcome, Property, Question, STOPS, Target, Ticks,
 };
+use chip_facts::Left;
 use chip_host::{
     Ending, Failure, FileAccess, Report, System, deliver, faults, file_name, print, read_given,
     refuse_source, settings_of,
@@ -27,6 +29,7 @@ use chip_machine::{Machine, Quirks, Stop};
 use chip_properties::{Kind, property_of_text};
 use chip_session::{Counted, Settings, number_of};
 use chip_trace::push_decimal;
+use chip_verdicts::excludes;
 use std::alloc::{AllocError, Global};
 use std::io::{Read, Write};
 use std::mem;
@@ -49,7 +52,8 @@ pub fn explore<'a, F: FileAccess + Clock, I: Read, O: Write, E: Write>(
     let name = arguments.search.source;
     let source = read_given(system, name, arguments.is_image, input, errors)?;
     let is_shown = system.host.has_reader || arguments.search.is_progress_shown;
-    let mut progress = Progress::new(errors, is_shown, system.files, None);
+    let seconds = arguments.search.seconds;
+    let mut progress = Progress::new(errors, is_shown, system.files, seconds);
     let wanted = AskedSearch {
         arguments,
         settings: &settings,
@@ -79,10 +83,10 @@ struct AskedSearch<'p, 'a> {
     sets: Sets,
 }
 
-fn search_opened<'a, F: FileAccess, O: Write, T: Teller>(
+fn search_opened<'p, 'a, F: FileAccess, O: Write, T: Teller>(
     system: &System<'_, F>,
-    wanted: &AskedSearch<'_, 'a>,
-    source: &Source,
+    wanted: &AskedSearch<'p, 'a>,
+    source: &'p Source,
     output: &mut Counted<O>,
     teller: &mut T,
 ) -> Result<Ending, Failure<'a>>
@@ -101,8 +105,18 @@ fn search_opened<'a, F: FileAccess, O: Write, T: Teller>(
     let Some(target) = target_of(arguments, sets.causes, source, &properties) else {
         return Err(Failure::BadPlace(arguments.place.unwrap_or("")));
     };
-    if !arguments.is_image {
-        tell_target(arguments.search.source, source, &target, teller);
+    tell_target(arguments, source, &target, teller);
+    let most_steps = fact_steps(asks_facts(arguments));
+    let facts = facts_within(system.alloc, most_steps, image, settings.quirks());
+    if let Some(found) = &facts
+        && excludes(found, &target)
+    {
+        let text = excluded_text(
+            system.alloc,
+            arguments.search.is_any_speed,
+            found.rows().len(),
+        )?;
+        return print(&text, Ending::Done, output);
     }
     let start = machine_of(system.alloc, image, settings.tape(), settings.quirks())?;
     let question = Question {
@@ -110,13 +124,21 @@ fn search_opened<'a, F: FileAccess, O: Write, T: Teller>(
         allowed: sets.keys,
         target,
     };
+    let left = left_of(&facts);
     let search = Search {
         arguments,
         source,
         start: &start,
         question: &question,
+        left,
     };
     search.carry_out(system, output, teller)
+}
+
+/// Whether facts are asked before the search. They aren't for the marks of a listing, which are of what the
+/// search executes.
+fn asks_facts(arguments: &ExploreArguments<'_>) -> bool {
+    !arguments.search.is_without_facts && !arguments.is_covering
 }
 
 /// A search, and the source whose image is searched.
@@ -126,6 +148,8 @@ struct Search<'p, 'a> {
     source: &'p Source,
     start: &'p Machine,
     question: &'p Question<'p>,
+    /// The stops that facts leave, where there are facts.
+    left: Option<&'p [Left]>,
 }
 
 // The machine of a source's image before its first step. The image is within its bounds, and the
@@ -245,7 +269,7 @@ impl<'p, 'a> Search<'p, 'a> {
         requires fresh { self.now.start.now.core.draws ≡ 0 }
         ensures searched { SearchesFrom O.contents output.old output.new self.now.arguments.now
             self.now.source.now.lines self.now.question.now.rate self.now.question.now.allowed
-            self.now.question.now.target self.now.start.now result }
+            self.now.question.now.target (option_copied self.now.left) self.now.start.now result }
         // Where a script was found, the program ends so.
         ensures written { result ≡ Ok Ending.Faulty
             → IsNamedWritten (F.wrote system.now.files.now) self.now.arguments.now.search.keys_to }
@@ -255,6 +279,7 @@ impl<'p, 'a> Search<'p, 'a> {
             source,
             start,
             question,
+            left,
         } = *self;
         let ticks = if arguments.is_covering {
             // What is marked in the listing is executed at the rate.
@@ -277,8 +302,20 @@ impl<'p, 'a> Search<'p, 'a> {
                 &explored.outcome,
             )?
         };
-        let text = search_text(system.alloc, arguments, source, &explored, &place)?;
+        let searched = Searched {
+            source,
+            start,
+            is_image: arguments.is_image,
+        };
+        let stops = match left {
+            Some(left) => searched.left_text(system.alloc, question.target.causes, left)?,
+            None => Vec::new(system.alloc),
+        };
+        let text = search_text(system.alloc, arguments, source, &explored, &place, &stops)?;
         write_script(system, arguments, &explored.outcome, teller)?;
+        if explored.is_stopped {
+            teller.tell(News::OutOfTime);
+        }
         print(&text, search_ending(&explored), output)
     }
 }
@@ -314,7 +351,7 @@ fn write_script<'a, F: FileAccess, T: Teller>(
         return Ok(Ending::Done);
     };
     let text = script_text(system.alloc, events)?;
-    let taken = [file_name(arguments.search.source)];
+    let taken = [Some(file_name(arguments.search.source))];
     let ending = system.write(&taken, name, &text)?;
     teller.tell(News::Written(name));
     Ok(ending)
@@ -332,21 +369,23 @@ pub(crate) fn script_text(alloc: Global, events: &[KeyEvent]) -> Result<Vec<u8>,
     Ok(text)
 }
 
-// What is printed of what a search found.
+// What is printed of what a search found, with the lines of the stops that facts leave.
 fn search_text(
     alloc: Global,
     arguments: &ExploreArguments<'_>,
     source: &Source,
     explored: &Explored,
     place: &[u8],
+    stops: &[u8],
 ) -> Result<Vec<u8>, AllocError>
     ensures { IfOk result (λ text. (others : List ℕ) × (text.items
-        ≡ answer_lines arguments.now.search.is_any_speed place.now explored.now ++ others
+        ≡ answer_lines arguments.now.search.is_any_speed place.now explored.now ++ others ++ stops.now
         ++ covering_text arguments.now.is_covering explored.now.executed source.now.lines)) }
 {
     let mut text = Vec::new(alloc);
     push_first_lines(&mut text, arguments.search.is_any_speed, explored, place)?;
     text.extend_from_slice(&lines_below(alloc, explored)?)?;
+    text.extend_from_slice(stops)?;
     if arguments.is_covering {
         text.extend_from_slice(&marked_listing(alloc, source, &explored.executed)?)?;
     }
@@ -424,15 +463,15 @@ fn lines_below(alloc: Global, explored: &Explored) -> Result<Vec<u8>, AllocError
     Ok(text)
 }
 
-// A stop cause before a number.
-fn cause_word(cause: Stop) -> [u8; 3]
+/// A stop cause before a number.
+pub(crate) fn cause_word(cause: Stop) -> [u8; 3]
     ensures { result ≡ cause_word cause }
 {
     [b'S', b'0' + cause.number() as u8, b' ']
 }
 
-// Adds a word, a number and the end of the line.
-fn push_line(text: &mut Vec<u8>, word: &[u8], number: u64) -> Result<(), AllocError>
+/// Adds a word, a number and the end of the line.
+pub(crate) fn push_line(text: &mut Vec<u8>, word: &[u8], number: u64) -> Result<(), AllocError>
     ensures { OnOk result (text.new.items ≡ text.old.items ++ number_line word.now number) }
 {
     text.extend_from_slice(word)?;

@@ -3,10 +3,13 @@
 
 mod checking;
 mod covering;
+mod excluding;
 mod exploring;
+mod note;
 mod noting;
 mod progress;
 mod proving;
+mod ranges;
 mod sets;
 mod stop_place;
 mod telling;

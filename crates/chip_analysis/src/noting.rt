@@ -1,25 +1,24 @@
 //! What is told, where somebody reads it, of properties and places that say less than they seem to.
 
-use crate::progress::{News, Note, Teller};
+use crate::note::Note;
+use crate::progress::{News, Teller};
+use crate::ranges::never_changes;
+use chip_arguments::ExploreArguments;
 use chip_asm::{LineView, Source};
-use chip_explore::{Property, Target};
+use chip_explore::{Item, Property, Sum, Target};
 use chip_lang::{Body, Line};
-use chip_properties::{Stated, names_used};
+use chip_properties::{Stated, names_used, property_text};
 use std::alloc::Global;
 use std::str;
 
 /// Tells which lines of a source have `;!` behind a statement, and whether lines stand behind its END. Where
 /// memory runs out, that is left out.
 pub(crate) fn tell_lines<T: Teller>(alloc: Global, name: &str, source: &Source, teller: &mut T) {
-    let mut end = 0;
     for number in 1..=source.lines() {
         if let Some(line) = source.line(number) {
-            if end > 0 && !is_comment(line.text()) {
-                tell_of(name, end, Note::BehindEnd, teller);
-                return;
-            }
             if line.is_active() && is_end(&line) {
-                end = number;
+                tell_behind_end(name, number, source, teller);
+                return;
             }
             if hides_property(alloc, &line) {
                 tell_of(name, number, Note::Hidden, teller);
@@ -28,8 +27,27 @@ pub(crate) fn tell_lines<T: Teller>(alloc: Global, name: &str, source: &Source, 
     }
 }
 
+/// Tells whether lines stand behind the END in the line of a number, and whether properties are among them.
+fn tell_behind_end<T: Teller>(name: &str, end: usize, source: &Source, teller: &mut T) {
+    let mut note = None;
+    for number in end.saturating_add(1)..=source.lines() {
+        if let Some(line) = source.line(number) {
+            if property_text(line.text()).is_some() {
+                note = Some(Note::PropertiesBehindEnd);
+                break;
+            }
+            if !is_comment(line.text()) {
+                note = Some(Note::BehindEnd);
+            }
+        }
+    }
+    if let Some(note) = note {
+        tell_of(name, end, note, teller);
+    }
+}
+
 /// Tells which properties of a source have a place at which no line begins, or a comparison without
-/// anything that changes. Where memory runs out, that is left out.
+/// anything that changes, or that always has the same answer. Where memory runs out, that is left out.
 pub(crate) fn tell_properties<T: Teller>(
     alloc: Global,
     name: &str,
@@ -38,59 +56,86 @@ pub(crate) fn tell_properties<T: Teller>(
     teller: &mut T,
 ) {
     for one in stated {
-        if let Some(address) = one.property.place {
-            tell_place(name, one.line, source, address, teller);
+        if let Some(address) = one.property.place
+            && let Some(note) = note_on_place(false, source, address)
+        {
+            tell_of(name, one.line, note, teller);
         }
         if has_constant(&one.property) {
             tell_constant(alloc, name, one.line, source, teller);
+        } else {
+            tell_fixed(name, one.line, source, &one.property, teller);
         }
     }
 }
 
-/// Tells which places that the arguments of a search ask for are no line's address.
+/// Tells which places that the arguments of a search ask for are no line's address, or no word's of the image,
+/// and which comparisons always have the same answer.
 pub(crate) fn tell_target<T: Teller>(
-    name: &str,
+    arguments: &ExploreArguments<'_>,
     source: &Source,
     target: &Target<'_>,
     teller: &mut T,
 ) {
-    if let Some(address) = target.address {
-        tell_place(name, 0, source, address, teller);
+    let name = arguments.search.source;
+    if let Some(address) = target.address
+        && let Some(note) = note_on_place(arguments.is_image, source, address)
+    {
+        tell_of(name, 0, note, teller);
+        let place = arguments.place.unwrap_or("");
+        if place
+            .as_bytes()
+            .iter()
+            .all(|byte| matches!(byte, b'0'..=b'9'))
+        {
+            tell_of(name, 0, Note::Decimal(place), teller);
+        }
     }
     for property in target.properties {
-        if let Some(address) = property.place {
-            tell_place(name, 0, source, address, teller);
+        if let Some(address) = property.place
+            && let Some(note) = note_on_place(arguments.is_image, source, address)
+        {
+            tell_of(name, 0, note, teller);
         }
+        tell_fixed(name, 0, source, property, teller);
     }
 }
 
-/// Tells where the nearest line begins, if none begins at an address. `asked` is the number of the
-/// property's line, or 0 where an argument gives the address.
-fn tell_place<T: Teller>(name: &str, asked: usize, source: &Source, address: u16, teller: &mut T) {
+/// What is told of an address at which no line begins, or in an image no word; nothing of another one.
+fn note_on_place<'n>(is_image: bool, source: &Source, address: u16) -> Option<Note<'n>> {
     let wanted = usize::from(address);
     let mut nearest: Option<(usize, usize)> = None;
     let mut least = usize::MAX;
+    let mut first = usize::MAX;
+    let mut last = 0;
     for number in 1..=source.lines() {
         if let Some(line) = source.line(number)
             && line.is_active()
             && line.size() > 0
         {
-            let distance = line.address().abs_diff(wanted);
+            let begin = line.address();
+            first = first.min(begin);
+            last = last.max(begin);
+            let distance = begin.abs_diff(wanted);
             if distance < least {
                 least = distance;
-                nearest = Some((number, line.address()));
+                nearest = Some((number, begin));
             }
         }
     }
-    if let Some((number, begin)) = nearest
-        && least > 0
-    {
-        let note = Note::NoLineAt {
+    match nearest {
+        Some(_) if least == 0 => None,
+        Some(_) if is_image => Some(Note::NoWordAt {
+            address,
+            first,
+            last,
+        }),
+        Some((number, begin)) => Some(Note::NoLineAt {
             address,
             number,
             begin,
-        };
-        tell_of(name, asked, note, teller);
+        }),
+        None => None,
     }
 }
 
@@ -99,6 +144,46 @@ fn has_constant(property: &Property) -> bool {
     property.condition.comparisons.iter().any(|comparison| {
         comparison.left.terms.is_empty() && comparison.right.terms.is_empty()
     })
+}
+
+/// Tells of the first comparison of a property that always has the same answer why it does, and which of its
+/// words is also a name of the source. `number` is that of the property's line, or 0 for an argument.
+fn tell_fixed<T: Teller>(
+    name: &str,
+    number: usize,
+    source: &Source,
+    property: &Property,
+    teller: &mut T,
+) {
+    for comparison in &property.condition.comparisons {
+        if let Some(fixed) = never_changes(comparison) {
+            tell_of(name, number, Note::Fixed(fixed), teller);
+            tell_words(name, number, source, &comparison.left, teller);
+            tell_words(name, number, source, &comparison.right, teller);
+            return;
+        }
+    }
+}
+
+/// Tells which words of a side of a comparison are also names of the source.
+fn tell_words<T: Teller>(name: &str, number: usize, source: &Source, side: &Sum, teller: &mut T) {
+    for term in &side.terms {
+        if let Some(word) = word_of(term.item)
+            && source.symbol(word.as_bytes()).is_some()
+        {
+            tell_of(name, number, Note::Word(word), teller);
+        }
+    }
+}
+
+/// The word by which properties name an item, if a source may use it as a name.
+fn word_of(item: Item) -> Option<&'static str> {
+    match item {
+        Item::AsksKeys => Some("KEYS"),
+        Item::Depth => Some("DEPTH"),
+        Item::Place => Some("PC"),
+        _ => None,
+    }
 }
 
 /// Tells that the property of a line compares numbers alone, with the address of its first label if it names

@@ -1,6 +1,9 @@
 //! What is said on standard error while a search runs and after it, and when one ends.
 
+use crate::note::Note;
 use chip_explore::Watcher;
+use chip_host::Shown;
+use std::io;
 use std::io::Write;
 use std::time::{Clock, Duration, Instant};
 
@@ -9,6 +12,8 @@ use std::time::{Clock, Duration, Instant};
 pub(crate) enum News<'n> {
     /// A file of this name was written.
     Written(&'n str),
+    /// A file of this name couldn't be written.
+    Unwritten(&'n str, &'n io::Error),
     /// The source of this name states no property.
     NothingStated(&'n str),
     /// The time is over.
@@ -22,31 +27,12 @@ pub(crate) enum News<'n> {
     },
 }
 
-/// Why a property or a place says less than it seems to.
-#[derive(Clone, Copy)]
-pub(crate) enum Note<'n> {
-    /// No line begins at `address`. The nearest line has this number, and begins at `begin`.
-    NoLineAt {
-        address: u16,
-        number: usize,
-        begin: usize,
-    },
-    /// A comparison has numbers alone, and this label is one of them.
-    Label {
-        label: &'n str,
-        value: i32,
-    },
-    /// A comparison has numbers alone.
-    Constant,
-    /// `;!` stands behind a statement.
-    Hidden,
-    /// Lines that aren't empty stand behind END.
-    BehindEnd,
-}
-
 /// A watcher that also tells what a command did.
 pub(crate) trait Teller: Watcher {
     fn tell(&mut self, news: News<'_>);
+
+    /// A search begins, and with it so many are left: it ends when its share of the time is over.
+    fn begin(&mut self, searches: usize);
 }
 
 /// How far a search is, said on standard error, and when it ends. Where standard error fails there is
@@ -58,6 +44,8 @@ pub(crate) struct Progress<'e, E, C> {
     clock: &'e C,
     /// When searches end, if they have a time.
     end: Option<Instant>,
+    /// When the search that has begun ends, if it has a share of that time.
+    end_of_share: Option<Instant>,
 }
 
 impl<'e, E: Write, C: Clock> Progress<'e, E, C> {
@@ -80,7 +68,20 @@ impl<'e, E: Write, C: Clock> Progress<'e, E, C> {
             is_shown,
             clock,
             end,
+            end_of_share: end,
         }
+    }
+
+    /// When the share of a search is over, where so many are left. Where the clock can't be read it has all the time.
+    fn share_of(&self, searches: usize) -> Option<Instant> {
+        let end = self.end?;
+        let Ok(now) = Instant::now(self.clock) else {
+            return Some(end);
+        };
+        let left = end.saturating_duration_since(now);
+        let parts = u64::from(left.subsec_millis());
+        let milliseconds = left.as_secs().saturating_mul(1_000).saturating_add(parts);
+        now.checked_add(Duration::from_millis(milliseconds / (searches.max(1) as u64)))
     }
 }
 
@@ -96,7 +97,7 @@ impl<'e, E: Write, C: Clock> Watcher for Progress<'e, E, C> {
     }
 
     fn goes_on(&mut self) -> bool {
-        let Some(end) = self.end else {
+        let Some(end) = self.end_of_share else {
             return true;
         };
         match Instant::now(self.clock) {
@@ -110,39 +111,18 @@ impl<'e, E: Write, C: Clock> Progress<'e, E, C> {
     /// Tells a note on a line of a source.
     fn tell_note(&mut self, name: &str, line: usize, note: Note<'_>) {
         let _ = match line {
-            0 => write!(self.errors, "chipbench: {name}: "),
-            _ => write!(self.errors, "chipbench: {name}:{line}: "),
+            0 => write!(self.errors, "chipbench: {}: ", Shown(name)),
+            _ => write!(self.errors, "chipbench: {}:{line}: ", Shown(name)),
         };
-        let _ = match note {
-            Note::NoLineAt {
-                address,
-                number,
-                begin,
-            } => writeln!(
-                self.errors,
-                "no line begins at address {address}; the nearest, line {number}, begins at {begin}"
-            ),
-            Note::Label { label, value } => writeln!(
-                self.errors,
-                "a comparison has constants alone: {label} is the address {value}; [{label}] is the byte there"
-            ),
-            Note::Constant => writeln!(
-                self.errors,
-                "a comparison has constants alone, so no step changes it"
-            ),
-            Note::BehindEnd => writeln!(
-                self.errors,
-                "END ends the source here, so the lines below it are ignored"
-            ),
-            Note::Hidden => writeln!(
-                self.errors,
-                "`;!` behind a statement or a label states nothing; put it on a line of its own"
-            ),
-        };
+        let _ = note.write(self.errors);
     }
 }
 
 impl<'e, E: Write, C: Clock> Teller for Progress<'e, E, C> {
+    fn begin(&mut self, searches: usize) {
+        self.end_of_share = self.share_of(searches);
+    }
+
     fn tell(&mut self, news: News<'_>) {
         if let News::Noted { name, line, note } = news {
             if self.is_shown {
@@ -151,10 +131,16 @@ impl<'e, E: Write, C: Clock> Teller for Progress<'e, E, C> {
             return;
         }
         let _ = match news {
-            News::Written(name) => writeln!(self.errors, "chipbench: wrote {name}"),
+            News::Written(name) => writeln!(self.errors, "chipbench: wrote {}", Shown(name)),
+            News::Unwritten(name, error) => writeln!(
+                self.errors,
+                "chipbench: cannot write {}\nreason: {error}",
+                Shown(name)
+            ),
             News::NothingStated(name) => writeln!(
                 self.errors,
-                "chipbench: {name} states no property: a line such as `;! always V0 <= 9` does"
+                "chipbench: {} states no property: a line such as `;! always V0 <= 9` does",
+                Shown(name)
             ),
             News::OutOfTime => writeln!(self.errors, "chipbench: out of time"),
             News::Noted { .. } => Ok(()),

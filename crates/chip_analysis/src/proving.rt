@@ -1,5 +1,5 @@
-//! `prove`: what searches over all key scripts answer of the properties that a source states.
-ghost use Rattle.std.specs.Prelude.{◌≡◌, ◌⊎◌, ◌<◌, ◌||◌, [], ℕ, List, Ok, Some, None, true, IfOk, IfErr, IfSome, filter, length, slice_get, false, position, ◌==◌, ◌+◌};
+//! `prove`: what facts and searches over all key scripts answer of the properties that a source states.
+ghost use Rattle.std.specs.Prelude.{◌≡◌, ◌⊎◌, ◌<◌, ◌&&◌, ◌||◌, [], ℕ, List, Ok, Some, None, true, IfOk, IfErr, IfSome, filter, length, slice_get, false, position, ◌==◌, ◌+◌};
 ghost use Rattle.std.specs.List.{flat_map, list_any, remove};
 ghost use Rattle.chip_explore.specs.Answers.{Answers};
 ghost use Rattle.chip_explore.specs.OneOf.{told_of};
@@ -10,24 +10,28 @@ ghost use Rattle.chip_properties.specs.declared.properties.Properties.{Propertie
 ghost use Rattle.chip_properties.specs.declared.stated.Stated.{Stated};
 ghost use Rattle.chip_host.specs.Printing.{Fails};
 ghost use Rattle.chip_analysis.specs.Commands.{IsScriptUnwritten, Proves, ProvesBy, ProvesFrom, ProvesWith};
-ghost use Rattle.chip_host.specs.Endings.{IsShort, IsUnwritten};
+ghost use Rattle.chip_host.specs.Endings.{IsShort};
 ghost use Rattle.chip_host.specs.Reading.{image_in};
 ghost use Rattle.chip_analysis.specs.Proving.{IsForeseen, has_faults, is_asked, looks_for, proof_ending, text_at};
 ghost use Rattle.chip_check.specs.Answer.{is_bad};
-ghost use Rattle.chip_analysis.specs.inner.Proofs.{IsAnswering, IsLeft, IsNext, IsUnmet, is_can, WritesAll, met_property, missing_line, printed_head};
+ghost use Rattle.chip_check.specs.declared.answer.Scope.TheVariants.{Anything};
+ghost use Rattle.chip_explore.specs.declared.question.Outcome.TheVariants.{Never};
+ghost use Rattle.chip_analysis.specs.inner.Proofs.{AreFactsFrom, IsAnswering, IsExcluded, IsLeft, IsNext, IsUnmet, is_can, WritesAll, met_property, missing_line, printed_head, searched_scope};
 
 use crate::checking::Checker;
-use crate::exploring::{bounds_of, machine_of, script_text};
+use crate::excluding::{bytes_are_small, excludes_property, fact_steps, facts_within};
+use crate::exploring::{bounds_of, machine_of, push_line, script_text};
 use crate::noting::{tell_lines, tell_properties};
 use crate::progress::{News, Progress, Teller};
 use crate::sets::keys_of;
 use chip_arguments::ProveArguments;
 use chip_asm::Source;
-use chip_check::{PropertyAnswer, PropertyPlace, is_bad, push_property_fault, push_quoted};
+use chip_check::{PropertyAnswer, PropertyPlace, Scope, is_bad, push_property_fault, push_quoted};
 use chip_explore::laws::one_of_several;
 use chip_explore::{
     Causes, Explored, Met, Outcome, Property, Pursuit, Question, Target, Ticks, explore, foresee,
 };
+use chip_facts::Facts;
 use chip_host::{
     Ending, Failure, FileAccess, System, deliver, file_name, print, read_source, settings_of,
 };
@@ -35,6 +39,7 @@ use chip_machine::Machine;
 use chip_properties::{Kind, Properties, PropertyFault, Stated, properties_of, property_text};
 use chip_session::{Counted, Settings};
 use chip_trace::push_decimal;
+use chip_verdicts::never_met_is_never;
 use std::alloc::{AllocError, Global};
 use std::io::{Read, Write};
 use std::time::Clock;
@@ -53,7 +58,7 @@ pub fn prove<'a, F: FileAccess + Clock, I: Read, O: Write, E: Write>(
         arguments.entry.now result }
 {
     let is_shown = system.host.has_reader || arguments.search.is_progress_shown;
-    let mut progress = Progress::new(errors, is_shown, system.files, arguments.seconds);
+    let mut progress = Progress::new(errors, is_shown, system.files, arguments.search.seconds);
     let settings = settings_of(system.alloc, &arguments.search.settings)?;
     let keys = keys_of(arguments.search.allowed_keys)?;
     let bytes = read_source(system, arguments.search.source, input)?;
@@ -94,11 +99,15 @@ fn prove_source<'a, F: FileAccess, O: Write, T: Teller>(
                 return print(&text, Ending::Faulty, output);
             };
             let settings = asked.settings;
+            let most_steps = fact_steps(!arguments.search.is_without_facts);
+            let facts = facts_within(system.alloc, most_steps, image, settings.quirks());
+            bytes_are_small(settings.tape());
             let start = machine_of(system.alloc, image, settings.tape(), settings.quirks())?;
             let prover = Prover {
                 system,
                 arguments,
                 source: &source,
+                facts: &facts,
                 start: &start,
                 rate: settings.rate(),
                 keys: asked.keys,
@@ -115,6 +124,8 @@ struct Prover<'p, 'a, F> {
     system: &'p System<'p, F>,
     arguments: &'p ProveArguments<'a>,
     source: &'p Source,
+    /// The facts about its image, where there are any.
+    facts: &'p Option<Facts>,
     start: &'p Machine,
     rate: u32,
     keys: u16,
@@ -134,11 +145,26 @@ pub(crate) struct Left {
     properties: Vec<Property>,
 }
 
-/// What one search answers: the property at the place, or, with no place, all that are left.
+/// What facts or a search say of some properties.
+#[derive(Drop)]
+pub(crate) struct Verdict {
+    outcome: Outcome,
+    scope: Scope,
+    /// How many states were kept.
+    states: usize,
+    /// Memory ran out.
+    is_short: bool,
+    /// The time was over.
+    is_late: bool,
+}
+
+/// What is answered next: the property at the place, or, with no place, all that are left.
 #[derive(Drop)]
 pub(crate) struct Next {
     place: Option<usize>,
-    explored: Explored,
+    verdict: Verdict,
+    /// How many of the properties that are then left, from the first one on, facts don't exclude.
+    tried: usize,
 }
 
 /// What the searches came to.
@@ -152,6 +178,8 @@ pub(crate) struct Told {
     is_short: bool,
     /// A search ended since its time was over.
     is_late: bool,
+    /// How many of the properties that are left, from the first one on, facts don't exclude.
+    tried: usize,
     /// Which script was written.
     written: Written,
 }
@@ -164,6 +192,8 @@ pub(crate) enum Written {
     Reached,
     /// That of a property that is broken.
     Broken,
+    /// One of a folder couldn't be written, and that was told.
+    Failed,
 }
 
 impl Left {
@@ -186,11 +216,34 @@ impl Left {
         Ok(Left { heads, properties })
     }
 
+    /// How many searches are left: one for each that asks whether it can be met from everywhere, and one for all
+    /// others.
+    fn searches(&self) -> usize {
+        let alone = self.heads.iter().filter(|head| is_can(head.kind)).count();
+        alone.saturating_add(usize::from(alone < self.heads.len()))
+    }
+
     /// The place of the first one that asks whether it can be met from everywhere, if there is one.
     fn first_can(&self) -> Option<usize>
         ensures { result ≡ position (λ head. is_can head.kind) self.now.heads.items }
     {
         self.heads.iter().position(|head| is_can(head.kind))
+    }
+
+    /// The place of the first one, from a place on, that facts exclude. One that asks whether it can be met from
+    /// everywhere is left to the search.
+    fn first_excluded(&self, facts: &Facts, from: usize) -> Option<usize>
+        requires { length self.now.heads.items ≡ length self.now.properties.items }
+        ensures { IfSome result (λ place. IsExcluded facts.now self.now place) }
+    {
+        for place in from..self.heads.len() {
+            if !is_can(self.heads[place].kind)
+                && excludes_property(facts, &self.properties[place])
+            {
+                return Some(place);
+            }
+        }
+        None
     }
 
     /// Removes one, and gives its head.
@@ -214,6 +267,11 @@ fn is_can(kind: Kind) -> bool
         Kind::Can => true,
         Kind::Always | Kind::Never | Kind::Ever => false,
     }
+}
+
+/// Whether a path names a folder, to which each script is written.
+fn is_folder(path: &str) -> bool {
+    path.as_bytes().ends_with(b"/")
 }
 
 /// Whether the property of a line is asked for.
@@ -267,6 +325,7 @@ impl<'p, 'a, F: FileAccess> Prover<'p, 'a, F> {
     ) -> Result<Ending, Failure<'a>>
         requires rate { 0 < self.now.rate }
         requires fresh { self.now.start.now.core.draws ≡ 0 }
+        requires facts { IfSome self.now.facts.now (AreFactsFrom self.now.start.now) }
         ensures { ((properties : Properties) × AreProperties self.now.source.now.lines properties
             × ProvesWith O.contents output.old output.new self.now.arguments.now
             self.now.source.now.lines self.now.rate self.now.keys self.now.start.now properties result)
@@ -302,18 +361,50 @@ impl<'p, 'a, F: FileAccess> Prover<'p, 'a, F> {
     ) -> Result<Ending, Failure<'a>>
         requires rate { 0 < self.now.rate }
         requires fresh { self.now.start.now.core.draws ≡ 0 }
+        requires facts { IfSome self.now.facts.now (AreFactsFrom self.now.start.now) }
         requires even { length left.heads.items ≡ length left.properties.items }
         ensures { (asked : List Stated) → IsLeft asked left → ProvesFrom O.contents output.old
             output.new self.now.arguments.now self.now.source.now.lines self.now.rate self.now.keys
             self.now.start.now asked is_faulty result }
     {
+        self.find_folder()?;
         print(reports, Ending::Done, output)?;
+        let is_empty = left.heads.is_empty();
         let told = self.answer(left, Told::NOTHING, output, teller)?;
         if told.is_late {
             teller.tell(News::OutOfTime);
         }
-        let text = self.end_text(&told)?;
-        print(&text, told.ending(is_faulty), output)
+        let text = self.end_text(&told, is_empty)?;
+        let ending = print(&text, told.ending(is_faulty), output)?;
+        self.end(ending, told.written)
+    }
+
+    /// Whether the folder is there that scripts are to be written to, if one is named.
+    fn find_folder(&self) -> Result<(), Failure<'a>>
+        ensures { IfErr result (IsScriptUnwritten self.now.arguments.now.search.keys_to) }
+    {
+        if let Some(path) = self.arguments.search.keys_to
+            && is_folder(path)
+            && let Err(error) = self.system.files.find_folder(path)
+        {
+            return Err(Failure::CannotWrite(path, error));
+        }
+        Ok(())
+    }
+
+    /// How the program ends after all answers, unless a script of a folder couldn't be written.
+    fn end(&self, ending: Ending, written: Written) -> Result<Ending, Failure<'a>>
+        ensures ok { IfOk result (λ ended. ended ≡ ending) }
+        ensures err { IfErr result (IsScriptUnwritten self.now.arguments.now.search.keys_to) }
+    {
+        match (self.arguments.search.keys_to, written) {
+            (Some(path), Written::Failed) => {
+                let why = "a file of this folder couldn't be written, as said above";
+                let error = io::Error::new(io::ErrorKind::Other, why);
+                Err(Failure::CannotWrite(path, error))
+            }
+            _ => Ok(ending),
+        }
     }
 
     /// What is printed of the properties that can't be read.
@@ -339,8 +430,8 @@ impl<'p, 'a, F: FileAccess> Prover<'p, 'a, F> {
         Ok(text)
     }
 
-    /// Answers properties, search by search: one that is met is told at once, and left out of the next
-    /// search. What the last search says it says of all that are left.
+    /// Answers properties: at first those that facts exclude, then search by search. One that is met is told at
+    /// once, and left out of the next search. The last search answers all that are left.
     fn answer<O: Write, T: Teller>(
         &self,
         mut left: Left,
@@ -350,6 +441,7 @@ impl<'p, 'a, F: FileAccess> Prover<'p, 'a, F> {
     ) -> Result<Told, Failure<'a>>
         requires rate { 0 < self.now.rate }
         requires fresh { self.now.start.now.core.draws ≡ 0 }
+        requires facts { IfSome self.now.facts.now (AreFactsFrom self.now.start.now) }
         requires even { length left.heads.items ≡ length left.properties.items }
         ensures { (asked : List Stated) → IsLeft asked left → IsAnswering O.contents output.old
             output.new self.now.arguments.now self.now.source.now.lines self.now.rate self.now.keys
@@ -358,18 +450,19 @@ impl<'p, 'a, F: FileAccess> Prover<'p, 'a, F> {
         if left.heads.is_empty() {
             return Ok(told);
         }
-        let next = self.next(&left, teller);
+        let next = self.next(&left, told.tried, teller);
         let told = Told {
-            states: told.states.max(next.explored.states),
-            is_short: told.is_short || next.explored.is_short,
-            is_late: told.is_late || next.explored.is_stopped,
+            states: told.states.max(next.verdict.states),
+            is_short: told.is_short || next.verdict.is_short,
+            is_late: told.is_late || next.verdict.is_late,
+            tried: next.tried,
             ..told
         };
         match next.place {
             Some(place) => {
                 let head = left.take(place);
-                let is_bad = self.tell(&[head], &next.explored, output)?;
-                let outcome = &next.explored.outcome;
+                let is_bad = self.tell(&[head], &next.verdict, output)?;
+                let outcome = &next.verdict.outcome;
                 let written = self.write_keys(head, outcome, told.written, teller)?;
                 let told = Told {
                     is_bad: told.is_bad || is_bad,
@@ -379,7 +472,7 @@ impl<'p, 'a, F: FileAccess> Prover<'p, 'a, F> {
                 self.answer(left, told, output, teller)
             }
             None => {
-                let is_bad = self.tell(&left.heads, &next.explored, output)?;
+                let is_bad = self.tell(&left.heads, &next.verdict, output)?;
                 Ok(Told {
                     is_bad: told.is_bad || is_bad,
                     ..told
@@ -388,26 +481,43 @@ impl<'p, 'a, F: FileAccess> Prover<'p, 'a, F> {
         }
     }
 
-    /// What the next search answers: first each property alone that asks whether it can be met from everywhere,
-    /// then all others at once.
-    fn next<T: Teller>(&self, left: &Left, teller: &mut T) -> Next
+    /// What is answered next: each property that facts exclude, where so many aren't, then each alone that asks
+    /// whether it can be met from everywhere, then all others at once.
+    fn next<T: Teller>(&self, left: &Left, tried: usize, teller: &mut T) -> Next
         requires rate { 0 < self.now.rate }
         requires fresh { self.now.start.now.core.draws ≡ 0 }
+        requires facts { IfSome self.now.facts.now (AreFactsFrom self.now.start.now) }
         requires even { length left.now.heads.items ≡ length left.now.properties.items }
         ensures within { IfSome result.place (λ place. place < length left.now.heads.items) }
         ensures right { (asked : List Stated) → IsLeft asked left.now → IsNext
-            self.now.arguments.now self.now.rate self.now.keys self.now.start.now asked result }
+            self.now.rate self.now.keys self.now.start.now asked result.place result.verdict }
     {
+        if let Some(facts) = self.facts
+            && let Some(place) = left.first_excluded(facts, tried)
+        {
+            never_met_is_never();
+            return Next {
+                place: Some(place),
+                verdict: Verdict::excluded(),
+                tried: place,
+            };
+        }
+        teller.begin(left.searches());
         if let Some(place) = left.first_can() {
             let explored = self.foresee(&left.properties[place], teller);
             return Next {
                 place: Some(place),
-                explored,
+                verdict: Verdict::of(explored, false),
+                tried: usize::MAX,
             };
         }
         let explored = self.search(&left.properties, teller);
         let place = met_property(&explored.outcome, left.heads.len());
-        Next { place, explored }
+        Next {
+            place,
+            verdict: Verdict::of(explored, self.arguments.search.is_any_speed),
+            tried: usize::MAX,
+        }
     }
 
     /// Whether a property can be met from everywhere.
@@ -461,41 +571,36 @@ impl<'p, 'a, F: FileAccess> Prover<'p, 'a, F> {
         explore(self.system.alloc, self.start, &question, &bounds, teller)
     }
 
-    /// Tells what a search says of each of these properties, and whether that is bad of one.
+    /// Tells a verdict of each of these properties, and whether that is bad of one.
     fn tell<O: Write>(
         &self,
         heads: &[Head],
-        explored: &Explored,
+        verdict: &Verdict,
         output: &mut Counted<O>,
     ) -> Result<bool, Failure<'a>>
         ensures written { WritesAll O.contents output.old output.new
-            (flat_map (printed_head self.now.arguments.now self.now.source.now.lines explored.now)
+            (flat_map (printed_head self.now.arguments.now self.now.source.now.lines verdict.now)
             heads.now) result }
         ensures bad { IfOk result (λ found.
-            found ≡ list_any (λ head. is_bad head.kind explored.now.outcome) heads.now) }
+            found ≡ list_any (λ head. is_bad head.kind verdict.now.outcome) heads.now) }
     {
-        let text = self.answers_text(heads, explored)?;
+        let text = self.answers_text(heads, verdict)?;
         print(&text, Ending::Done, output)?;
-        Ok(
-            heads
-                .iter()
-                .any(|head| is_bad(head.kind, &explored.outcome)),
-        )
+        Ok(heads.iter().any(|head| is_bad(head.kind, &verdict.outcome)))
     }
 
     /// What is printed of these properties.
-    fn answers_text(&self, heads: &[Head], explored: &Explored) -> Result<Vec<u8>, AllocError>
+    fn answers_text(&self, heads: &[Head], verdict: &Verdict) -> Result<Vec<u8>, AllocError>
         ensures { IfOk result (λ text. text.items ≡ flat_map
-            (printed_head self.now.arguments.now self.now.source.now.lines explored.now) heads.now) }
+            (printed_head self.now.arguments.now self.now.source.now.lines verdict.now) heads.now) }
     {
         let arguments = self.arguments;
-        let is_at_any_speed = arguments.search.is_any_speed && explored.is_at_any_speed;
         let mut text = Vec::new(self.system.alloc);
         for head in heads {
             let answer = PropertyAnswer {
                 kind: head.kind,
-                outcome: &explored.outcome,
-                is_at_any_speed,
+                outcome: &verdict.outcome,
+                scope: verdict.scope,
             };
             let place = PropertyPlace {
                 name: arguments.search.source.as_bytes(),
@@ -537,11 +642,10 @@ impl<'p, 'a, F: FileAccess> Prover<'p, 'a, F> {
             return Ok(written);
         };
         let text = script_text(self.system.alloc, events)?;
-        if path.as_bytes().ends_with(b"/") {
+        if is_folder(path) {
             let line = head.line;
             let name = format!(in self.system.alloc; "{path}{line}.keys")?;
-            self.write(path, name.as_str(), &text, teller)?;
-            return Ok(written);
+            return Ok(self.write_in_folder(name.as_str(), &text, written, teller)?);
         }
         let written = match (head.kind, written) {
             (Kind::Ever, Written::Nothing) => Written::Reached,
@@ -550,42 +654,52 @@ impl<'p, 'a, F: FileAccess> Prover<'p, 'a, F> {
             }
             _ => return Ok(written),
         };
-        self.write(path, path, &text, teller)?;
+        self.system.write(&self.taken(), path, &text)?;
+        teller.tell(News::Written(path));
         Ok(written)
     }
 
-    /// Writes a file atomically, whose name or folder the arguments give.
-    fn write<T: Teller>(
+    /// Writes a file of a folder atomically. Where that fails, who reads the answers is told, and has the others
+    /// too. Which script is then written.
+    fn write_in_folder<T: Teller>(
         &self,
-        path: &'a str,
         name: &str,
         bytes: &[u8],
+        written: Written,
         teller: &mut T,
-    ) -> Result<(), Failure<'a>>
-        ensures { IfErr result (IsUnwritten path.entry) }
-    {
-        let arguments = self.arguments;
-        let taken = [file_name(arguments.search.source)];
-        match self
-            .system
-            .files
-            .write(self.system.alloc, &taken, name, bytes)
-        {
+    ) -> Result<Written, AllocError> {
+        let system = self.system;
+        match system.files.write(system.alloc, &self.taken(), name, bytes) {
             Ok(()) => {
                 teller.tell(News::Written(name));
-                Ok(())
+                Ok(written)
             }
-            Err(error) if error.kind() == io::ErrorKind::OutOfMemory => Err(Failure::OutOfMemory),
-            Err(error) => Err(Failure::CannotWrite(path, error)),
+            Err(error) if error.kind() == io::ErrorKind::OutOfMemory => Err(AllocError),
+            Err(error) => {
+                teller.tell(News::Unwritten(name, &error));
+                Ok(Written::Failed)
+            }
         }
     }
 
-    /// What is printed last: how many states the searches kept.
-    fn end_text(&self, told: &Told) -> Result<Vec<u8>, AllocError> {
+    /// The names of files that no script is written to.
+    fn taken(&self) -> [Option<&'a str>; 1] {
+        let arguments = self.arguments;
+        [Some(file_name(arguments.search.source))]
+    }
+
+    /// What is printed last: how many facts were found, unless no property was asked for, and how many states
+    /// the searches kept.
+    fn end_text(&self, told: &Told, is_empty: bool) -> Result<Vec<u8>, AllocError> {
         let mut text = Vec::new(self.system.alloc);
         let arguments = self.arguments;
         let states = told.states as u64;
         if !arguments.is_json {
+            if let Some(facts) = self.facts
+                && !is_empty
+            {
+                push_line(&mut text, b"facts ", facts.rows().len() as u64)?;
+            }
             text.extend_from_slice(b"states ")?;
             push_decimal(&mut text, states)?;
             text.extend_from_slice(b"\n")?;
@@ -593,6 +707,12 @@ impl<'p, 'a, F: FileAccess> Prover<'p, 'a, F> {
         }
         text.extend_from_slice(b"{\"states\":")?;
         push_decimal(&mut text, states)?;
+        if let Some(facts) = self.facts
+            && !is_empty
+        {
+            text.extend_from_slice(b",\"facts\":")?;
+            push_decimal(&mut text, facts.rows().len() as u64)?;
+        }
         if told.is_short {
             text.extend_from_slice(b",\"out_of_memory\":true")?;
         }
@@ -610,6 +730,41 @@ impl<'p, 'a, F: FileAccess> Prover<'p, 'a, F> {
     }
 }
 
+impl Verdict {
+    /// The verdict of facts that exclude what is looked for.
+    fn excluded() -> Verdict
+        ensures outcome { result.outcome ≡ Never }
+        ensures scope { result.scope ≡ Anything }
+    {
+        Verdict {
+            outcome: Outcome::Never,
+            scope: Scope::Anything,
+            states: 0,
+            is_short: false,
+            is_late: false,
+        }
+    }
+
+    /// The verdict of a search, where an answer at any speed may be asked for.
+    fn of(explored: Explored, is_any_speed: bool) -> Verdict
+        ensures outcome { result.outcome ≡ explored.outcome }
+        ensures scope { result.scope ≡ searched_scope (is_any_speed && explored.is_at_any_speed) }
+    {
+        let scope = if is_any_speed && explored.is_at_any_speed {
+            Scope::AtAnySpeed
+        } else {
+            Scope::AtRate
+        };
+        Verdict {
+            scope,
+            states: explored.states,
+            is_short: explored.is_short,
+            is_late: explored.is_stopped,
+            outcome: explored.outcome,
+        }
+    }
+}
+
 impl Told {
     /// Before the first search.
     const NOTHING: Told = Told {
@@ -617,6 +772,7 @@ impl Told {
         is_bad: false,
         is_short: false,
         is_late: false,
+        tried: 0,
         written: Written::Nothing,
     };
 

@@ -29,6 +29,8 @@ impl Item {
             (Item::Cause, [b'S', digit @ b'1'..=b'7']) => Some(u32::from(*digit - b'0')),
             (Item::Warning, [b'W', digit @ b'1'..=b'9']) => Some(u32::from(*digit - b'0')),
             (Item::Warning, [b'P', digit @ b'1'..=b'6']) => Some(9 + u32::from(*digit - b'0')),
+            (Item::Key, [letter @ b'A'..=b'F']) => Some(10 + u32::from(*letter - b'A')),
+            (Item::Key, [letter @ b'a'..=b'f']) => Some(10 + u32::from(*letter - b'a')),
             (Item::Key, [digit @ b'0'..=b'9']) => Some(u32::from(*digit - b'0')),
             (Item::Key, [b'1', digit @ b'0'..=b'5']) => Some(10 + u32::from(*digit - b'0')),
             _ => None,

@@ -10,7 +10,8 @@ use chip_trace::{push_decimal, word_digits};
 use std::alloc::{AllocError, Global};
 
 /// What is printed after the step at which a machine stopped or broke a property: a comma, and the
-/// line of the source at whose address pc is, with its text. Nothing where there is no such line.
+/// line of the source at whose address pc is, with its text. Where there is no such line, the address and the
+/// word, as for an image.
 pub(crate) fn place_text(
     alloc: Global,
     source: &Source,
@@ -20,15 +21,28 @@ pub(crate) fn place_text(
 ) -> Result<Vec<u8>, AllocError>
     requires rate { 0 < rate }
 {
-    let mut text = Vec::new(alloc);
     let Some(met) = place_met(alloc, start, rate, outcome)? else {
-        return Ok(text);
+        return Ok(Vec::new(alloc));
     };
+    let line = line_text(alloc, source, met.address)?;
+    if line.is_empty() {
+        return met.text(alloc);
+    }
+    Ok(line)
+}
+
+/// A comma, and the line of the source at an address, with its text. Nothing where there is no such line.
+pub(crate) fn line_text(
+    alloc: Global,
+    source: &Source,
+    address: u16,
+) -> Result<Vec<u8>, AllocError> {
+    let mut text = Vec::new(alloc);
     for number in 1..=source.lines() {
         if let Some(line) = source.line(number)
             && line.is_active()
             && line.size() > 0
-            && line.address() == met.address as usize
+            && line.address() == address as usize
         {
             text.extend_from_slice(b", line ")?;
             push_decimal(&mut text, number as u64)?;
@@ -50,17 +64,30 @@ pub(crate) fn word_text(
 ) -> Result<Vec<u8>, AllocError>
     requires rate { 0 < rate }
 {
-    let mut text = Vec::new(alloc);
-    let Some(met) = place_met(alloc, start, rate, outcome)? else {
-        return Ok(text);
-    };
-    text.extend_from_slice(b", ")?;
-    text.extend_from_slice(&word_digits(met.address))?;
-    if let Some(word) = met.word {
-        text.extend_from_slice(b": ")?;
-        push_shown(&mut text, word)?;
+    match place_met(alloc, start, rate, outcome)? {
+        Some(met) => met.text(alloc),
+        None => Ok(Vec::new(alloc)),
     }
+}
+
+/// A colon, and the source text of the word at an address before the first step, if a whole one is there.
+pub(crate) fn first_word_text(
+    alloc: Global,
+    start: &Machine,
+    address: u16,
+) -> Result<Vec<u8>, AllocError> {
+    let mut text = Vec::new(alloc);
+    push_word(&mut text, word_at(start.memory(), address))?;
     Ok(text)
+}
+
+// Adds a colon and the source text of a word, if there is one.
+fn push_word(text: &mut Vec<u8>, word: Option<u16>) -> Result<(), AllocError> {
+    if let Some(word) = word {
+        text.extend_from_slice(b": ")?;
+        push_shown(text, word)?;
+    }
+    Ok(())
 }
 
 // Where a machine is.
@@ -70,6 +97,16 @@ struct Place {
     address: u16,
     // The word there, which the end of the memory may cut off.
     word: Option<u16>,
+}
+
+impl Place {
+    // A comma, the address, and the source text of the word there, if there is a whole one.
+    fn text(&self, alloc: Global) -> Result<Vec<u8>, AllocError> {
+        let mut text = Vec::from_slice(alloc, b", ")?;
+        text.extend_from_slice(&word_digits(self.address))?;
+        push_word(&mut text, self.word)?;
+        Ok(text)
+    }
 }
 
 // Where a machine stopped or broke a property. An address that was looked for is no news.

@@ -2,7 +2,7 @@
 
 use chip_asm::{OpenError, Source};
 use chip_check::{fault_text, unopened_report};
-use chip_host::System;
+use chip_host::{Shown, System};
 use std::io::Write;
 
 /// Tells the first fault of a source, as `check` prints it, and how many faults there are; nothing of a
@@ -27,11 +27,13 @@ pub fn tell_faults<F, E: Write>(
     let _ = match count {
         1 => writeln!(
             errors,
-            "the only fault; `chipbench check {name}` shows faults and warnings"
+            "the only fault; `chipbench check {}` shows faults and warnings",
+            Shown(name)
         ),
         _ => writeln!(
             errors,
-            "the first of {count} faults; `chipbench check {name}` shows all faults"
+            "the first of {count} faults; `chipbench check {}` shows all faults",
+            Shown(name)
         ),
     };
 }

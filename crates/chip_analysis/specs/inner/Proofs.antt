@@ -4,20 +4,28 @@
 --     missing_line      the line that the arguments name, where no property is asked for
 --     met_property      which of so many properties a search met
 --     IsUnmet           a search met nothing
---     IsNext            what one search answers is right: of the property at the place, or of all
+--     searched_scope    the machines that the answer of a search covers
+--     AreFactsFrom      facts about the machines with the image and the quirks of this one
+--     IsExcluded        facts exclude the property at a place
+--     IsNext            what is answered next is right: of the property at the place, or of all
 --     WritesAll         a text was written; a front of it where a write failed or memory ran out
 --     WritesUpTo        the same, where something else may have hindered the rest
 --     printed_head      what is printed of a property
 --     IsAnswering       what the answers to some properties came to
-use Rattle.std.specs.Prelude.{◌≡◌, ◌⊎◌, ℕ, ◌&&◌, ◌||◌, Bool, true, false, List, [], map, nat_lt, Option, Some, None, MatchOption, Result, Ok, Err, IfOk, IsErrAnd, slice_get, if◌then◌else◌}
+use Rattle.std.specs.Prelude.{◌≡◌, ◌⊎◌, ℕ, ◌<◌, ◌||◌, Bool, true, false, List, [], length, map, nat_lt, Option, Some, None, MatchOption, Result, Ok, Err, IfOk, IfSome, IsErrAnd, slice_get, if◌then◌else◌}
 use Rattle.std.specs.List.{flat_map}
 use Rattle.chip_arguments.specs.declared.command_line.ProveArguments.{ProveArguments}
-use Rattle.chip_explore.specs.declared.question.Explored.{Explored}
+use Rattle.chip_explore.specs.declared.property.Property.{Property}
 use Rattle.chip_explore.specs.declared.question.Outcome.{Outcome}
 use Rattle.chip_explore.specs.declared.question.Outcome.TheVariants.{Found, Later, Within, Never}
 use Rattle.chip_explore.specs.declared.target.Met.{Met}
 use Rattle.chip_explore.specs.declared.target.Met.TheVariants as met
+use Rattle.chip_facts.specs.Reached.{IsByteTape}
+use Rattle.chip_facts.specs.Rows.{HoldFacts}
+use Rattle.chip_facts.specs.declared.facts.Facts.{Facts}
+use Rattle.chip_machine.specs.Start.{start_of}
 use Rattle.chip_machine.specs.State.{State}
+use Rattle.chip_machine.specs.declared.quirks.Quirks.{Quirks}
 use Rattle.chip_properties.specs.declared.stated.Kind.{Kind}
 use Rattle.chip_properties.specs.declared.stated.Kind.TheVariants as kind
 use Rattle.chip_properties.specs.declared.stated.Stated.{Stated}
@@ -25,14 +33,17 @@ use Rattle.chip_session.specs.Tally.{Tally}
 use Rattle.chip_session.specs.Writing.{Breaks, Writes}
 use Rattle.chip_analysis.specs.Commands.{IsScriptUnwritten}
 use Rattle.chip_host.specs.Printing.{WritesFront}
-use Rattle.chip_analysis.specs.Proving.{Answered, AreAnswered, IsRight, has_bad, has_short, printed_answer, text_at}
+use Rattle.chip_analysis.specs.Proving.{Answered, AreAnswered, IsRight, has_bad, has_short, looks_for, printed_answer, text_at}
 use Rattle.chip_check.specs.Answer.{answer_text, is_bad}
+use Rattle.chip_check.specs.declared.answer.Scope.{Scope}
+use Rattle.chip_check.specs.declared.answer.Scope.TheVariants as scope
+use Rattle.chip_verdicts.specs.Verdict.{NeverMet}
 use Rattle.chip_host.specs.declared.ending.Failure.{Failure}
 use Rattle.chip_host.specs.declared.ending.Failure.TheVariants as failure
 use Rattle.chip_analysis.specs.declared.proving.Head.{Head}
 use Rattle.chip_analysis.specs.declared.proving.Left.{Left}
-use Rattle.chip_analysis.specs.declared.proving.Next.{Next}
 use Rattle.chip_analysis.specs.declared.proving.Told.{Told}
+use Rattle.chip_analysis.specs.declared.proving.Verdict.{Verdict}
 
 abbrev pub head_of : Stated → Head
 head_of one = record { line = one.line; kind = one.kind }
@@ -66,41 +77,60 @@ IsUnmet Never = Unit {0}
 IsUnmet outcome = ⊥
 
 -- what is printed of the property of a head
-abbrev pub printed_head : ProveArguments → (lines : List (List ℕ)) → Explored → Head → List ℕ
-printed_head arguments lines explored head =
+abbrev pub printed_head : ProveArguments → (lines : List (List ℕ)) → Verdict → Head → List ℕ
+printed_head arguments lines verdict head =
     answer_text arguments.is_json arguments.search.source.now head.line (text_at lines head.line)
-    head.kind (arguments.search.is_any_speed && explored.is_at_any_speed) explored.outcome
+    head.kind verdict.scope verdict.outcome
 
 -- the same is printed of two outcomes, of a property of any kind
 pub record IsSameAnswer (a b : Outcome) : Type 0 where
-  pub text : (is_json : Bool) (name : List ℕ) (line : ℕ) (text : List ℕ) (kind : Kind) (is_any : Bool)
-      → answer_text is_json name line text kind is_any a
-      ≡ answer_text is_json name line text kind is_any b
+  pub text : (is_json : Bool) (name : List ℕ) (line : ℕ) (text : List ℕ) (kind : Kind) (scope : Scope)
+      → answer_text is_json name line text kind scope a
+      ≡ answer_text is_json name line text kind scope b
   pub bad : (kind : Kind) → is_bad kind a ≡ is_bad kind b
 
--- a property with an outcome of a search
-abbrev pub answered : ProveArguments → Explored → Stated → Outcome → Answered
-answered arguments explored one outcome = record {
+-- a property with an outcome, where a verdict has such a scope
+abbrev pub answered : Verdict → Stated → Outcome → Answered
+answered verdict one outcome = record {
   stated = one;
   outcome = outcome;
-  is_at_any_speed = arguments.search.is_any_speed && explored.is_at_any_speed;
-  is_short = explored.is_short;
+  scope = verdict.scope;
+  is_short = verdict.is_short;
 }
 
--- what a search for several properties answers of one
-pub record IsAnswered (arguments : ProveArguments) (rate keys : ℕ) (start : State)
-    (explored : Explored) (one : Stated) : Type 0 where
+-- what a verdict of several properties answers of one
+pub record IsAnswered (rate keys : ℕ) (start : State) (verdict : Verdict) (one : Stated) : Type 0 where
   pub outcome : Outcome
-  pub right : IsRight rate keys start (answered arguments explored one outcome)
-  pub same : IsSameAnswer outcome explored.outcome
+  pub right : IsRight rate keys start (answered verdict one outcome)
+  pub same : IsSameAnswer outcome verdict.outcome
 
-abbrev pub IsNext : ProveArguments → (rate keys : ℕ) → State → (asked : List Stated) → Next → Type 0
-IsNext arguments rate keys start asked next =
-    MatchOption next.place
+abbrev pub IsNext : (rate keys : ℕ) → State → (asked : List Stated) → (place : Option ℕ) → Verdict
+    → Type 0
+IsNext rate keys start asked place verdict =
+    MatchOption place
     ((k : ℕ) (one : Stated) → slice_get asked k ≡ Some one →
-    IsRight rate keys start (answered arguments next.explored one next.explored.outcome))
+    IsRight rate keys start (answered verdict one verdict.outcome))
     (λ place. (one : Stated) → slice_get asked place ≡ Some one →
-    IsAnswered arguments rate keys start next.explored one)
+    IsAnswered rate keys start verdict one)
+
+abbrev pub searched_scope : (is_at_any_speed : Bool) → Scope
+searched_scope is_at_any_speed = if is_at_any_speed then scope.AtAnySpeed else scope.AtRate
+
+pub record AreFactsFrom (start : State) (facts : Facts) : Type 0 where
+  pub image : List ℕ
+  pub tape : List ℕ
+  pub quirks : Quirks
+  pub starts : start ≡ start_of image tape quirks
+  pub bytes : IsByteTape tape
+  pub hold : HoldFacts image quirks facts
+
+-- it doesn't ask whether it can be met from everywhere
+pub record IsExcluded (facts : Facts) (left : Left) (place : ℕ) : Type 0 where
+  pub within : place < length left.heads.items
+  pub plain : IfSome (slice_get left.heads.items place) (λ head. is_can head.kind ≡ false)
+  pub never : (property : Property) → slice_get left.properties.items place ≡ Some property
+      → (image : List ℕ) (quirks : Quirks) → HoldFacts image quirks facts
+      → NeverMet image quirks (looks_for property)
 
 module _ {W : Type 0} (contents : W → Option (List ℕ)) (old new : Tally W) where
   abbrev pub WritesAll : {T : Type 0} → (text : List ℕ) → Result T Failure → Type 0

@@ -25,7 +25,7 @@ returns-in_ok-start-in-Ok g c =
     let asked = c.args.asked.now in
     by_machine g.O.Write.contents c.args.output.now c.prove.new.output asked.arguments.now asked.settings.now asked.keys c.args.bytes.now c.prove.result
     c.in-Ok.source.lines c.in-Some.image.now c.in-Ok.ensures.ok.0 c.in-Ok.ensures.ok.1 c.in-Some.ensures.value
-    (rw (sym c.rate.ensures.value, sym c.tape.ensures.value, sym c.quirks.ensures, sym c.in_ok-start-in-Ok.ensures) c.prove.ensures)
+    (rw (sym c.rate.ensures.value, sym c.tape-in-Ok.ensures.value, sym c.quirks-in-Ok.ensures, sym c.in_ok-start-in-Ok.ensures) c.prove.ensures)
 
 pub returns-in-Err : goal.returns-in-Err
 returns-in-Err g c =
