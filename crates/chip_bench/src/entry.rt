@@ -373,7 +373,7 @@ fn asm<'a, F: FileAccess, I: Read, O: Write, E: Write>(
     let bytes = read_source(system, source, input)?;
     match Source::open_bytes(system.alloc, bytes) {
         Ok(opened) => {
-            let ended = assemble(system, &opened, &[file_name(source)], image, output);
+            let ended = assemble(system, &opened, &[Some(file_name(source))], image, output);
             tell_faults(system, source, &opened, errors);
             // The program ends here, and its memory goes back at once.
             mem::forget(opened);

@@ -110,7 +110,7 @@ fn write<'a, F: FileAccess, O: Write>(
     let picture = picture_at(system.alloc, bench, arguments.run.steps, form)?;
     match picture.ending {
         Ending::Done => {
-            let source = file_name(arguments.run.source);
+            let source = Some(file_name(arguments.run.source));
             // Of two pictures the bitmap is written first.
             let bitmap = arguments
                 .bitmap

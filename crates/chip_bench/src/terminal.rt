@@ -5,7 +5,7 @@ ghost use Rattle.chip_bench.specs.Running.{AnswersScript};
 use crate::output::answer_script;
 use chip_asm::Source;
 use chip_check::unopened_report;
-use chip_host::{Ending, Failure};
+use chip_host::{Ending, Failure, Shown};
 use chip_pages::{Page, page_on, word_pages};
 use chip_session::{Bench, CommandFault, Counted, Nobody, Observer, Refusal, Refused, Settings};
 use std::alloc::Global;
@@ -75,8 +75,8 @@ impl<'e, E: Write> Observer for Terminal<'e, E> {
                  `chipbench-shell` is the shell for people, `chipbench-page` opens the page\n",
             );
         }
-        self.say(self.name.unwrap_or("an empty source"));
-        self.say(": ");
+        let name = Shown(self.name.unwrap_or("an empty source"));
+        let _ = write!(self.errors, "{name}: ");
         self.say_lines(bench.source());
         self.say(", ");
         self.say_fault(bench.source());
@@ -97,7 +97,13 @@ impl<'e, E: Write> Observer for Terminal<'e, E> {
         let Some(page) = page_on(code) else {
             return;
         };
-        let _ = write!(self.errors, "{code}: {}: ", page.title);
+        let title = match why {
+            Refused::Line(CommandFault::Unknown) if word_page(line).is_some() => {
+                "the words don't fit the command"
+            }
+            _ => page.title,
+        };
+        let _ = write!(self.errors, "{code}: {title}: ");
         match why {
             Refused::Line(CommandFault::Unknown) if matches!(line, b"help" | b"quit" | b"exit") => {
                 self.say("`chipbench debug --help` lists the commands; Ctrl+D ends");
@@ -106,7 +112,12 @@ impl<'e, E: Write> Observer for Terminal<'e, E> {
             // that name one.
             Refused::Line(CommandFault::Unknown) => {
                 match word_page(line) {
-                    Some(page) => self.say(page.title),
+                    Some(page) => {
+                        self.say(page.title);
+                        if matches!(page.code, "kins" | "krep" | "kdel") {
+                            self.say("; K is a number, 0 to 15, such as 10 for the key A");
+                        }
+                    }
                     None => {
                         self.say("the commands are ");
                         self.say_words();

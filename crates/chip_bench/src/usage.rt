@@ -1,6 +1,7 @@
 //! The messages on arguments that the program doesn't take.
 
 use chip_arguments::commands_with;
+use chip_check::push_as_shown;
 use chip_host::{Ending, Failure};
 use clap::Error;
 use clap::error::ErrorKind;
@@ -29,9 +30,18 @@ const OTHER_COMMANDS: &[(&str, &[&str])] = &[
         "`chipbench prove` answers the properties of a source",
         &["verify", "proof"],
     ),
+    (
+        "`chipbench-shell` is the debugger for people, and `chipbench debug` the one for programs",
+        &["shell", "gdb", "repl", "step"],
+    ),
+    ("`chipbench-page` opens the page", &["page", "gui", "web"]),
+    (
+        "`chipbench picture` prints the screen at a step, or writes it",
+        &["screen", "screenshot", "png"],
+    ),
 ];
 
-/// What to type in place of an argument, for a command or, with none, for each.
+/// What to type in place of an argument, for a command or, where the name is empty, for each.
 const OTHER_ARGUMENTS: &[(&str, &str, &str)] = &[
     (
         "-o",
@@ -53,6 +63,124 @@ const OTHER_ARGUMENTS: &[(&str, &str, &str)] = &[
         "prove",
         "prove tries all keys; `run`, `trace` and `picture` take --keys",
     ),
+    (
+        "--speed",
+        "",
+        "--rate sets how many steps there are to a tick of the timers, 10 without it",
+    ),
+    ("-n", "", "--steps sets how many steps are made"),
+    (
+        "--until",
+        "explore",
+        "--steps N searches up to step N, and --reach LABEL looks for a step at a label",
+    ),
+    ("--until", "prove", "--steps N searches up to step N"),
+    (
+        "--until",
+        "",
+        "`run`, `trace` and `picture` take --steps N; `explore --reach LABEL` finds the first step at a label",
+    ),
+    (
+        "--label",
+        "explore",
+        "--reach LABEL looks for a step at a label",
+    ),
+    (
+        "--label",
+        "",
+        "`explore --reach LABEL` finds the first step at a label; a property names one by at LABEL",
+    ),
+    (
+        "--property",
+        "explore",
+        "--never TEXT and --always TEXT state a property, as --never 'V0 = 3 at LOOP'",
+    ),
+    (
+        "--property",
+        "prove",
+        "properties are lines of the source that begin with `;!`; --only LINE answers one of them",
+    ),
+    (
+        "--property",
+        "",
+        "`prove` answers the properties that a source states; `explore` takes one as --never TEXT or --always TEXT",
+    ),
+    (
+        "--frames",
+        "",
+        "a frame of 1/60 of a second is as many steps as --rate sets, 10 without it; --steps N counts steps",
+    ),
+    (
+        "--depth",
+        "explore",
+        "--steps N searches up to step N, and --states M keeps at most M states",
+    ),
+    (
+        "--depth",
+        "prove",
+        "--steps N searches up to step N, and --states M keeps at most M states",
+    ),
+    (
+        "--time",
+        "prove",
+        "--seconds N ends the search after N seconds",
+    ),
+    (
+        "--time",
+        "explore",
+        "--steps N and --states M bound the search; `prove` takes --seconds N",
+    ),
+    (
+        "--time",
+        "",
+        "`run`, `trace` and `picture` take --steps N, and --rate R: R steps are 1/60 of a second",
+    ),
+    (
+        "--line",
+        "prove",
+        "--only LINE answers the property of one line",
+    ),
+    (
+        "--line",
+        "",
+        "`prove --only LINE` answers the property of one line",
+    ),
+    (
+        "--to",
+        "asm",
+        "the image comes after the source: chipbench asm game.asm game.ch8",
+    ),
+    (
+        "--to",
+        "trace",
+        "--from M is the first step that is printed, and --steps N the last one",
+    ),
+    (
+        "--to",
+        "explore",
+        "--steps N searches up to step N, --reach LABEL looks for a step at a label, and --keys-to FILE writes the keys",
+    ),
+    (
+        "--to",
+        "prove",
+        "--steps N searches up to step N, and --keys-to FILE writes the keys",
+    ),
+    ("--to", "", "`run`, `trace` and `picture` take --steps N"),
+    (
+        "-W",
+        "check",
+        "check prints all warnings; --allow W1,W4 leaves some out",
+    ),
+    (
+        "-o",
+        "picture",
+        "--png FILE writes a picture, and --pbm FILE a bitmap",
+    ),
+    (
+        "--strict",
+        "check",
+        "check prints all warnings; --allow W1,W4 leaves some out",
+    ),
 ];
 
 /// If the program ended because of its arguments, says in the words of `clap` what is wrong with them. A tip
@@ -64,11 +192,27 @@ pub(crate) fn tell_usage<E: Write>(
     errors: &mut E,
 ) {
     if let Err(Failure::Usage(error)) = ended {
-        let _ = match usage_text(alloc, error, first) {
+        let _ = match shown_usage(alloc, error, first) {
             Ok(text) => errors.write_all(&text),
             Err(_) => write!(errors, "{error}"),
         };
     }
+}
+
+// The text of a fault of the arguments, each line as `check` shows one: an argument may have what a terminal
+// takes for a command.
+fn shown_usage(alloc: Global, error: &Error, first: &str) -> Result<Vec<u8>, AllocError> {
+    let text = usage_text(alloc, error, first)?;
+    let mut shown = Vec::with_capacity(alloc, text.len())?;
+    let mut is_first = true;
+    for line in text.split(|byte| *byte == b'\n') {
+        if !is_first {
+            shown.push(b'\n')?;
+        }
+        is_first = false;
+        push_as_shown(alloc, &mut shown, line)?;
+    }
+    Ok(shown)
 }
 
 // The text of a fault of the arguments, with the program's own tip in the place of that of `clap`.
@@ -139,7 +283,7 @@ fn quoted_in(text: &str) -> Option<&str> {
 fn tip_on_argument(alloc: Global, word: &str, first: &str) -> Result<Option<Vec<u8>>, AllocError> {
     for (argument, command, sentence) in OTHER_ARGUMENTS {
         let is_word = word.as_bytes() == argument.as_bytes();
-        let is_command = first.as_bytes() == command.as_bytes();
+        let is_command = command.is_empty() || first.as_bytes() == command.as_bytes();
         if is_word && is_command {
             let sentence = sentence.as_bytes();
             return Ok(Some(Vec::from_slice(alloc, sentence)?));

@@ -56,6 +56,24 @@ impl fmt::Display for Code {
     }
 }
 
+/// A text of an argument or of a file's name, as messages show it: a control byte other than the tab, which a
+/// terminal may take for a command, as `\x` and two digits.
+#[derive(Clone, Copy, Debug)]
+pub struct Shown<'a>(pub &'a str);
+
+impl<'a> fmt::Display for Shown<'a> {
+    fn fmt<W: fmt::Write>(&self, f: &mut fmt::Formatter<W>) -> fmt::Result {
+        for character in self.0.chars() {
+            if character.is_ascii_control() && character != '\t' {
+                write!(f, "\\x{:02x}", character as u32)?;
+            } else {
+                write!(f, "{character}")?;
+            }
+        }
+        Ok(())
+    }
+}
+
 /// Why a text states no property.
 #[derive(Debug, Drop)]
 pub struct Report(pub Vec<u8>);
@@ -104,16 +122,16 @@ pub enum Failure<'a> {
     #[error("chipbench: bad tape\n")]
     BadTape(TapeFault),
     /// These are no stop causes.
-    #[error("chipbench: --want takes S1 to S7 with commas between them, not {0}\n")]
+    #[error("chipbench: --want takes S1 to S7 with commas between them, not {text}\n", text = Shown(.0))]
     BadCauses(&'a str),
     /// These are no keys.
-    #[error("chipbench: --keys-allowed takes 0 to 15 with commas between them, not {0}\n")]
+    #[error("chipbench: --keys-allowed takes 0 to 15, or A to F for 10 to 15, with commas between them, not {text}\n", text = Shown(.0))]
     BadPlayerKeys(&'a str),
     /// These are no warnings.
-    #[error("chipbench: --allow takes W1 to W9 and P1 to P6 with commas between them, not {0}\n")]
+    #[error("chipbench: --allow takes W1 to W9 and P1 to P6 with commas between them, not {text}\n", text = Shown(.0))]
     BadWarnings(&'a str),
     /// The source has no such place.
-    #[error("chipbench: --reach takes a label of the source or an address such as #2A0, not {0}\n")]
+    #[error("chipbench: --reach takes a label of the source, or an address in quotes such as '#2A0', not {text}\n", text = Shown(.0))]
     BadPlace(&'a str),
     /// The text states no property.
     #[error("{0}")]
@@ -122,25 +140,25 @@ pub enum Failure<'a> {
     #[error("chipbench: no property in line {0}\n")]
     NoProperty(u32),
     /// The line of that number of a key file is refused.
-    #[error("chipbench: {0}:{1}: {2}\n")]
+    #[error("chipbench: {name}:{1}: {2}\n", name = Shown(.0))]
     BadKeys(&'a str, usize, Code),
     /// The first line of a trace doesn't name columns.
-    #[error("chipbench: {0} is not a trace: {1}\n")]
+    #[error("chipbench: {name} is not a trace: {1}\n", name = Shown(.0))]
     BadTrace(&'a str, HeaderError),
     /// The line of that number of a file of cases can't be taken.
-    #[error("chipbench: {0}:{1}: {2}\n")]
+    #[error("chipbench: {name}:{1}: {2}\n", name = Shown(.0))]
     BadTest(&'a str, usize, TestFault),
     /// The file that the line of that number names can't be read.
-    #[error("chipbench: {0}:{1}: cannot read the file that this line names, from the folder of {0}\nreason: {2}\n")]
+    #[error("chipbench: {name}:{1}: cannot read the file that this line names, from the folder of {place}\nreason: {2}\n", name = Shown(.0), place = Shown(.0))]
     UnreadInTest(&'a str, usize, io::Error),
-    #[error("chipbench: no page on {0}; `chipbench explain` lists the codes\n")]
+    #[error("chipbench: no page on {code}; `chipbench explain` lists the codes, and docs/MACHINE.md the instructions\n", code = Shown(.0))]
     NoPage(&'a str),
-    #[error("chipbench: cannot read {0}\nreason: {1}\n")]
+    #[error("chipbench: cannot read {name}\nreason: {1}\n", name = Shown(.0))]
     CannotRead(&'a str, io::Error),
     /// The file has over so many bytes.
-    #[error("chipbench: cannot read {0}\nreason: it has over {1} bytes\n")]
+    #[error("chipbench: cannot read {name}\nreason: it has over {1} bytes\n", name = Shown(.0))]
     TooLong(&'a str, u32),
-    #[error("chipbench: cannot write {0}\nreason: {1}\n")]
+    #[error("chipbench: cannot write {name}\nreason: {1}\n", name = Shown(.0))]
     CannotWrite(&'a str, io::Error),
     #[error("chipbench: input fault\n")]
     Input,

@@ -1,7 +1,7 @@
 //! What commands do with files.
 ghost use Rattle.std.specs.Prelude.{ℕ, List, OnOk};
 
-use chip_files::{read_file, write_file};
+use chip_files::{find_folder, read_file, write_file};
 use std::alloc::Global;
 use std::io;
 use std::rt::Files;
@@ -14,8 +14,11 @@ pub trait FileAccess {
     /// What the file of a name has, up to `most` bytes.
     fn read(&self, alloc: Global, name: &str, most: u32) -> io::Result<Vec<u8>>;
 
-    /// Writes the file of a name atomically. A file of the names in `taken`
-    /// isn't written.
+    /// That there is a folder of a name, or why none is found.
+    fn find_folder(&self, name: &str) -> io::Result<()>;
+
+    /// Writes the file of a name atomically. A file of the names in `taken`, where `file_name` gives that of
+    /// a source, isn't written.
     fn write(
         &self,
         alloc: Global,
@@ -32,6 +35,10 @@ impl<F: Files> FileAccess for F {
 
     fn read(&self, alloc: Global, name: &str, most: u32) -> io::Result<Vec<u8>> {
         read_file(alloc, self, name, most)
+    }
+
+    fn find_folder(&self, name: &str) -> io::Result<()> {
+        find_folder(self, name)
     }
 
     fn write(

@@ -10,7 +10,7 @@ mod printing;
 mod reading;
 mod system;
 
-pub use ending::{Code, Ending, Failure, Report, TapeFault, TestFault};
+pub use ending::{Code, Ending, Failure, Report, Shown, TapeFault, TestFault};
 pub use file_access::FileAccess;
 pub use printing::{Answer, deliver, faults, print, refuse_source, unopened_text};
 pub use reading::{

@@ -6,13 +6,13 @@ ghost use Rattle.chip_views.specs.Dis.{source_of_image};
 ghost use Rattle.chip_host.specs.SettingArguments.{settings_asked, tape_asked};
 ghost use Rattle.chip_host.specs.Reading.{IsAsked, IsGiven, IsKeysUnread, IsNotGiven, IsNotTaken, IsTaken, IsUnasked, GivesSource, IsSourceUnread};
 
-use crate::ending::{Failure, TapeFault};
+use crate::ending::{Failure, Shown, TapeFault};
 use crate::file_access::FileAccess;
 use crate::limits::KEY_FILE_BYTES;
 use crate::system::System;
 use chip_arguments::{RunArguments, SettingArguments};
 use chip_asm::limits::SOURCE_BYTES;
-use chip_files::read_most;
+use chip_files::{STANDARD_INPUT, read_most};
 use chip_machine::limits::IMAGE_BYTES;
 use chip_session::{Counted, Settings, tape_of};
 use chip_views::source_of_image;
@@ -32,9 +32,13 @@ const LEAST_TEXT: usize = 8;
 /// A source of this length or more doesn't open.
 pub const MOST_SOURCE: u32 = SOURCE_BYTES as u32 + 1;
 
-/// The name of a source that is a file.
-pub fn file_name(source: &str) -> Option<&str> {
-    (source != INPUT).then_some(source)
+/// The name of the file that a source is read from, or of the standard input.
+pub fn file_name(source: &str) -> &str {
+    if source == INPUT {
+        STANDARD_INPUT
+    } else {
+        source
+    }
 }
 
 /// The settings that the arguments ask for.
@@ -156,8 +160,9 @@ pub fn tell_text<F, E: Write>(system: &System<'_, F>, name: &str, bytes: &[u8], 
     if system.host.has_reader && is_text(bytes) {
         let _ = write!(
             errors,
-            "chipbench: {name} looks like a source, and is taken as an image; `asm` makes an image of \
-             a source, and other commands take one without --image\n"
+            "chipbench: {} looks like a source, and is taken as an image; `asm` makes an image of \
+             a source, and other commands take one without --image\n",
+            Shown(name)
         );
     }
 }
@@ -197,7 +202,8 @@ pub fn as_source<'a, E: Write>(
     {
         let _ = write!(
             errors,
-            "chipbench: {name} looks like an image; --image runs it as it is\n"
+            "chipbench: {} looks like an image; --image runs it as it is\n",
+            Shown(name)
         );
     }
     Ok(bytes)

@@ -9,9 +9,16 @@ use std::random::RandomSource;
 use std::rt::Env;
 use std::{env, io};
 
+/// How many bytes of the stack are taken at the start: those that a search needs, which are the most, and
+/// some more.
+const STACK_BYTES: usize = 393_216;
+
 fn main(rt: HostRuntime) -> ExitCode {
     let alloc = rt.alloc();
     let mut errors = rt.stderr();
+    if let Err(error) = reserve_stack(&rt) {
+        return ExitCode::from(refuse_arguments(alloc, &error, &mut errors));
+    }
     let arguments = match arguments(&rt) {
         Ok(arguments) => arguments,
         Err(error) => return ExitCode::from(refuse_arguments(alloc, &error, &mut errors)),
@@ -35,6 +42,24 @@ fn main(rt: HostRuntime) -> ExitCode {
     };
     let status = program(&system, &arguments, &mut input, &mut output, &mut errors);
     ExitCode::from(status)
+}
+
+// Takes stack from the system while the program can still say that it is out of memory. Where the stack can't
+// grow, as under a limit of the address space, a signal ends the program. As much memory is allocated and
+// freed first, so there is room for the stack. The system writes to both, so neither is optimized away.
+fn reserve_stack(rt: &(impl RandomSource + AllocGlobal)) -> io::Result<()> {
+    let mut room = Vec::with_capacity(rt.alloc(), STACK_BYTES)?;
+    room.push(0)?;
+    let _ = rt.fill_bytes(&mut room);
+    drop(room);
+    touch_stack(rt);
+    Ok(())
+}
+
+#[inline(never)]
+fn touch_stack(rt: &impl RandomSource) {
+    let mut stack = [0; STACK_BYTES];
+    let _ = rt.fill_bytes(&mut stack[..1]);
 }
 
 // How many bytes of the output may be held back. None, where someone may wait for an answer before
