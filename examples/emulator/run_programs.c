@@ -71,6 +71,7 @@ int main(int count, char **names) {
         }
         fclose(file);
     }
+    if (!programs) exit((puts("no program read; give a file such as schip/programs.txt"), 2));
     printf("%d of %d programs differ\n", differ, programs);
-    return differ || !programs;
+    return differ > 0;
 }

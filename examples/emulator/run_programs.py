@@ -65,8 +65,8 @@ def print_trace(program):
 
 
 def main(place, trace=None):
-    index = json.loads((place / "index.json").read_text())
-    programs = json.loads((place / index["programs"]["file"]).read_text())
+    index = json.loads((place / "index.json").read_text()) if place.is_dir() else sys.exit(f"{place}: expected a folder, such as schip")
+    programs = json.loads((place / index["programs"]["file"]).read_text()) if index["format"] == 1 else sys.exit("another format")
     if trace is not None:
         return print_trace(programs[trace - 1])
     wrong = [(program, found) for program in programs if (found := program_difference(program))]

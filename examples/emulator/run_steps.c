@@ -9,7 +9,6 @@
 #include <string.h>
 
 static const char *at; /* what is still to be read of a line */
-
 static unsigned digit(char letter) { return letter <= '9' ? letter - '0' : letter - 'a' + 10; }
 
 static unsigned number(void) {
@@ -62,18 +61,19 @@ static const char *try_case(const char *profile) {
 
 int main(int count, char **names) {
     static char line[1 << 16], profile[200], row[8];
-    int differ = 0, cases = 0, one, used;
+    int differ = 0, cases = 0, format, one, used;
     for (int name = 1; name < count; name++) {
         FILE *file = fopen(names[name], "r");
         if (!file) exit((printf("cannot read %s\n", names[name]), 2));
         for (int before = differ; fgets(line, sizeof line, file);) {
-            if (sscanf(line, "step 1 %199s %7s %d%n", profile, row, &one, &used) != 3) continue;
+            if (sscanf(line, "step %d %199s %7s %d%n", &format, profile, row, &one, &used) != 4) continue;
+            if (format != 1) exit((printf("%s has another format\n", names[name]), 2));
             at = line + used, cases++;
             const char *found = try_case(profile);
             if (found && differ++ == before) printf("%s case %d: %s    (%.*s)\n", row, one, found, (int)strcspn(at, "\n") - 1, at + 1);
         }
         fclose(file);
     }
-    printf("%d of %d cases differ\n", differ, cases);
-    return differ || !cases;
+    if (!cases) exit((puts("no case read; give a file such as schip/8XY4.txt"), 2));
+    return printf("%d of %d cases differ\n", differ, cases), differ > 0;
 }

@@ -20,10 +20,7 @@ func (fields *Fields) text() (first string) {
 	return first
 }
 
-func (fields *Fields) number() (value int) {
-	fmt.Sscanf(fields.text(), "%x", &value)
-	return value
-}
+func (fields *Fields) number() (value int) { fmt.Sscanf(fields.text(), "%x", &value); return value }
 
 // list reads as many items as the next field says.
 func (fields *Fields) list(item func()) {
@@ -67,10 +64,13 @@ func try(profile, name string, fields Fields) bool {
 
 func main() {
 	for _, name := range os.Args[1:] {
-		content, _ := os.ReadFile(name)
+		content, missing := os.ReadFile(name)
 		for _, line := range strings.Split(string(content), "\n") {
 			fields := strings.Fields(line)
-			if len(fields) > 5 && fields[0]+fields[1] == "step1" && try(fields[2], fields[3]+" case "+fields[4], fields[5:]) {
+			if isStep := len(fields) > 5 && fields[0] == "step"; missing != nil || isStep && fields[1] != "1" {
+				fmt.Println(name, "can't be read, or has another format")
+				os.Exit(2)
+			} else if isStep && try(fields[2], fields[3]+" case "+fields[4], fields[5:]) {
 				defer os.Exit(1)
 				break
 			}

@@ -36,13 +36,13 @@ function emptyMachine(profile) {
   return machine;
 }
 
-/** The parts of a machine by their names, each as a text. */
+/** The parts of a machine by their names, each as a text; of memory and screen those that aren't 0. */
 function partsOf(machine, random) {
   const parts = { stop: String(machine.stop), "random bytes": String(random), stack: String(machine.stack), flags: String(machine.flags) };
   for (const name of ["pc", "i", "dt", "st", "high"]) parts[name] = String(machine[name]);
   machine.v.forEach((value, number) => (parts[`V${number.toString(16).toUpperCase()}`] = String(value)));
-  machine.memory.forEach((byte, address) => (parts[`memory ${address.toString(16)}`] = String(byte)));
-  machine.screen.forEach((pixels, row) => (parts[`screen row ${row}`] = pixels.toString(16)));
+  machine.memory.forEach((byte, address) => byte && (parts[`memory ${address.toString(16)}`] = String(byte)));
+  machine.screen.forEach((pixels, row) => pixels && (parts[`screen row ${row}`] = pixels.toString(16)));
   return parts;
 }
 
@@ -58,14 +58,15 @@ function difference(profile, fields) {
   expected.stop = stop;
   machine.step([...Array(16).keys()].filter((key) => (keys >> key) & 1), tick === 1, () => random.shift());
   const [found, wanted] = [partsOf(machine, random), partsOf(expected, left)];
-  const name = Object.keys(wanted).find((part) => found[part] !== wanted[part]);
-  return name && `${name} is ${found[name]}, and has to be ${wanted[name]}`;
+  const name = Object.keys({ ...wanted, ...found }).find((part) => found[part] !== wanted[part]);
+  return name && `${name} is ${found[name] ?? 0}, and has to be ${wanted[name] ?? 0}`;
 }
 
 for (const file of files) {
   for (const line of readFileSync(file, "utf8").split("\n")) {
     const [kind, format, profile, row, number, ...fields] = line.split(" ");
-    const found = kind === "step" && format === "1" && difference(profile, fields);
+    if (kind === "step" && format !== "1") throw new Error(`${file} has another format`);
+    const found = kind === "step" && difference(profile, fields);
     if (found) {
       console.log(`${row} case ${number}: ${found}`);
       process.exitCode = 1;

@@ -70,7 +70,9 @@ if __name__ == "__main__":
     if len(sys.argv) != 2:
         sys.exit(__doc__)
     place = pathlib.Path(sys.argv[1])
-    index = json.loads((place / "index.json").read_text())
+    index = json.loads((place / "index.json").read_text()) if place.is_dir() else sys.exit(f"{place}: expected a folder, such as schip")
+    if index["format"] != 1:
+        sys.exit(f"{place} has another format")
     wrong, cases = (sum(found) for found in zip(*((run_file(place / each["file"]), each["cases"]) for each in index["files"])))
     print(f"{index['profile']}: {wrong} of {cases} cases differ")
     sys.exit(wrong > 0)

@@ -68,7 +68,8 @@ fn difference(profile: &str, fields: &mut Fields) -> Option<String> {
 fn main() {
     let texts: Vec<String> = env::args().skip(1).map(|name| fs::read_to_string(name).expect("a file")).collect();
     let found = texts.iter().filter_map(|text| text.lines().find_map(|line| {
-        let mut fields = line.strip_prefix("step 1 ")?.split_whitespace();
+        let mut fields = line.strip_prefix("step ")?.split_whitespace();
+        assert_eq!(fields.next(), Some("1"), "a file has another format");
         let (profile, row, case) = (fields.next()?, fields.next()?, fields.next()?);
         Some(format!("{row} case {case}: {}", difference(profile, &mut fields)?))
     }));

@@ -32,6 +32,7 @@ int main(int count, char **names) {
         long word = try_words(profile, first, last, *row != '-');
         if (word >= 0 && ++differ) printf("word %04lx %s\n", word, *row == '-' ? "isn't an instruction" : row);
     }
+    if (!runs) exit((puts("no words read; give a file such as schip/words.txt"), 2));
     printf("%d of %d runs of words differ\n", differ, runs);
-    return differ || !runs;
+    return differ > 0;
 }

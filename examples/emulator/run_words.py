@@ -27,7 +27,11 @@ def wrong_words(found):
 if __name__ == "__main__":
     if len(sys.argv) != 2:
         sys.exit(__doc__)
+    if not pathlib.Path(sys.argv[1]).is_dir():
+        sys.exit(f"{sys.argv[1]}: expected a folder, such as schip")
     words = json.loads((pathlib.Path(sys.argv[1]) / "words.json").read_text())
+    if words["format"] != 1:
+        sys.exit(f"{sys.argv[1]} has another format")
     lines = list(wrong_words(words))
     print(*lines, f"{words['profile']}: {len(lines)} of {len(words['words'])} runs of words differ", sep="\n")
     sys.exit(bool(lines))
