@@ -6,7 +6,7 @@ complete -c chipbench-shell -l strict -d 'end with status 1 at the first command
 complete -c chipbench-shell -l echo -d 'print each command before its answer'
 complete -c chipbench-shell -l quiet -d 'print no line at the start'
 complete -c chipbench-shell -l program -r -d 'the chipbench to run'
-complete -c chipbench-shell -l rate -x -d 'how many steps lie between two ticks of the timers'
+complete -c chipbench-shell -l rate -x -d 'how many steps lie between two ticks of the timers: a tick is 1/60 of a second'
 complete -c chipbench-shell -l tape -x -d 'the random bytes'
 complete -c chipbench-shell -l seed -x -d 'a number that makes the random bytes'
 complete -c chipbench-shell -l profile -x -a 'schip vip chip48 schip10 schip-modern octo' -d 'such as schip or vip'

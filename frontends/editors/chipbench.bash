@@ -8,7 +8,7 @@ _chipbench() {
     case $before in
         --profile) COMPREPLY=($(compgen -W "schip vip chip48 schip10 schip-modern octo" -- "$word")); return ;;
         --color) COMPREPLY=($(compgen -W "auto always never" -- "$word")); return ;;
-        --rate | --tape | --seed | --quirks | --every | --steps | --from | --scale | --allow | --states | --keys-allowed | --want | --reach | --never | --always | --only | --seconds) return ;;
+        --rate | --tape | --seed | --quirks | --every | --steps | --from | --scale | --allow | --seconds | --states | --keys-allowed | --want | --reach | --never | --always | --only) return ;;
         explain) COMPREPLY=($(compgen -W "$(chipbench explain 2>/dev/null | cut -d ' ' -f 1)" -- "$word")); return ;;
     esac
     case ${COMP_WORDS[1]} in
@@ -20,10 +20,10 @@ _chipbench() {
         run) options="--steps --rate --tape --seed --profile --quirks --keys --image --help" ;;
         trace) options="--steps --rate --tape --seed --profile --quirks --keys --image --from --hash --json --against --help" ;;
         picture) options="--steps --rate --tape --seed --profile --quirks --keys --image --ascii --pbm --png --scale --help" ;;
-        check) options="--json --allow --cover --color --tape --seed --profile --quirks --help" ;;
+        check) options="--json --allow --cover --seconds --color --tape --seed --profile --quirks --help" ;;
         test) options="--update --tap --help" ;;
-        explore) options="--steps --states --deep --any-speed --keys-allowed --keys-to --progress --rate --tape --seed --profile --quirks --image --want --reach --never --always --cover --help" ;;
-        prove) options="--steps --states --deep --any-speed --keys-allowed --keys-to --progress --rate --tape --seed --profile --quirks --only --seconds --json --help" ;;
+        explore) options="--steps --states --seconds --deep --any-speed --keys-allowed --keys-to --progress --no-facts --rate --tape --seed --profile --quirks --image --want --reach --never --always --cover --help" ;;
+        prove) options="--steps --states --seconds --deep --any-speed --keys-allowed --keys-to --progress --no-facts --rate --tape --seed --profile --quirks --only --json --help" ;;
         explain) options=" --help" ;;
         licences) options=" --help" ;;
     esac

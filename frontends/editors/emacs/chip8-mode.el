@@ -128,26 +128,35 @@ docs/DEBUGGER.md has them all."
    "CHIP-8: debug this file" (list :type "chipbench" :request "launch" :name "Debug this file")))
 
 (declare-function dap--cur-session-or-die "dap-mode")
-(declare-function dap--debug-session-thread-id "dap-mode")
 (declare-function dap--make-request "dap-mode")
 (declare-function dap--resp-handler "dap-mode")
 (declare-function dap--send-message "dap-mode")
-
-(defun chip8-debug-request (command)
-  "Have dap-mode send COMMAND, which it doesn't know itself."
-  (let ((session (dap--cur-session-or-die)))
-    (dap--send-message (dap--make-request command (list :threadId (dap--debug-session-thread-id session)))
-                       (dap--resp-handler) session)))
+(declare-function dap--step "dap-mode")
 
 (defun chip8-debug-back ()
   "Make one step back in the game that dap-mode debugs."
   (interactive)
-  (chip8-debug-request "stepBack"))
+  (dap--step "stepBack" (dap--cur-session-or-die)))
 
 (defun chip8-debug-reverse ()
   "Go back to the last breakpoint in the game that dap-mode debugs."
   (interactive)
-  (chip8-debug-request "reverseContinue"))
+  (dap--step "reverseContinue" (dap--cur-session-or-die)))
+
+(defun chip8-debug-watch (subject)
+  "Have the game that dap-mode debugs stop where SUBJECT changes.
+SUBJECT is a register, a byte such as [SCORE], or what else
+docs/DEBUGGER.md has.  Without one it stops for no change."
+  (interactive "sStop where this changes (empty for nothing): ")
+  (dap--send-message
+   (dap--make-request "setDataBreakpoints"
+                      (list :breakpoints (if (equal subject "") [] (vector (list :dataId subject)))))
+   (dap--resp-handler
+    (lambda (answer)
+      (dolist (point (gethash "breakpoints" (gethash "body" answer)))
+        (unless (gethash "verified" point)
+          (error "%s" (gethash "message" point))))))
+   (dap--cur-session-or-die)))
 
 ;; The language server
 

@@ -151,36 +151,9 @@ LOOP:   ADD V0, STEP
     (same (list (plist-get config 'command) (plist-get config :source) (plist-get config :request))
           '("chipbench-dap" dape-buffer-default "launch"))))
 
-;; dap-mode is Debian's elpa-dap-mode: a game is debugged by it where it is there
-(defvar dap-breakpoints-file)
-(defvar dap-exception-breakpoints nil)
-(defvar dap-auto-configure-features)
-(defvar chip8-debugger)
-
-(defun frame-shown ()
-  "The subroutine and the line that the debugger shows."
-  (let* ((session (dap--cur-session))
-         (frame (and session (dap--debug-session-active-frame session))))
-    (and frame (list (gethash "name" frame) (gethash "line" frame)))))
-
-(defmacro moves-to (wanted &rest body)
-  "Carry out BODY, after which the debugger shows the frame WANTED."
-  `(progn ,@body (wait-for (format "the frame %S" ,wanted) (equal (frame-shown) ,wanted))))
-
+;; dap-mode is Debian's elpa-dap-mode: games are debugged by it where it is there
 (when (require 'dap-mode nil t)
-  (setq dap-breakpoints-file (make-temp-file "dap-")
-        dap-auto-configure-features nil
-        chip8-debugger (getenv "CHIPBENCH_DAP"))
-  (try "debugging with dap-mode" (replace-regexp-in-string "EXIT" "EXIT\nHIT:    RET" (replace-regexp-in-string "JP LOOP" "CALL HIT" game))
-    (go 8 0)
-    (dap-breakpoint-add)
-    (moves-to '("the program" 3)
-      (dap-debug (list :type "chipbench" :request "launch" :name "try" :chipbench (getenv "CHIPBENCH"))))
-    (moves-to '("HIT" 8) (dap-continue (dap--cur-session) 1))
-    (moves-to '("the program" 7) (dap-step-out (dap--cur-session)))
-    (moves-to '("HIT" 8) (chip8-debug-back))
-    (moves-to '("the program" 3) (chip8-debug-reverse))
-    (dap-disconnect (dap--cur-session))))
+  (load (expand-file-name "debugger.el" (file-name-directory load-file-name)) nil t))
 
 ;; the server that is started next has these settings
 (setq chip8-settings (append chip8-settings '(:tape "2a")))

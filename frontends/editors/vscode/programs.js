@@ -45,13 +45,16 @@ const NO_PROGRAM =
 const needsPython = (command) =>
   `chipbench: ${command} isn't there or is older. Install ${PYTHON} (on Debian: sudo apt install python3), or name one in the setting chipbench.python.`;
 
-function isPythonMissing(command) {
-  const tried = spawnSync(command, ['-c', 'import sys; sys.exit(sys.version_info < (3, 10))'], { stdio: 'ignore', timeout: 10_000 });
-  return tried.status !== 0;
+/** Whether a command is no Python that is new enough. One that takes long on a busy machine is there. */
+function isPythonMissing(command, timeout = 10_000) {
+  const tried = spawnSync(command, ['-c', 'import sys; sys.exit(sys.version_info < (3, 10))'], { stdio: 'ignore', timeout });
+  return tried.status !== 0 && tried.error?.code !== 'ETIMEDOUT';
 }
 
-/** What to install where a program can't be started; undefined where it is there, and ended for another reason. */
+/** What to install where a program can't be started; undefined where it is there, and ended for another reason. A program that a
+ * signal has ended, which has no status, was there. */
 function missing({ kind, command, isPackaged }, { code, status }) {
+  if (code === undefined && status === null) return undefined;
   const { what, setting } = PROGRAMS[kind];
   const python = isPackaged ? command : 'python3';
   if (isPackaged && isPythonMissing(command)) return needsPython(python);
@@ -87,4 +90,4 @@ function startPage(launched, file, { onAddress, onEnd }) {
   return page;
 }
 
-module.exports = { NO_PROGRAM, chipbench, launcher, missing, onPath, startPage };
+module.exports = { NO_PROGRAM, chipbench, isPythonMissing, launcher, missing, onPath, startPage };

@@ -176,7 +176,7 @@ test('a property is proved at its lens, which then has the answer', options, asy
   await editor.commands['chipbench.prove'](...before.command.arguments);
   assert.match(editor.output.at(-1), /never broken/);
   const [after] = await lenses.provideCodeLenses(document);
-  assert.deepStrictEqual([after.command.title, changes], ['never broken', 1]);
+  assert.deepStrictEqual([after.command.title, changes], ['never broken with any keys, random bytes and speed', 1]);
 });
 
 test('a server that dies is restarted, and nothing is lost', options, async () => {
@@ -229,6 +229,16 @@ test('without Python it says what to install', options, async () => {
   await there(() => editor.errors.length > 0);
   assert.match(editor.errors[0], /python3 isn't there or is older. Install Python 3.10 or later/);
   assert.throws(() => editor.providers.DebugAdapter.createDebugAdapterDescriptor(), /Install Python/);
+});
+
+test('a program that was killed, and a Python that takes long, are there', () => {
+  const programs = require('../programs.js');
+  const launched = { kind: 'server', command: '/bin/false', isPackaged: true };
+  assert.match(programs.missing(launched, { status: 1 }), /Install Python/);
+  assert.strictEqual(programs.missing(launched, { status: null }), undefined);
+  const slow = path.join(packaged(), 'python3');
+  fs.writeFileSync(slow, '#!/bin/sh\nexec sleep 60\n', { mode: 0o755 });
+  assert.strictEqual(programs.isPythonMissing(slow, 200), false);
 });
 
 test('a launch takes the file that is shown and the settings', options, async () => {
