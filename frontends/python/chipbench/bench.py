@@ -93,7 +93,7 @@ class Bench:
         quirks: str | None = None,
         program: str | os.PathLike[str] | None = None,
     ) -> Bench:
-        """A bench on the source in a file. `OSError` where it can't be read.
+        """A bench on the source in a file, with the other arguments of `Bench`. `OSError` where it can't be read.
 
         >>> import tempfile
         >>> with tempfile.NamedTemporaryFile(suffix=".asm") as file:

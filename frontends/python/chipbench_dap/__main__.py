@@ -3,7 +3,6 @@
 from __future__ import annotations
 
 import argparse
-import os
 import sys
 from pathlib import Path
 from typing import NoReturn
@@ -12,6 +11,7 @@ sys.path.insert(0, str(Path(__file__).resolve().parent.parent))
 
 from chipbench_dap.adapter import Adapter  # noqa: E402
 from chipbench_dap.requests import HANDLERS  # noqa: E402
+from chipbench_messages import serve_streams  # noqa: E402
 
 
 def parser() -> argparse.ArgumentParser:
@@ -25,17 +25,9 @@ def parser() -> argparse.ArgumentParser:
     return words
 
 
-def serve(program: str | None) -> NoReturn:
-    """Serves on standard input and output, and ends the process. What is printed by mistake goes to standard error."""
-    output = os.fdopen(os.dup(1), "wb")
-    os.dup2(2, 1)
-    status = Adapter(sys.stdin.buffer, output, program, HANDLERS).serve()
-    # the thread that reads may still wait for a message: Python can't end it
-    os._exit(status)
-
-
 def main(arguments: list[str]) -> NoReturn:
-    serve(parser().parse_args(arguments).program)
+    program = parser().parse_args(arguments).program
+    serve_streams(lambda reader, writer: Adapter(reader, writer, program, HANDLERS).serve())
 
 
 if __name__ == "__main__":

@@ -16,8 +16,8 @@ from typing import Any, BinaryIO
 
 from chipbench import ChipbenchError, find_program
 from chipbench_files import FileError
-from chipbench_lsp.document import same_ends
-from chipbench_lsp.wire import BadMessage, read_message
+from chipbench_lines import same_ends
+from chipbench_messages import END, BadMessage, Incoming, dig
 from chipbench_shell.search import LAST_STEP
 from chipbench_shell.values import Mistake
 
@@ -32,7 +32,6 @@ from .wire import Arguments, Refusal, Writer, is_a, shown
 THREAD = 1
 #: How often the file is looked at while the machine stands still, and after how long a move reports its progress.
 LOOK_SECONDS, SILENT_SECONDS, TOLD_SECONDS = 0.3, 0.7, 0.5
-END = object()
 #: The requests that are answered while the machine runs.
 WHILE_RUNNING = frozenset({
     "pause", "restart", "terminate", "disconnect", "cancel", "threads", "loadedSources", "source", "breakpointLocations",
@@ -82,11 +81,10 @@ class Move:
 
 class Adapter:
     def __init__(self, reader: BinaryIO, writer: BinaryIO, program: str | None, handlers: Mapping[str, Handler]) -> None:
-        self._reader = reader
         self._handlers = handlers
         self.writer = Writer(writer)
         self.program = program
-        self._queue: queue.Queue[Any] = queue.Queue()
+        self._incoming = Incoming(reader, self._hear)
         self._lock = threading.Lock()
         self._cancelled: set[int] = set()
         self._is_ending = threading.Event()
@@ -111,7 +109,7 @@ class Adapter:
 
     def serve(self) -> int:
         """Serves until the client ends it. The status is 0 where it said `disconnect`."""
-        threading.Thread(target=self._read, daemon=True).start()
+        self._incoming.start()
         try:
             while not self._is_ended:
                 self._turn()
@@ -122,28 +120,12 @@ class Adapter:
                 self._run.close()
         return 0 if self._was_asked_to_end else 1
 
-    def _read(self) -> None:
-        while True:
-            try:
-                message = read_message(self._reader)
-            except BadMessage as bad:
-                self._queue.put(bad)
-                continue
-            except (OSError, ValueError, MemoryError):
-                message = None
-            if message is None:
-                self._queue.put(END)
-                return
-            self._hear(message)
-            self._queue.put(message)
-
     def _hear(self, message: Arguments) -> None:
         """Notes at once what has to reach a request that is being answered."""
         command = message.get("command")
         if command == "cancel":
-            found = message.get("arguments")
-            request = found.get("requestId") if isinstance(found, dict) else None
-            if isinstance(request, int) and is_a(request, int):
+            request = dig(message, "arguments", "requestId")
+            if is_a(request, int):
                 with self._lock:
                     self._cancelled.add(request)
         elif command in ("disconnect", "terminate"):
@@ -153,10 +135,10 @@ class Adapter:
         """Takes one message. Where none waits, goes on with a move, or looks at the file."""
         try:
             if self.move is not None:
-                message = self._queue.get_nowait()
+                message = self._incoming.get_nowait()
             else:
                 is_watched = self._run is not None and self._run.path is not None and self.is_configured
-                message = self._queue.get(timeout=LOOK_SECONDS if is_watched else None)
+                message = self._incoming.get(timeout=LOOK_SECONDS if is_watched else None)
         except queue.Empty:
             if self.move is not None:
                 self._go_on(self.move)

@@ -26,6 +26,13 @@ def granularity(arguments: Any) -> str:
     return str(found)
 
 
+def stepping_state(adapter: Adapter, arguments: Any) -> State | None:
+    """The state that the step of a request goes on from, as `running_state` has it."""
+    check_thread(arguments)
+    granularity(arguments)
+    return running_state(adapter)
+
+
 def running_state(adapter: Adapter) -> State | None:
     """The state that a step goes on from. None where the machine has stopped: then the client is told so once more."""
     state = adapter.run.state()
@@ -69,17 +76,13 @@ def one_step(adapter: Adapter, step: int) -> None:
 
 
 def step_in(adapter: Adapter, arguments: Any) -> None:
-    check_thread(arguments)
-    granularity(arguments)
-    state = running_state(adapter)
+    state = stepping_state(adapter, arguments)
     if state is not None:
         one_step(adapter, state.step + 1)
 
 
 def step_over(adapter: Adapter, arguments: Any) -> None:
-    check_thread(arguments)
-    granularity(arguments)
-    state = running_state(adapter)
+    state = stepping_state(adapter, arguments)
     if state is None:
         return
     depth = len(state.call_stack)
@@ -90,9 +93,7 @@ def step_over(adapter: Adapter, arguments: Any) -> None:
 
 
 def step_out(adapter: Adapter, arguments: Any) -> None:
-    check_thread(arguments)
-    granularity(arguments)
-    state = running_state(adapter)
+    state = stepping_state(adapter, arguments)
     if state is None:
         return
     depth = len(state.call_stack)

@@ -3,8 +3,9 @@
 from __future__ import annotations
 
 import json
-import threading
 from typing import Any, BinaryIO
+
+from chipbench_messages import Outgoing
 
 Arguments = dict[str, Any]
 #: The most that a number of a message may be, so that none is taken for a size of memory.
@@ -57,21 +58,17 @@ def shown(value: Any) -> str:
     return text if len(text) <= 60 else text[:57] + ".."
 
 
-class Writer:
-    """Writes messages, each with its number."""
+class Writer(Outgoing):
+    """Writes messages, each with its number. One thread alone uses it."""
 
     def __init__(self, stream: BinaryIO) -> None:
-        self._stream = stream
-        self._lock = threading.Lock()
+        super().__init__(stream)
         self._last = 0
 
     def _write(self, message: Arguments) -> None:
-        with self._lock:
-            self._last += 1
-            # a lone surrogate can't be written but as an escape, so that the text is ASCII
-            body = json.dumps({"seq": self._last, **message}, separators=(",", ":")).encode("ascii")
-            self._stream.write(b"Content-Length: %d\r\n\r\n" % len(body) + body)
-            self._stream.flush()
+        self._last += 1
+        # a lone surrogate can't be written but as an escape, so that the text is ASCII
+        self.send(json.dumps({"seq": self._last, **message}, separators=(",", ":")).encode("ascii"))
 
     def event(self, name: str, body: Arguments | None = None) -> None:
         self._write({"type": "event", "event": name, **({} if body is None else {"body": body})})

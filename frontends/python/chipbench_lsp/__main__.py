@@ -9,7 +9,8 @@ from typing import NoReturn
 
 sys.path.insert(0, str(Path(__file__).resolve().parent.parent))
 
-from chipbench_lsp.server import serve  # noqa: E402
+from chipbench_lsp.server import Server  # noqa: E402
+from chipbench_messages import serve_streams  # noqa: E402
 
 
 def parser() -> argparse.ArgumentParser:
@@ -23,7 +24,8 @@ def parser() -> argparse.ArgumentParser:
 
 
 def main(arguments: list[str]) -> NoReturn:
-    serve(parser().parse_args(arguments).program)
+    program = parser().parse_args(arguments).program
+    serve_streams(lambda reader, writer: Server(reader, writer, program).serve())
 
 
 if __name__ == "__main__":

@@ -18,11 +18,12 @@ PROPERTY_WORDS = {word.upper(): f"`{word}`: {text}" for word, text in WORDS.item
 
 
 def hover(document: Document, number: int, place: int) -> dict[str, Any] | None:
-    """What there is to say of a place: of its token, and of its line's address and bytes."""
+    """What there is to say of a place: of its token, and of its line's address and bytes. A property has neither of its own."""
     line = document.read(number)
     token = line.token_at(place)
     parts = [token_text(document, number, line, token)] if token is not None else []
-    parts.append(line_text(document, number))
+    if not line.stated:
+        parts.append(line_text(document, number))
     text = "\n\n".join(part for part in parts if part)
     if not text:
         return None

@@ -7,16 +7,15 @@ One thread reads messages, so that a cancelled request is known before its turn.
 from __future__ import annotations
 
 import contextlib
-import os
 import queue
-import sys
 import threading
 import time
 from collections.abc import Callable
-from typing import Any, BinaryIO, NoReturn
+from typing import Any, BinaryIO
 
 import chipbench
 from chipbench import Bench, ChipbenchError, Fault
+from chipbench_messages import END, BadMessage, Incoming, dig
 
 from . import calls, completion, diagnostics, fixes, hover, layout, names, properties, runs, signatures, tokens
 from .document import Document, OverLimits
@@ -31,11 +30,9 @@ from .wire import (
     PARSE_ERROR,
     REQUEST_CANCELLED,
     REQUEST_FAILED,
-    BadMessage,
     Encoded,
     Failed,
     Writer,
-    read_message,
 )
 
 # How long no key is pressed before `check` is run.
@@ -43,7 +40,6 @@ PAUSE_SECONDS = 0.25
 WARNING, INFO = 2, 3
 OPTIONS = ("profile", "quirks", "rate", "tape", "seed", "every")
 CHECK_OPTIONS = ("profile", "quirks", "tape", "seed")
-END = object()
 
 Message = dict[str, Any]
 
@@ -75,9 +71,8 @@ def bench_options(settings: Any) -> dict[str, Any]:
 
 class Server:
     def __init__(self, reader: BinaryIO, writer: BinaryIO, program: str | None) -> None:
-        self._reader = reader
         self.writer = Writer(writer)
-        self._queue: queue.Queue[Any] = queue.Queue()
+        self._incoming = Incoming(reader, self._hear)
         self._named = program
         self.program: str | None = None
         self.options: dict[str, Any] = {}
@@ -105,7 +100,7 @@ class Server:
 
     def serve(self) -> int:
         """Serves until the client ends it. The status is 0 where it was shut down first."""
-        threading.Thread(target=self._read, daemon=True).start()
+        self._incoming.start()
         try:
             while self._state != "ended":
                 try:
@@ -121,24 +116,13 @@ class Server:
                 document.close()
         return 0 if self._is_shut_down else 1
 
-    def _read(self) -> None:
-        while True:
-            try:
-                message = read_message(self._reader)
-            except BadMessage as bad:
-                self._queue.put(bad)
-                continue
-            except (OSError, ValueError, MemoryError):
-                message = None
-            if message is None:
-                self._queue.put(END)
-                return
-            if message.get("method") == "$/cancelRequest":
-                self._cancel(message.get("params"))
-            elif is_request(message):
-                with self._lock:
-                    self._pending.add(message["id"])
-            self._queue.put(message)
+    def _hear(self, message: Message) -> None:
+        """Notes a request, or cancels one, before its turn."""
+        if message.get("method") == "$/cancelRequest":
+            self._cancel(message.get("params"))
+        elif is_request(message):
+            with self._lock:
+                self._pending.add(message["id"])
 
     def _cancel(self, params: Any) -> None:
         request = dig(params, "id")
@@ -153,11 +137,11 @@ class Server:
     def _turn(self) -> None:
         """Takes one message; where none waits, shows what has changed and checks what is due."""
         try:
-            message = self._queue.get_nowait()
+            message = self._incoming.get_nowait()
         except queue.Empty:
             self._show_changed()
             try:
-                message = self._queue.get(timeout=self._wait())
+                message = self._incoming.get(timeout=self._wait())
             except queue.Empty:
                 self._check_next()
                 return
@@ -409,7 +393,7 @@ class Server:
             faults = []
             with contextlib.suppress(Exception):
                 faults = chipbench.check(chipbench.join_lines(source), program, **options)
-            self._queue.put(Checked(uri, edition, lines, faults))
+            self._incoming.put(Checked(uri, edition, lines, faults))
 
         self._is_checking = True
         threading.Thread(target=work, daemon=True).start()
@@ -488,7 +472,7 @@ class Server:
         with progress:
             result = properties.prove(self.program, source, self.options, number, work, progress.report)
         uri = work.uri or ""
-        self._queue.put(lambda: self._answered(uri, text, edition, result["text"]))
+        self._incoming.put(lambda: self._answered(uri, text, edition, result["text"]))
         if not self.shows_runs:
             self.say(INFO, f"{text}: {result['text']}")
         return result
@@ -514,13 +498,6 @@ LATER = object()
 
 def is_request(message: Message) -> bool:
     return isinstance(message.get("method"), str) and type(message.get("id")) in (int, str)
-
-
-def dig(value: Any, *keys: str) -> Any:
-    """The value under some keys, or None where one is missing."""
-    for key in keys:
-        value = value.get(key) if isinstance(value, dict) else None
-    return value
 
 
 Handler = Callable[[Server, Document, Any], Any]
@@ -588,12 +565,3 @@ NOTIFICATIONS: dict[str, Callable[[Server, Any], None]] = {
     "window/workDoneProgress/cancel": Server.cancel_progress,
     "initialized": Server.initialized,
 }
-
-
-def serve(program: str | None) -> NoReturn:
-    """Serves on standard input and output, and ends the process. What is printed by mistake goes to standard error."""
-    output = os.fdopen(os.dup(1), "wb")
-    os.dup2(2, 1)
-    status = Server(sys.stdin.buffer, output, program).serve()
-    # the thread that reads may still wait for a message: Python can't end it
-    os._exit(status)

@@ -1,10 +1,11 @@
-"""Messages of the language server's protocol on two streams."""
+"""Messages of the language server's protocol."""
 
 from __future__ import annotations
 
 import json
-import threading
-from typing import Any, BinaryIO
+from typing import Any
+
+from chipbench_messages import Outgoing
 
 PARSE_ERROR = -32700
 INVALID_REQUEST = -32600
@@ -15,10 +16,6 @@ NOT_INITIALIZED = -32002
 REQUEST_CANCELLED = -32800
 CONTENT_MODIFIED = -32801
 REQUEST_FAILED = -32803
-
-HEADER = b"content-length:"
-LONGEST_HEADER = 10_000
-LONGEST_MESSAGE = 1 << 28
 
 
 class Encoded(list[str]):
@@ -47,57 +44,11 @@ class Failed(Exception):
         self.text = text
 
 
-class BadMessage(Exception):
-    """Bytes that aren't a message. What follows them can be read."""
-
-
-def read_length(stream: BinaryIO) -> int | None:
-    """The length that the next header names; None at the end of the stream. Other lines are skipped."""
-    length: int | None = None
-    while True:
-        line = stream.readline(LONGEST_HEADER)
-        if not line:
-            return None
-        if not line.strip():
-            if length is not None:
-                return length
-            continue
-        if line.lower().startswith(HEADER):
-            digits = line[len(HEADER) :].strip()
-            if not digits.isdigit() or len(digits) > 9 or int(digits) > LONGEST_MESSAGE:
-                raise BadMessage("the header Content-Length has no length of a message")
-            length = int(digits)
-
-
-def read_message(stream: BinaryIO) -> Any:
-    """The next message; None at the end of the stream."""
-    length = read_length(stream)
-    if length is None:
-        return None
-    body = stream.read(length)
-    if len(body) < length:
-        return None
-    try:
-        message = json.loads(body)
-    except (ValueError, RecursionError):
-        raise BadMessage("the message isn't JSON") from None
-    if not isinstance(message, dict):
-        raise BadMessage("the message isn't an object")
-    return message
-
-
-class Writer:
+class Writer(Outgoing):
     """Writes messages, from several threads."""
 
-    def __init__(self, stream: BinaryIO) -> None:
-        self._stream = stream
-        self._lock = threading.Lock()
-
     def write(self, message: dict[str, Any]) -> None:
-        body = encoded({"jsonrpc": "2.0", **message}).encode("ascii")
-        with self._lock:
-            self._stream.write(b"Content-Length: %d\r\n\r\n" % len(body) + body)
-            self._stream.flush()
+        self.send(encoded({"jsonrpc": "2.0", **message}).encode("ascii"))
 
     def notify(self, method: str, params: Any) -> None:
         self.write({"method": method, "params": params})

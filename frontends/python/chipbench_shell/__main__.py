@@ -5,6 +5,7 @@ from __future__ import annotations
 import argparse
 import contextlib
 import os
+import re
 import sys
 from collections.abc import Callable
 from pathlib import Path
@@ -12,8 +13,9 @@ from typing import NoReturn
 
 sys.path.insert(0, str(Path(__file__).resolve().parent.parent))
 
-from chipbench import ChipbenchError  # noqa: E402
+from chipbench import ChipbenchError, WrongValue  # noqa: E402
 from chipbench_files import FileError, read_file  # noqa: E402
+from chipbench_shell import advice  # noqa: E402
 from chipbench_shell.console import Console, OutputGone  # noqa: E402
 from chipbench_shell.game import Game, Settings  # noqa: E402
 from chipbench_shell.shell import Shell  # noqa: E402
@@ -23,6 +25,8 @@ from chipbench_shell.values import Mistake, near  # noqa: E402
 IMAGE_NAMES = (".ch8", ".c8", ".rom", ".sc8", ".xo8")
 #: Control characters that a source may have in its lines and between them.
 TEXT_CONTROLS = b"\t\n\r\f\x1b"
+#: The memory from address 512 on.
+IMAGE_BYTES = 3584
 
 
 class Parser(argparse.ArgumentParser):
@@ -31,16 +35,20 @@ class Parser(argparse.ArgumentParser):
     def error(self, message: str) -> NoReturn:
         unknown = message.removeprefix("unrecognized arguments: ")
         if unknown != message:
+            first = unknown.split()[0]
             known = [name for action in self._actions for name in action.option_strings]
-            message = f"no option {unknown.split()[0]}{near(unknown.split()[0], known)}"
-        self.exit(2, f"{self.prog}: {message}; {self.prog} --help lists the options\n")
+            is_option = first.startswith("-")
+            hint = f": {advice.OTHER_OPTIONS[first]}" if first in advice.OTHER_OPTIONS else near(first, known)
+            message = f"no option {first}{hint}" if is_option else f"one SOURCE at a time, and {first} is another one"
+        self.exit(2, f"{self.prog}: {message}; {advice.SHELL} --help lists the options\n")
 
 
 def tape_of(text: str) -> bytes:
     try:
         return bytes.fromhex(text)
     except ValueError:
-        raise argparse.ArgumentTypeError(f"not bytes in hexadecimal: {text}") from None
+        expected = "expected two hexadecimal digits for each byte, without 0x or #, as in --tape 2a07"
+        raise argparse.ArgumentTypeError(f"{expected}; found {text}") from None
 
 
 def number_of(example: str) -> Callable[[str], int]:
@@ -71,7 +79,8 @@ def parser() -> argparse.ArgumentParser:
     words.add_argument("--quiet", action="store_true", help="print no line at the start")
     words.add_argument("--program", metavar="PATH", help="the chipbench to run (default: $CHIPBENCH, or the installed one)")
     rate, seed, every = number_of("--rate 10"), number_of("--seed 7"), number_of("--every 1000")
-    words.add_argument("--rate", metavar="N", type=rate, help="how many steps lie between two ticks of the timers")
+    tick = "how many steps lie between two ticks of the timers: a tick is 1/60 of a second, so 10 is 600 steps a second"
+    words.add_argument("--rate", metavar="N", type=rate, help=tick)
     words.add_argument("--tape", metavar="HEX", type=tape_of, help="the random bytes")
     words.add_argument("--seed", metavar="N", type=seed, help="a number that makes the random bytes")
     words.add_argument("--profile", metavar="NAME", help="such as schip or vip")
@@ -89,14 +98,14 @@ def kind_warning(words: argparse.Namespace, image: bytes | None) -> str | None:
     """What to say where a source is taken for an image, or the other way around."""
     if image is not None:
         is_source = is_text(image) and b"\n" in image
-        return f"{words.image} is a text, not an image: chipbench-shell {words.image} opens a source" if is_source else None
+        return f"{words.image} is a text, not an image: {advice.SHELL} {words.image} opens a source" if is_source else None
     if words.source is None:
         return None
     content = read_file(Path(words.source))
     if content is not None and not is_text(content):
-        return f"{words.source} is not a text; if it is an image, type chipbench-shell --image {words.source}"
+        return f"{words.source} is not a text; if it is an image, type {advice.SHELL} --image {words.source}"
     if content is None and words.source.lower().endswith(IMAGE_NAMES):
-        return f"there is no file {words.source}, and its name is that of an image: chipbench-shell --image FILE opens one"
+        return f"there is no file {words.source}, and its name is that of an image: {advice.SHELL} --image FILE opens one"
     return None
 
 
@@ -104,6 +113,8 @@ def opened(words: argparse.Namespace) -> Game:
     """The game that the arguments name."""
     settings = Settings(words.profile, words.rate, words.tape, words.seed, words.every, words.quirks)
     image = needed(words.image) if words.image is not None else None
+    if image is not None and len(image) > IMAGE_BYTES:
+        raise FileError(f"{words.image} can't be opened: it has over {IMAGE_BYTES} bytes")
     warning = kind_warning(words, image)
     if warning is not None:
         print(f"chipbench-shell: warning: {warning}", file=sys.stderr)
@@ -122,6 +133,16 @@ def needed(name: str) -> bytes:
     if content is None:
         raise FileError(f"there is no file {name}")
     return content
+
+
+def option_text(told: str) -> str:
+    """What is wrong with a setting, by its option. The module names it as its caller does.
+
+    >>> option_text("rate=0: 0 is not in 1..=1000"), option_text("profile='xo': possible values: schip")
+    ('--rate 0: expected 1 to 1000', '--profile xo: possible values: schip')
+    """
+    named = re.sub(r"^([a-z]+)='?([^:']*)'?: ", r"--\1 \2: ", told)
+    return re.sub(r"\S+ is not in (\d+)\.\.=(\d+)$", r"expected \1 to \2", named)
 
 
 def closed_stream() -> str | None:
@@ -143,7 +164,8 @@ def main(arguments: list[str]) -> int:
         game = opened(words)
     except (ChipbenchError, FileError, Mistake) as error:
         # of what the program says on its arguments the first part is enough: its help isn't the shell's
-        print(f"chipbench-shell: {str(error).partition(chr(10) * 2)[0]}", file=sys.stderr)
+        told = str(error).partition(chr(10) * 2)[0]
+        print(f"chipbench-shell: {option_text(told) if isinstance(error, WrongValue) else told}", file=sys.stderr)
         return 3 if isinstance(error, FileError) else 2
     try:
         return converse(game, words)

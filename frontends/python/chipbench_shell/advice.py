@@ -2,20 +2,64 @@
 
 from __future__ import annotations
 
+import os
 import re
+import shutil
+from collections.abc import Callable
+from pathlib import Path
+from typing import TypeVar
 
-from .values import COMPARISON, REGISTERS
+from .values import COMPARISON, REGISTERS, Mistake
 
+Read = TypeVar("Read")
+
+#: Where a clone of the repository has its tools.
+PACKAGING = Path(__file__).resolve().parents[3] / "packaging"
+
+
+def tool(name: str) -> str:
+    """What starts a tool: its name where the PATH has it, otherwise its path in a clone."""
+    path = PACKAGING / name
+    if shutil.which(name) is not None or not path.is_file():
+        return name
+    try:
+        return os.fspath(path.relative_to(Path.cwd()))
+    except (OSError, ValueError):
+        return os.fspath(path)
+
+
+SHELL = tool("chipbench-shell")
 GO_TO_START = "goto 0 goes to the start, and run from there to the first breakpoint"
 NOTHING_SETS = "a state follows from the lines and the keys, and can't be set: edit changes a line, press and release change keys"
-ONE_SOURCE = "a shell has one source: quit, and start chipbench-shell FILE"
+ONE_SOURCE = f"a shell has one source: quit, and start {SHELL} FILE"
+KEYS = "press KEY holds a key, release KEY lets go of it, and keys shows the events"
+FILES_OF_KEYS = f"save keys FILE writes the key events, and {SHELL} game.asm --keys FILE plays them"
+AT_START = f"the settings are chosen at the start, as in {SHELL} game.asm --rate 15 --seed 7; profile shows them"
+CALLS = "backtrace shows the calls that lead to where one is"
+COMMENT = "a comment begins with `#` here"
+CONDITION = "a condition is given with its breakpoint: break PLACE if V0 = 5"
+HITS = "no breakpoint counts its hits: continue goes on to the next one, and break PLACE if V0 = 5 stops only where that holds"
+#: Settings that are chosen at the start, each by an option with its name.
+OPTIONS = ("rate", "seed", "tape", "quirks", "every")
+#: What is asked for in place of a label, where the end of the run is meant.
+ENDS = ("crash", "stop", "end", "halt", *(f"s{number}" for number in range(1, 8)))
 #: Words that other debuggers have, and what does the same here.
 OTHER_WORDS = {
     **dict.fromkeys(("reset", "restart", "start", "rewind"), GO_TO_START),
     **dict.fromkeys(("set", "let", "poke", "jump"), NOTHING_SETS),
     **dict.fromkeys(("load", "open", "file"), ONE_SOURCE),
+    **dict.fromkeys(("key", "hold", "keydown", "keyup"), KEYS),
+    **dict.fromkeys(("record", "replay", "macro"), FILES_OF_KEYS),
+    **dict.fromkeys(("rate", "speed", "seed", "tape", "quirks", "every"), AT_START),
+    **dict.fromkeys(("frame", "up", "down"), CALLS),
+    **dict.fromkeys(("replace", "change"), "edit LINE TEXT replaces a line"),
+    **dict.fromkeys(("append", "add"), "insert LINE TEXT puts a line before another one"),
+    "condition": CONDITION,
+    "ignore": HITS,
     "disable": "clear removes a breakpoint",
-    "key": "press KEY holds a key, release KEY lets go of it, and keys shows the events",
+    "play": f"{tool('chipbench-page')} game.asm opens the page, where you can play",
+    "source": f"{SHELL} game.asm < FILE carries out the commands of a file",
+    "version": "chipbench --version prints the version",
     "search": "until goes to the next step at which a comparison becomes true",
 }
 #: What `step` is asked for by other debuggers.
@@ -25,6 +69,8 @@ STEP_WORDS = {
     **dict.fromkeys(("out",), "finish goes out of a subroutine"),
     **dict.fromkeys(("in", "into"), "step goes into a call by itself: step"),
 }
+#: What an option is asked for that the shell hasn't.
+OTHER_OPTIONS = dict.fromkeys(("--step", "--steps", "--at", "--goto"), "the command goto 5 goes to step 5")
 BREAK_WORDS = ("break", "breaks", "breakpoint", "breakpoints", "bp", "b")
 SUBJECT = rf"(?:\[[^\]]*\]|(?:{'|'.join(REGISTERS)})\b)"
 #: A comparison without its sign, or with a word in place of it.
@@ -48,6 +94,8 @@ def for_break(text: str) -> str | None:
     'break takes a place first: break PLACE if V3 = 2; until V3 = 2 goes to where it becomes true at any place'
     >>> for_break("HIT when V3 = 2")
     'break takes `if` before a comparison: break HIT if V3 = 2'
+    >>> for_break("HIT, V3 = 2")
+    'break takes `if` before a comparison: break HIT if V3 = 2'
     """
     words = text.split()
     lower = [word.lower() for word in words]
@@ -59,7 +107,7 @@ def for_break(text: str) -> str | None:
         return f"break takes a place first: break PLACE if {shown}; until {shown} goes to where it becomes true at any place"
     if "if" in lower:
         return None
-    found = re.fullmatch(rf"(\S+)\s+(?:(?:when|where|and)\s+)?({SUBJECT}.*)", text, re.IGNORECASE)
+    found = re.fullmatch(rf"(\S+?),?\s+(?:(?:when|where|and)\s+)?({SUBJECT}.*)", text, re.IGNORECASE)
     if found is None:
         return None
     return f"break takes `if` before a comparison: break {found[1]} if {with_sign(found[2]) or found[2]}"
@@ -68,3 +116,104 @@ def for_break(text: str) -> str | None:
 def for_register(name: str, what: str) -> str:
     """What to type in place of a register where a place or a step is taken."""
     return f"{name} is a register, not a {what}: watch {name} goes to the next step that changes it, until {name} = 5 to where it becomes 5"
+
+
+def for_place(text: str, what: str = "place") -> str | None:
+    """What to type in place of a place, a line or a step that is no value; None where nothing is known.
+
+    >>> for_place("line 13")
+    'a line is given by its number alone: 13'
+    >>> for_place("line 13", "step")
+    'line 13 is a place, not a step: until 13 goes to the next step there'
+    >>> for_place("step 100"), for_place("LOOP:")
+    ('goto 100 goes to step 100', 'a label is named without its colon: LOOP')
+    >>> for_place("crash")
+    'continue goes to where the machine stops'
+    """
+    step = re.fullmatch(r"step\s+([0-9]+)", text.strip(), re.IGNORECASE)
+    if step is not None:
+        return f"goto {step[1]} goes to step {step[1]}"
+    label = re.fullmatch(r"([A-Za-z_]\w*):", text.strip())
+    if label is not None:
+        return f"a label is named without its colon: {label[1]}"
+    found = re.fullmatch(r"line\s+([0-9]+)", text.strip(), re.IGNORECASE)
+    if found is not None and what == "step":
+        return f"line {found[1]} is a place, not a step: until {found[1]} goes to the next step there"
+    if found is not None:
+        return f"a line is given by its number alone: {found[1]}"
+    return "continue goes to where the machine stops" if text.strip().lower() in ENDS else None
+
+
+def for_setting(text: str) -> str | None:
+    """What to type in place of `set` before something that is no state; None where it may be one.
+
+    >>> for_setting("profile vip"), for_setting("keys 4")
+    ('profile vip runs the same lines and keys under that profile', 'press 4 holds key 4, and release 4 lets go of it')
+    """
+    name, *values = text.replace("=", " ").split() or [""]
+    name, value = name.lower(), (values or [""])[0]
+    if name in OPTIONS:
+        return f"the settings are chosen at the start, as in {SHELL} game.asm --{name} {value or 'VALUE'}; profile shows them"
+    if name == "profile":
+        return f"profile {value or 'NAME'} runs the same lines and keys under that profile"
+    if name in ("key", "keys"):
+        key = value or "KEY"
+        return f"press {key} holds {'a key' if key == 'KEY' else f'key {key}'}, and release {key} lets go of it"
+    return None
+
+
+def for_line(line: str) -> str | None:
+    """What to type in place of a line that is no command; None where nothing is known.
+
+    >>> for_line("100"), for_line(";! V0 <= 63")
+    ('goto 100 goes to step 100', 'a property is a line of the source: insert LINE ;! V0 <= 63')
+    >>> for_line("condition 1 V0 = 5")
+    'a condition is given with its breakpoint: break PLACE if V0 = 5'
+    """
+    text = line.strip()
+    word, _, rest = text.partition(" ")
+    if text.isdecimal():
+        return f"goto {text} goes to step {text}"
+    if text.startswith(";!"):
+        return f"a property is a line of the source: insert LINE {text}"
+    condition = re.fullmatch(r"condition\s+[0-9]+\s+(\S.*)", text, re.IGNORECASE)
+    if condition is not None:
+        return f"a condition is given with its breakpoint: break PLACE if {with_sign(condition[1]) or condition[1]}"
+    return for_setting(rest) if word.lower() == "set" else None
+
+
+def for_comment(line: str) -> str | None:
+    """What to type in place of a comment that is a hexadecimal number alone; None where it is a comment.
+
+    >>> for_comment("#210"), for_comment("# 210"), for_comment("#add")
+    ('a comment begins with `#`: until #210 goes to that address, and x #210 shows its bytes', None, None)
+    """
+    text = line.strip()
+    if not re.fullmatch(r"#(?=[A-Fa-f]*[0-9])[0-9A-Fa-f]+", text):
+        return None
+    return f"a comment begins with `#`: until {text} goes to that address, and x {text} shows its bytes"
+
+
+def for_keys(text: str) -> str:
+    """What to type in place of `keys` with something behind it.
+
+    >>> for_keys("4 down")
+    'press 4 holds a key, release 4 lets go of it, and keys > FILE writes the key events'
+    >>> for_keys("60 4 up")
+    'release 4 at 60 lets go of a key, press 4 at 60 holds it, and keys > FILE writes the key events'
+    """
+    found = re.fullmatch(r"(?:([0-9]+)\s+)?([0-9]{1,2}|[A-Fa-f])(?:\s+(down|up))?", text.strip(), re.IGNORECASE)
+    if found is None:
+        return f"keys shows the key events: keys > {text} writes them to a file, press and release add some"
+    event = found[2] + (f" at {found[1]}" if found[1] else "")
+    release, press = f"release {event} lets go of", f"press {event} holds"
+    both = f"{release} a key, {press} it" if (found[3] or "").lower() == "up" else f"{press} a key, {release} it"
+    return f"{both}, and keys > FILE writes the key events"
+
+
+def told(text: str, read: Callable[[str], Read], what: str = "place") -> Read:
+    """What is read of a text. Where it is none, the mistake names what to type, if that is known."""
+    try:
+        return read(text)
+    except Mistake as mistake:
+        raise Mistake(for_place(text, what) or str(mistake)) from None

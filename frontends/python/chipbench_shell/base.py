@@ -62,14 +62,18 @@ class Commands:
 
     def where(self, state: State) -> str:
         """A line that says where a state is: its step, its address, and the line of the source or the instruction."""
+        at, number = f"step {state.step}, {state.pc:04x}", self.game.line_at(state.pc)
+        line = self.game.bench.listing[number - 1] if number is not None else None
+        past = state.pc - (line.address or 0) if line is not None else 0
+        source = f"line {number}: {views.printable(line.text.strip())}" if line is not None else ""
         if state.stopped:
-            return f"step {state.step}, {state.pc:04x}: the machine has stopped for {self.stop_text(state.stopped)}"
-        number = self.game.line_at(state.pc)
-        if number is None:
-            return f"step {state.step}, {state.pc:04x}: {self.instruction(state)}"
-        line = self.game.bench.listing[number - 1]
-        here = f"step {state.step}, {state.pc:04x}, line {number}: {views.printable(line.text.strip())}"
-        past = state.pc - (line.address or 0)
+            # the stop comes first, since a narrow terminal shows the beginning; at S3 there is no instruction
+            there = source if source and past == 0 else self.instruction(state)
+            stop = f"{at}: the machine has stopped for {self.stop_text(state.stopped)}"
+            return stop if state.stopped == "S3" else f"{stop}; {there}"
+        if line is None:
+            return f"{at}: {self.instruction(state)}"
+        here = f"{at}, {source}"
         if past == 0 and len(line.code) == WORD_BYTES and not line.more:
             return here
         # an instruction has a line of two bytes: this one is data, or pc is at an odd address

@@ -9,6 +9,7 @@ from chipbench import Refused, to_bytes, to_text
 
 from .advice import BREAK_WORDS
 from .base import Commands, Snapshot
+from .search import LAST_STEP
 from .values import Mistake, counted
 
 END = "."
@@ -80,6 +81,9 @@ class Edits(Commands):
 
         Deletes a line, or the lines from one to another. A label stands for its line.
         """
+        lines = re.fullmatch(r"(\d+)\s*(?:-|\.\.|:|,|to)\s*(\d+)", text.strip())
+        if lines is not None:
+            raise Mistake(f"delete takes the first and the last line with a blank between them: delete {lines[1]} {lines[2]}")
         words = self.words_of(text, 2, "delete LINE [LAST]")
         if not words:
             raise Mistake("delete takes a line: delete 12, delete 12 14")
@@ -94,6 +98,9 @@ class Edits(Commands):
                 self.game.bench.delete(number)
 
         self.edit(delete, f"{counted(last - first + 1, 'line')} deleted")
+        # GDB's delete removes the breakpoint of a number
+        if len(words) == 1 and words[0].isdecimal() and first <= len(self.game.breakpoints):
+            self.say("delete removes lines: undo takes this back, and clear removes breakpoints")
 
     def _line_and_text(self, text: str, form: str, most: int = 0) -> tuple[int, str | None]:
         """The number of a line, and what stands behind the one blank after it; None where there is no such blank."""
@@ -106,7 +113,13 @@ class Edits(Commands):
             if not 1 <= number <= most:
                 raise Mistake(f"no line {number} to insert before: 1 to {most}")
             return number, found[2]
-        return self.game.line_number(word), found[2]
+        try:
+            return self.game.line_number(word), found[2]
+        except Mistake as mistake:
+            if word.isdecimal() or found[2] is None:
+                raise
+            command = form.split()[0]
+            raise Mistake(f"{mistake}; {command} takes a line before the text: {command} LINE {text}") from None
 
     def do_undo(self, text: str) -> None:
         """undo
@@ -146,10 +159,15 @@ class Edits(Commands):
 
     def _key_event(self, text: str, down: bool, form: str) -> None:
         found = re.fullmatch(r"(\S+)(?:\s+(?:at\s+)?(\S+))?", text)
+        both = re.fullmatch(r"(\w+)\s+(?:(?:at|from)\s+)?(\w+)\s*(?:\s|-|to\s)\s*(\w+)", text)
+        if found is None and both is not None and down:
+            raise Mistake(f"press takes one step: press {both[1]} at {both[2]}, then release {both[1]} at {both[3]}")
         if found is None:
             raise Mistake(f"which key, and when? {form}")
         key = self._key(found[1])
         step = self.game.step_number(found[2]) if found[2] else self.game.step
+        if step > LAST_STEP:
+            raise Mistake(f"the steps are 0 to {LAST_STEP}")
         bench = self.game.bench
         known = bench.events.get((step, key))
         told = f"key {key:X} is {'down' if down else 'up'} from step {step} on"
@@ -182,6 +200,8 @@ class Edits(Commands):
         if words[:1] == ["keys"]:
             self.save_keys(text.strip().removeprefix("keys"))
             return
+        if words and "keys".startswith(words[0].lower()):
+            raise Mistake(f"save keys writes the key events, and save ./{words[0]} the lines to a file of that name")
         path, is_forced = self._target(text)
         written = self.game.save(path, is_forced)
         self.say(f"{written}: {counted(len(self.game.bench.lines), 'line')} written")
@@ -197,6 +217,10 @@ class Edits(Commands):
         """The file that a text names, and whether it may be written over."""
         is_forced = text.split()[-1:] == ["over"]
         name = text.strip().removesuffix("over").strip() if is_forced else text.strip()
+        # who types `save as FILE` names no file that begins with `as`
+        if name == "as":
+            raise Mistake("which file? save FILE")
+        name = re.sub(r"^as\s+", "", name)
         return (Path(name) if name else None), is_forced
 
     def do_reload(self, text: str) -> None:

@@ -12,14 +12,19 @@ from chipbench import Bench, Fault, Refused, State, Symbol, join_lines, refusal,
 from chipbench_files import FileError, read_file, replace_file
 from chipbench_lines import LINE_BYTES, line_edits, over_limits, same_ends
 
-from .advice import for_register
+from .advice import for_register, told
 from .keeping import Keeper
 from .key_file import command_of, key_file, lines_of
 from .values import Mistake, Values, counted
 
 Events = dict[tuple[int, int], bool]
-# what is said where a line of a file of key events is not an event
-KEY_LINE = "expected STEP KEY down or STEP KEY up, as in `10 4 down` (KEY is 0 to 15, or A to F)"
+# what is said of a line of a file of key events by its refusal, as `chipbench run --keys` says it
+KEY_LINES = {
+    "C1": "expected STEP KEY down or STEP KEY up, as in `10 4 down` (KEY is 0 to 15, or A to F); a comment begins with `;`",
+    "N5": "STEP is too large; expected at most 1000000",
+    "N6": "there is no such KEY; expected 0 to 15, or A to F",
+    "N7": "an earlier line already has an event of that STEP and KEY",
+}
 MEMORY_BYTES = 4096
 
 
@@ -173,7 +178,7 @@ class Game:
             answer = self.bench.exchange([b"kins " + command])[0]
             if answer != b"ok\n":
                 code = answer.split()[1].decode()
-                raise Mistake(f"{os.fspath(path)}:{number}: {KEY_LINE if code == 'C1' else self.sentence(code)}")
+                raise Mistake(f"{os.fspath(path)}:{number}: {KEY_LINES.get(code) or self.sentence(code)}")
         self.keys_path, self._keys_content, self.saved_events = path, content, self.bench.events
 
     def sentence(self, code: str) -> str:
@@ -212,7 +217,7 @@ class Game:
         symbols = self.symbols()
         if name in symbols and self.bench.listing[symbols[name].line - 1].value is None:
             raise Mistake(f"{name} is a label, not a step: until {name} goes to the next step there")
-        return self.values().number(text)
+        return told(text, self.values().number, "step")
 
     def line_number(self, text: str) -> int:
         """The number of a line: a name stands for the line that defines it."""
@@ -229,7 +234,7 @@ class Game:
         if plain.isdecimal():
             number = self.line_number(plain)
             return self.address_of_line(number), number
-        registers = self.values().sum(plain).registers
+        registers = told(plain, self.values().sum).registers
         if registers:
             raise Mistake(for_register(registers[0][1], "place"))
         return self.values().address(plain), None

@@ -10,15 +10,19 @@ from pathlib import Path
 from chipbench import ListingLine, join_lines, run_once
 
 from . import views
-from .advice import with_sign
+from .advice import SHELL, for_keys, told, with_sign
 from .base import Commands, Snapshot
 from .session import SESSION_WORDS
-from .values import Mistake, register_value
+from .values import Mistake, counted, register_value
 
 LISTED = 11
 WORDS = 8
 PROFILES = ("schip", "vip", "chip48", "schip10", "schip-modern", "octo")
 CHECK_SECONDS = 60.0
+#: The commands whose answers can't be written to a file by `> FILE`.
+SHOWING = frozenset("regs screen list x dis backtrace info check explain profile syms faults image mem".split())
+#: A line that ends the source, with a label or a comment perhaps.
+END_LINE = re.compile(r"\s*(?:\w+:\s*)?END\s*(?:;.*)?", re.IGNORECASE)
 #: What GDB shows by `info`, and the commands that show it here.
 INFO = {
     "registers": "regs",
@@ -31,6 +35,14 @@ INFO = {
     "line": "list",
     "symbols": "syms",
     "variables": "syms",
+}
+
+
+#: What shows or removes one of those that `info` shows together.
+ONE_OF = {
+    **dict.fromkeys(("registers", "symbols", "variables"), "print {0} shows one"),
+    **dict.fromkeys(("source", "line"), "list {0} shows the lines around one"),
+    "breakpoints": "breakpoints have no numbers here, and clear PLACE removes those at a place",
 }
 
 
@@ -48,10 +60,28 @@ class Looks(Commands):
 
         Shows the registers, the timers, the call stack and the flags. regs STEP answers as the session does.
         """
+        if self._is_at_step("regs", text):
+            return
         state = self.game.state()
         self.show_where()
         names = [f"keys down {self._keys_down(state.step) or 'none'}"]
         self.say(*state.rows(self.console.width, names))
+
+    def _is_at_step(self, command: str, text: str) -> bool:
+        """Whether a step is behind a command; the session answers it then."""
+        words = self.words_of(text, 1, f"{command}, or {command} STEP")
+        if words:
+            self.carry_out(f"{command} {words[0]}")
+        return bool(words)
+
+    def check_is_no_redirection(self, name: str, text: str) -> None:
+        """Refuses `> FILE` behind a command that shows something: only keys writes a file."""
+        before, mark, file = text.partition(">")
+        if mark and name in SHOWING:
+            # in quotes, because # begins a comment in sh
+            command = f"'{name} {before.strip()}'" if before.strip() else name
+            written = f"echo {command} | {SHELL} game.asm --quiet > {file.strip(' >') or 'FILE'}"
+            raise Mistake(f"{name} writes no file, and only keys takes `> FILE`; outside of the shell: {written}")
 
     def _keys_down(self, step: int) -> str:
         held = {key: down for (at, key), down in sorted(self.game.bench.events.items()) if at <= step}
@@ -63,6 +93,8 @@ class Looks(Commands):
         Draws the screen, a character for two pixels, or for four where the window is narrow. screen STEP answers as
         the session does.
         """
+        if self._is_at_step("screen", text):
+            return
         state = self.game.state()
         drawn = views.screen(state.screen, self.console.width, self.console.has_blocks)
         self.say(f"step {state.step}, {state.screen.width} by {state.screen.height} pixels", *drawn)
@@ -79,6 +111,9 @@ class Looks(Commands):
         state = self.game.state_or_none()
         current = self.game.line_at(state.pc) if state is not None else None
         if text:
+            first, *more = re.split(r"[\s,]+", text)
+            if more and first.isdecimal():
+                raise Mistake(f"list shows the lines around one place, as in list {first}; session list shows all lines")
             middle = self._line_of_place(text)
         else:
             middle = current or (self.game.faults()[0].line if state is None else 1)
@@ -95,7 +130,7 @@ class Looks(Commands):
     def _line_of_place(self, text: str) -> int:
         if text.upper() in self.game.symbols() or text.isdecimal():
             return self.game.line_number(text)
-        address = self.game.values().address(text)
+        address = told(text, self.game.values().address)
         number = self.game.line_at(address)
         if number is None:
             raise Mistake(f"no line has the address {address:04x}")
@@ -208,13 +243,16 @@ class Looks(Commands):
     def do_info(self, text: str) -> None:
         """info WHAT
 
-        Shows what GDB shows under a name: registers, breakpoints, display, frame, keys, source or symbols. regs, break,
-        display, backtrace, keys, list and syms show the same.
+        Shows what GDB shows under a name: registers, breakpoints, display, frame, stack, keys, source, line, symbols or
+        variables. regs, break, display, backtrace, keys, list and syms show the same.
         """
-        words = self.words_of(text.lower(), 1, "info registers")
-        found = [name for name in INFO if words and name.startswith(words[0])]
+        words = text.split()
+        found = [name for name in INFO if words and name.startswith(words[0].lower())]
         if not found:
             raise Mistake(f"info takes one of these: {', '.join(INFO)}")
+        if len(words) > 1:
+            one = ONE_OF.get(found[0], "nothing stands behind it")
+            raise Mistake(f"info {found[0]} shows all of them: {one.format(words[1])}")
         self.carry_out(INFO[found[0]])
 
     def do_assert(self, text: str) -> None:
@@ -258,7 +296,7 @@ class Looks(Commands):
             self.save_keys(text[1:])
             return
         if text:
-            raise Mistake(f"keys shows the key events: keys > {text} writes them to a file, press and release add some")
+            raise Mistake(for_keys(text))
         lines = self.game.key_lines().splitlines()
         self.say(*(lines or ["no key events"]))
 
@@ -275,7 +313,19 @@ class Looks(Commands):
             colour = "--color=always" if self.console.has_colours else "--color=never"
             answer = self._run(["check", colour, *self.game.check_options(), str(path)])
         found = answer.replace(f"{folder}{os.sep}", "").splitlines()
-        self.say(*(found or ["no faults and no warnings"]))
+        self.say(*(found or ["no faults and no warnings"]), *self._behind_end())
+
+    def _behind_end(self) -> list[str]:
+        """A sentence on the lines behind END, which aren't assembled; none where there are none."""
+        listing = self.game.bench.listing
+        for line in listing:
+            # a line that isn't active has no address
+            if line.address is not None and END_LINE.fullmatch(line.text):
+                behind = sum(bool(one.text.strip()) for one in listing[line.number :])
+                are = "is" if behind == 1 else "are"
+                sentence = f"END in line {line.number} ends the source: {counted(behind, 'line')} behind it {are} not read"
+                return [sentence] if behind else []
+        return []
 
     def do_explain(self, text: str) -> None:
         """explain CODE

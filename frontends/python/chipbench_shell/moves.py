@@ -46,6 +46,9 @@ class Moves(Commands):
 
         Makes N steps, or one.
         """
+        below = re.fullmatch(r"-\s*(\d+)", text)
+        if below is not None:
+            raise Mistake(f"step only goes forward: back {below[1]} goes back")
         meant = advice.STEP_WORDS.get((text.split() or [""])[0].lower())
         if meant is not None and text.upper() not in self.game.symbols():
             raise Mistake(meant)
@@ -92,11 +95,15 @@ class Moves(Commands):
         Goes to where this subroutine has returned to its caller.
         """
         self.words_of(text, 0, "finish")
+        self._take(self.search().first(self._is_outside(), self.game.step), "this subroutine doesn't return")
+        self.show_place()
+
+    def _is_outside(self) -> Test:
+        """Whether a step is outside of this subroutine. `Mistake` where one is in none."""
         depth = len(self.game.state().call_stack)
         if depth == 0:
             raise Mistake("this is no subroutine: the call stack is empty")
-        self._take(self.search().first(not_deeper(depth - 1), self.game.step), "this subroutine doesn't return")
-        self.show_place()
+        return not_deeper(depth - 1)
 
     def do_until(self, text: str) -> None:
         """until PLACE | SUBJECT = NUMBER
@@ -107,9 +114,10 @@ class Moves(Commands):
         """
         if not text:
             raise Mistake("until takes a place or a comparison: until LOOP, until V3 = 5")
-        condition = self.game.values().condition(text)
-        if condition is not None:
-            self._until_condition(condition)
+        place, *conditions = re.split(r"\sif\s+", text, maxsplit=1, flags=re.IGNORECASE)
+        if conditions:
+            raise Mistake(f"until takes no `if`: break {place.strip()} if {conditions[0]}, then continue")
+        if self._went_to_condition(text):
             return
         meant = advice.with_sign(text)
         if meant is not None:
@@ -118,10 +126,15 @@ class Moves(Commands):
         self._take(self._first(at_address(address)), f"{text} isn't reached")
         self.show_place()
 
-    def _until_condition(self, condition: Condition) -> None:
+    def _went_to_condition(self, text: str) -> bool:
+        """Goes to where a comparison becomes true; False where the text is none."""
+        condition = self.game.values().condition(text)
+        if condition is None:
+            return False
         self._check_is_running()
         self._take(self.search().first_true(condition), f"{condition} doesn't become true")
         self.show_place()
+        return True
 
     def do_watch(self, text: str) -> None:
         """watch SUBJECT
@@ -131,9 +144,10 @@ class Moves(Commands):
         """
         if not text:
             raise Mistake("watch takes a register or a byte of the memory: watch V3, watch [#300]")
-        condition = self.game.values().condition(text)
-        if condition is not None:
-            self._until_condition(condition)
+        _, *conditions = re.split(r"\sif\s+", text, maxsplit=1, flags=re.IGNORECASE)
+        if conditions:
+            raise Mistake(f"watch takes no `if`: until {conditions[0]} goes to where that becomes true")
+        if self._went_to_condition(text):
             return
         subject = self.game.values().subject(text)
         self._check_is_running()
@@ -210,7 +224,7 @@ class Moves(Commands):
 
         Removes the breakpoints at a place, or all.
         """
-        if not text:
+        if not text or (text.lower() == "all" and "ALL" not in self.game.symbols()):
             removed = list(map(str, self.game.breakpoints))
             self.game.breakpoints.clear()
             told = f"{counted(len(removed), 'breakpoint')} removed: {', '.join(removed)}" if removed else "there was no breakpoint to remove"
@@ -290,10 +304,7 @@ class Moves(Commands):
         Goes back to the call of this subroutine.
         """
         self.words_of(text, 0, "reverse-finish")
-        depth = len(self.game.state().call_stack)
-        if depth == 0:
-            raise Mistake("this is no subroutine: the call stack is empty")
-        found = self.search().last(not_deeper(depth - 1), self.game.step)
+        found = self.search().last(self._is_outside(), self.game.step)
         self.go(found or 0)
 
     def do_blame(self, text: str) -> None:

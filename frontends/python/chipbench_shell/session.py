@@ -35,6 +35,10 @@ HERE = {
     "dis": "dis [ADDRESS [N]] shows the instructions at this step",
 }
 LINES = ("ins", "rep", "del")
+#: Words whose second argument is a key.
+WITH_KEY = ("kins", "krep", "kdel")
+KEY = 1
+LETTER = re.compile(r"[A-Fa-f]")
 KEPT = ("down", "up")
 PLAIN = re.compile(r"[0-9]+|#[0-9A-Fa-f]+")
 
@@ -97,10 +101,17 @@ class SessionWords(Commands):
         unknown = ""
         for place, argument in enumerate(arguments[:count]):
             try:
-                arguments[place] = self._number(word, argument)
+                is_key = word in WITH_KEY and place == KEY
+                arguments[place] = self._key_number(argument) if is_key else self._number(word, argument)
             except Mistake as mistake:
                 unknown = unknown or str(mistake)
         return " ".join([word, *arguments]), unknown
+
+    def _key_number(self, argument: str) -> str:
+        """A key by its number or its letter. A name of the source that is such a letter has its value."""
+        if LETTER.fullmatch(argument) and argument.upper() not in self.game.symbols():
+            return f"#{argument}"
+        return self._number("", argument)
 
     def _number(self, word: str, argument: str) -> str:
         if PLAIN.fullmatch(argument) or argument in KEPT or not argument:

@@ -82,6 +82,8 @@ def command_named(word: str) -> str:
         return found[0]
     if found:
         raise Mistake(f"'{word}' begins several commands: {', '.join(found)}")
+    if small.startswith((";", "//")):
+        raise Mistake(advice.COMMENT)
     if small in OUTSIDE:
         raise Mistake(f"'{small}' isn't a command of the shell: save, and run `chipbench {small}` outside of it")
     if small in advice.OTHER_WORDS:
@@ -188,17 +190,24 @@ class Shell(Moves, Looks, Edits, SessionWords):
             self._repeat()
             return
         self._last_command = ""
+        word, text = self._split(line)
         if is_of_session(line):
+            self.check_is_no_redirection(word, text)
             self.session_command(line)
             return
-        word, text = self._split(line)
         if word.startswith("#") or not word:
+            meant = advice.for_comment(line)
+            self.say(*([] if meant is None else [meant]))
             return
         try:
             name = command_named(word)
         except Mistake:
             self._check_is_no_value(line.strip())
+            meant = advice.for_line(line)
+            if meant is not None:
+                raise Mistake(f"no command '{word}': {meant}") from None
             raise
+        self.check_is_no_redirection(name, text)
         # what stands behind a line's number is text, blanks included
         given = text if name in ("edit", "insert") else text.strip()
         self._last_command = name

@@ -13,11 +13,18 @@ from chipbench import State, Symbol
 TERM = re.compile(
     r"""\s*(?:
       (?:\#|0[xX])(?P<hexadecimal>[0-9A-Fa-f]{1,7})
+    | (?:\$(?P<dotted>[01.]{1,16})|0[bB](?P<binary>[01]{1,16}))
     | (?P<decimal>[0-9]{1,9})
     | (?P<word>[A-Za-z_][A-Za-z0-9_]*)
     )(?![A-Za-z0-9_])\s*""",
     re.VERBOSE,
 )
+# a letter as other assemblers and C write it
+LETTER = re.compile(r"'.'|\".\"")
+# before a sum: it is below 0, which its caller tells
+SIGN = re.compile(r"\s*-")
+# what joins two comparisons in other languages
+JOIN = re.compile(r"\s(?:and|or|&&|\|\|)(?:\s|$)", re.IGNORECASE)
 COMPARISON = re.compile(r"\s*(==|!=|<>|<=|>=|=|<|>)\s*")
 COMPARED: dict[str, Callable[[int, int], bool]] = {
     "=": operator.eq,
@@ -80,6 +87,12 @@ class Subject:
         return 4 if self.register in ("I", "PC") else 2
 
 
+    @property
+    def most(self) -> int:
+        """The greatest value."""
+        return 0xFFFF if self.digits == 4 else 0xFF
+
+
 #: Gives the value of a register of `REGISTERS`, at a step.
 ReadRegister = Callable[[str], int]
 
@@ -135,7 +148,10 @@ class Values:
 
     def sum(self, text: str) -> Sum:
         """A sum of numbers, names and registers, whose registers are read later."""
-        number, place, sign = 0, 0, 1
+        if LETTER.fullmatch(text.strip()):
+            raise Mistake(f"{text.strip()} is a letter, and letters have no numbers here: a number such as 65 or #41")
+        begin = SIGN.match(text)
+        number, place, sign = 0, begin.end() if begin else 0, -1 if begin else 1
         registers: list[tuple[int, str]] = []
         while True:
             found = TERM.match(text, place)
@@ -158,6 +174,8 @@ class Values:
         """A number, or the name of a register."""
         if found["hexadecimal"]:
             return int(found["hexadecimal"], 16)
+        if found["dotted"] or found["binary"]:
+            return int((found["dotted"] or found["binary"]).replace(".", "0"), 2)
         if found["decimal"]:
             return int(found["decimal"])
         name = found["word"].upper()
@@ -193,7 +211,13 @@ class Values:
         found = COMPARISON.search(text)
         if found is None:
             return None
+        if JOIN.search(text):
+            raise Mistake("one comparison at a time: `and` and `or` join none")
         right = self.sum(text[found.end() :])
         if right.number < 0 and not right.registers:
             raise Mistake(f"'{right.shown}' is below 0")
-        return Condition(self.subject(text[: found.start()]), found[1], right)
+        subject = self.subject(text[: found.start()])
+        least = right.number + (found[1] == ">")
+        if not right.registers and least > subject.most and found[1] in ("=", "==", ">", ">="):
+            raise Mistake(f"{subject.shown} is at most {subject.most}: {subject.shown} {found[1]} {right} is never so")
+        return Condition(subject, found[1], right)

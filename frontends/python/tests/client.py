@@ -4,21 +4,17 @@ from __future__ import annotations
 
 import atexit
 import functools
-import json
 import os
-import queue
 import shutil
-import subprocess
 import sys
 import tempfile
-import threading
 from pathlib import Path
 from typing import Any
 
+from message_client import SECONDS, Message, MessageClient
+
 SERVER = Path(__file__).resolve().parent.parent / "chipbench_lsp"
 URI = "file:///tmp/game.asm"
-# No message takes as long on the busiest machine.
-SECONDS = 1800.0
 
 
 @functools.cache
@@ -34,54 +30,29 @@ def copied_server() -> str:
     return str(copied)
 
 
-class Client:
-    """One running server. Messages are sent as they are; what comes back is sorted into answers and notifications."""
+class Client(MessageClient):
+    """One running server. Messages are sent as they are."""
 
     def __init__(self, program: str | None, *, options: Any = None, capabilities: Any = None, ready: bool = True) -> None:
-        words = [sys.executable, copied_server()] + (["--program", program] if program else [])
         names = {name: value for name, value in os.environ.items() if name != "PYTHONDONTWRITEBYTECODE"}
-        self.process = subprocess.Popen(words, stdin=subprocess.PIPE, stdout=subprocess.PIPE, stderr=subprocess.PIPE, env=names)
-        self._answers: queue.Queue[dict[str, Any]] = queue.Queue()
-        self.told: queue.Queue[dict[str, Any]] = queue.Queue()
-        self._last = 0
+        super().__init__([sys.executable, copied_server(), *(["--program", program] if program else [])], names)
         self.version = 0
-        threading.Thread(target=self._read, daemon=True).start()
         if ready:
             params = {"processId": None, "rootUri": None, "capabilities": capabilities or {}, "initializationOptions": options}
             self.capabilities = self.ask("initialize", params)["capabilities"]
             self.tell("initialized", {})
 
-    def _read(self) -> None:
-        assert self.process.stdout is not None
-        while line := self.process.stdout.readline():
-            length = int(line.split(b":")[1])
-            self.process.stdout.readline()
-            message = json.loads(self.process.stdout.read(length))
-            (self.told if "method" in message else self._answers).put(message)
-
-    def send_bytes(self, content: bytes) -> None:
-        assert self.process.stdin is not None
-        self.process.stdin.write(content)
-        self.process.stdin.flush()
-
-    def send(self, message: Any) -> None:
-        body = json.dumps(message).encode()
-        self.send_bytes(b"Content-Length: %d\r\n\r\n" % len(body) + body)
+    def heard(self, message: Message) -> None:
+        (self.told if "method" in message else self.answers).put(message)
 
     def tell(self, method: str, params: Any) -> None:
         self.send({"jsonrpc": "2.0", "method": method, "params": params})
 
     def begin(self, method: str, params: Any) -> int:
         """Sends a request, and returns its id."""
-        self._last += 1
-        self.send({"jsonrpc": "2.0", "id": self._last, "method": method, "params": params})
-        return self._last
-
-    def next_answer(self) -> dict[str, Any]:
-        return self._answers.get(timeout=SECONDS)
-
-    def next_answer_before(self, seconds: float) -> dict[str, Any]:
-        return self._answers.get(timeout=max(seconds, 0.0))
+        self.last += 1
+        self.send({"jsonrpc": "2.0", "id": self.last, "method": method, "params": params})
+        return self.last
 
     def answer(self, method: str, params: Any) -> dict[str, Any]:
         """The whole answer to a request."""
@@ -142,18 +113,6 @@ class Client:
         self.ask("shutdown", None)
         self.tell("exit", None)
         return self.wait()
-
-    def wait(self) -> int:
-        assert self.process.stdin is not None
-        self.process.stdin.close()
-        return self.process.wait(SECONDS)
-
-    def kill(self) -> None:
-        self.process.kill()
-        self.process.wait()
-        for stream in (self.process.stdin, self.process.stdout, self.process.stderr):
-            if stream is not None:
-                stream.close()
 
 
 def span(start: tuple[int, int], end: tuple[int, int]) -> dict[str, dict[str, int]]:

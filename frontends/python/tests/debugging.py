@@ -2,68 +2,35 @@
 
 from __future__ import annotations
 
-import json
-import queue
-import subprocess
 import sys
-import threading
 from pathlib import Path
 from typing import Any
 
+from message_client import SECONDS, Message, MessageClient
+
 ADAPTER = Path(__file__).resolve().parent.parent / "chipbench_dap"
-# No message takes as long on the busiest machine.
-SECONDS = 1800.0
-
-Message = dict[str, Any]
 
 
-class Debugger:
-    """One running adapter. What it sends is kept in its order, and sorted into answers and events."""
+class Debugger(MessageClient):
+    """One running adapter. What it sends is also kept in its order."""
 
     def __init__(self, program: str | None, adapter: Path = ADAPTER, environment: dict[str, str] | None = None) -> None:
-        words = [sys.executable, "-B", str(adapter)] + (["--program", program] if program else [])
-        self.process = subprocess.Popen(
-            words, env=environment, stdin=subprocess.PIPE, stdout=subprocess.PIPE, stderr=subprocess.PIPE
-        )
-        self._answers: queue.Queue[Message] = queue.Queue()
-        self._events: queue.Queue[Message] = queue.Queue()
         self.all: list[Message] = []
         self.sent: list[Message] = []
-        self._last = 0
-        threading.Thread(target=self._read, daemon=True).start()
+        super().__init__([sys.executable, "-B", str(adapter), *(["--program", program] if program else [])], environment)
 
-    def _read(self) -> None:
-        assert self.process.stdout is not None
-        while line := self.process.stdout.readline():
-            length = int(line.split(b":")[1])
-            self.process.stdout.readline()
-            message = json.loads(self.process.stdout.read(length))
-            self.all.append(message)
-            (self._events if message["type"] == "event" else self._answers).put(message)
-
-    def send_bytes(self, content: bytes) -> None:
-        assert self.process.stdin is not None
-        self.process.stdin.write(content)
-        self.process.stdin.flush()
-
-    def send(self, message: Any) -> None:
-        body = json.dumps(message).encode()
-        self.send_bytes(b"Content-Length: %d\r\n\r\n" % len(body) + body)
+    def heard(self, message: Message) -> None:
+        self.all.append(message)
+        (self.told if message["type"] == "event" else self.answers).put(message)
 
     def begin(self, command: Any, arguments: Any = None) -> int:
         """Sends a request, and returns its number."""
-        self._last += 1
-        message = {"seq": self._last, "type": "request", "command": command}
+        self.last += 1
+        message = {"seq": self.last, "type": "request", "command": command}
         message |= {} if arguments is None else {"arguments": arguments}
         self.sent.append(message)
         self.send(message)
-        return self._last
-
-    def next_answer(self) -> Message:
-        return self._answers.get(timeout=SECONDS)
-
-    def next_answer_before(self, seconds: float) -> Message:
-        return self._answers.get(timeout=max(seconds, 0.0))
+        return self.last
 
     def answer(self, command: Any, arguments: Any = None) -> Message:
         request = self.begin(command, arguments)
@@ -86,7 +53,7 @@ class Debugger:
     def event(self, name: str) -> Any:
         """The body of the next event of a name. Others before it are dropped."""
         while True:
-            event = self._events.get(timeout=SECONDS)
+            event = self.told.get(timeout=SECONDS)
             if event["event"] == name:
                 return event.get("body")
 
@@ -139,13 +106,4 @@ class Debugger:
     def close(self) -> int:
         """Ends the adapter as a client should, and returns its status."""
         self.ask("disconnect")
-        assert self.process.stdin is not None
-        self.process.stdin.close()
-        return self.process.wait(SECONDS)
-
-    def kill(self) -> None:
-        self.process.kill()
-        self.process.wait()
-        for stream in (self.process.stdin, self.process.stdout, self.process.stderr):
-            if stream is not None:
-                stream.close()
+        return self.wait()

@@ -2,6 +2,7 @@
 
 from __future__ import annotations
 
+import itertools
 import sys
 import unittest
 from pathlib import Path
@@ -17,6 +18,10 @@ COUNT = 300
 class RandomMessages(NeedsWords):
     def test_each_request_to_the_server_is_answered(self) -> None:
         self.assertEqual(talk_to_server(self.program, COUNT, Chance(3)), "")
+
+    def test_the_last_message_to_the_server_is_none(self) -> None:
+        seed = next(seed for seed in itertools.count() if Chance(seed).one_in(30))
+        self.assertEqual(talk_to_server(self.program, 1, Chance(seed)), "")
 
     def test_each_request_to_the_adapter_is_answered(self) -> None:
         self.assertEqual(talk_to_adapter(self.program, COUNT, Chance(3)), "")

@@ -18,7 +18,8 @@ from typing import Any
 
 sys.path.insert(0, str(Path(__file__).resolve().parent))
 
-from client import SECONDS, URI, Client, span  # noqa: E402
+from client import URI, Client, span  # noqa: E402
+from message_client import SECONDS  # noqa: E402
 from programs import EXAMPLES, TOP, NeedsProgram, NeedsWords  # noqa: E402
 
 from chipbench import Bench, Fault  # noqa: E402
@@ -314,12 +315,12 @@ class Features(Served):
             return [lens["command"]["title"] for lens in lenses if lens["command"]["command"] == "chipbench.prove"]
         self.assertEqual(titles(), ["prove", "prove"])
         result = client.ask("workspace/executeCommand", {"command": "chipbench.prove", "arguments": [URI, 0]})
-        self.assertEqual((result["line"], result["text"]), (1, "never broken"))
-        self.assertEqual(titles(), ["never broken", "prove"])
+        self.assertEqual((result["line"], result["text"]), (1, "never broken with any keys, random bytes and speed"))
+        self.assertEqual(titles(), ["never broken with any keys, random bytes and speed", "prove"])
         result = client.ask("workspace/executeCommand", {"command": "chipbench.prove", "arguments": [URI, 8]})
         self.assertEqual(result["text"], "P3: undefined name")
         client.edit((5, 15), (5, 16), "4")
-        self.assertEqual(titles(), ["never broken (before the last edit)", "P3: undefined name (before the last edit)"])
+        self.assertEqual(titles(), ["never broken with any keys, random bytes and speed (before the last edit)", "P3: undefined name (before the last edit)"])
         result = client.ask("workspace/executeCommand", {"command": "chipbench.prove", "arguments": [URI, 0]})
         self.assertEqual(result["answer"], "broken")
         self.assertEqual(titles()[0], result["text"])

@@ -10,7 +10,8 @@ from typing import Any
 
 sys.path.insert(0, str(Path(__file__).resolve().parent))
 
-from client import SECONDS, URI, span  # noqa: E402
+from client import URI, span  # noqa: E402
+from message_client import SECONDS  # noqa: E402
 from programs import NeedsWords  # noqa: E402
 from test_server import Served, applied  # noqa: E402
 
@@ -42,7 +43,7 @@ class Properties(Served, NeedsWords):
     def proved(self, source: str) -> tuple[int, str]:
         """How `prove` ends on a source, and what it prints without the properties' texts."""
         done = subprocess.run([self.program, "prove", "-"], input=source.encode(), capture_output=True, timeout=120)
-        return done.returncode, "\n".join(line.split(": ")[1] for line in done.stdout.decode().splitlines()[:-1])
+        return done.returncode, "\n".join(line.split(": ")[1] for line in done.stdout.decode().splitlines() if line.startswith("-:"))
 
     def renamed(self, client: Any, line: int, column: int, name: str) -> str:
         return applied(GAME, client.at("rename", line, column, newName=name)["changes"][URI])
@@ -83,6 +84,8 @@ class Properties(Served, NeedsWords):
         for line, column, said in ((1, 17, "**STEP** = 3"), (4, 28, "**LOOP** = 514"), (1, 4, "holds before each step"),
                                    (1, 11, "register V0"), (1, 24, "17 = #11"), (7, 4, "some player comes")):
             self.assertIn(said, client.at("hover", line, column)["contents"]["value"])
+        # LOOP is at #202, and the address of the property is not that of a name in it
+        self.assertNotIn("address", client.at("hover", 4, 28)["contents"]["value"])
 
     def test_a_proof_says_how_far_it_is_and_ends_with_an_edit(self) -> None:
         client = self.opened(LONG, capabilities={"window": {"workDoneProgress": True}})
@@ -105,7 +108,7 @@ class Properties(Served, NeedsWords):
     def test_the_token_of_a_client(self) -> None:
         client = self.opened(GAME)
         command = {"command": "chipbench.prove", "arguments": [URI, 1], "workDoneToken": 7}
-        self.assertEqual(client.ask("workspace/executeCommand", command)["text"], "never broken")
+        self.assertEqual(client.ask("workspace/executeCommand", command)["text"], "never broken with any keys, random bytes and speed")
         values = [self.told(client, "$/progress") for _ in range(2)]
         self.assertEqual([(one["token"], one["value"]["kind"]) for one in values], [(7, "begin"), (7, "end")])
         self.assertEqual(values[0]["value"]["title"], "prove always V0 <= STEP + 17")

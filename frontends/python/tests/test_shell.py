@@ -13,7 +13,7 @@ from at_terminal import COUNTER, DOT, WRITER, AtTerminal  # noqa: E402
 from programs import TOP  # noqa: E402
 from terminal import Terminal  # noqa: E402
 
-STOPPED = "step 32, 020a: the machine has stopped for S1: the program ended"
+STOPPED = "step 32, 020a: the machine has stopped for S1: the program ended; line 8: EXIT"
 
 
 class Moves(AtTerminal):
@@ -507,7 +507,7 @@ class Refusals(AtTerminal):
             ("delete 4 3", "line 3 stands before line 4"),
             ("press", "which key, and when? press KEY [at STEP]"),
             ("press 16", "no key 16: the keys are 0 to 15, or 0 to 9 and A to F"),
-            ("press 1 at 1000001", "N5: step above the last"),
+            ("press 1 at 1000001", "the steps are 0 to 1000000"),
             ("session", "session takes a command of chipbench debug: ins, rep, del, kins, krep, kdel, image, syms, list, faults, regs, mem, screen, dis"),
             ("edit 3 ; " + "x" * 200, "N2: text too long"),
         )

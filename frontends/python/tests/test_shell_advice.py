@@ -2,6 +2,7 @@
 
 from __future__ import annotations
 
+import os
 import sys
 import unittest
 from pathlib import Path
@@ -10,6 +11,7 @@ sys.path.insert(0, str(Path(__file__).resolve().parent))
 
 from at_pipe import AtPipe  # noqa: E402
 from at_terminal import COUNTER, AtTerminal  # noqa: E402
+from programs import TOP  # noqa: E402
 from terminal import Terminal  # noqa: E402
 
 # V3 counts up by 1 and V4 down by 1 in each round of three steps, V3 first: V3 is n at TURN of round n, and V4 is 12 - n
@@ -35,6 +37,11 @@ AT_PLACE = "until {0} goes to where it becomes true at any place"
 REGISTER = "{0} is a register, not a {1}: watch {0} goes to the next step that changes it, until {0} = 5 to where it becomes 5"
 AT_START = "goto 0 goes to the start, and run from there to the first breakpoint"
 NOTHING_SETS = "a state follows from the lines and the keys, and can't be set: edit changes a line, press and release change keys"
+
+
+ONLY_KEYS = "and only keys takes `> FILE`; outside of the shell"
+WRITTEN = "and keys > FILE writes the key events"
+CHOSEN = "the settings are chosen at the start, as in chipbench-shell game.asm"
 
 
 class Comparisons(AtPipe):
@@ -90,6 +97,47 @@ class WrongTurns(AtPipe):
                 "no page on LD: explain takes a code such as F9, W4 or S2, and without one it lists them; "
                 "docs/MACHINE.md has the instructions",
             ),
+            ("regs > y.txt", f"regs writes no file, {ONLY_KEYS}: echo regs | chipbench-shell game.asm --quiet > y.txt"),
+            ("screen >x.txt", f"screen writes no file, {ONLY_KEYS}: echo screen | chipbench-shell game.asm --quiet > x.txt"),
+            ("x #300 4 > z", f"x writes no file, {ONLY_KEYS}: echo 'x #300 4' | chipbench-shell game.asm --quiet > z"),
+            ("regs 5 6", "there is too much behind the command: regs, or regs STEP"),
+            ("screen 5 6", "there is too much behind the command: screen, or screen STEP"),
+            ("key 4 down", f"press 4 holds a key, release 4 lets go of it, {WRITTEN}"),
+            ("keys 4", f"press 4 holds a key, release 4 lets go of it, {WRITTEN}"),
+            ("keys 60 a up", f"release a at 60 lets go of a key, press a at 60 holds it, {WRITTEN}"),
+            ("save key", "save keys writes the key events, and save ./key the lines to a file of that name"),
+            ("save k over", "save keys writes the key events, and save ./k the lines to a file of that name"),
+            ("save as", "which file? save FILE"),
+            ("set rate 20", f"no command 'set': {CHOSEN} --rate 20; profile shows them"),
+            ("set profile vip", "no command 'set': profile vip runs the same lines and keys under that profile"),
+            ("set keys 4", "no command 'set': press 4 holds key 4, and release 4 lets go of it"),
+            ("until step 100", "goto 100 goes to step 100"),
+            ("100", "no command '100': goto 100 goes to step 100"),
+            (";! V0 <= 63", "no command ';!': a property is a line of the source: insert LINE ;! V0 <= 63"),
+            ("delete 1-2", "delete takes the first and the last line with a blank between them: delete 1 2"),
+            (
+                "insert LD V0, 5",
+                "no name LD in the source; insert takes a line before the text: insert LINE LD V0, 5",
+            ),
+            ("break UP:", "a label is named without its colon: UP"),
+            ("until UP:", "a label is named without its colon: UP"),
+            ("press 4 60 70", "press takes one step: press 4 at 60, then release 4 at 70"),
+            ("condition 1 V0 = 5", "no command 'condition': a condition is given with its breakpoint: break PLACE if V0 = 5"),
+            (
+                "ignore 1 5",
+                "no command 'ignore': no breakpoint counts its hits: continue goes on to the next one, "
+                "and break PLACE if V0 = 5 stops only where that holds",
+            ),
+            (
+                "info breakpoint 1",
+                "info breakpoints shows all of them: breakpoints have no numbers here, and clear PLACE removes those at a place",
+            ),
+            ("info registers V0", "info registers shows all of them: print V0 shows one"),
+            ("until UP if V0 = 3", "until takes no `if`: break UP if V0 = 3, then continue"),
+            ("until V0 = 300", "V0 is at most 255: V0 = 300 is never so"),
+            ("until V0 > 255", "V0 is at most 255: V0 > 255 is never so"),
+            ("until [BUF] >= 256", "[BUF] is at most 255: [BUF] >= 256 is never so"),
+            ("print 'A'", "'A' is a letter, and letters have no numbers here: a number such as 65 or #41"),
             ("press left", "no key left: the keys are 0 to 9 and A to F, as in press 4"),
             ("step back", "step only goes forward: back goes a step back, back 3 three"),
             ("step over", "next steps over a call"),
@@ -107,6 +155,42 @@ class WrongTurns(AtPipe):
         for number, (command, wanted) in enumerate(pairs, 1):
             with self.subTest(command):
                 self.assertEqual(told.get(f"line {number}"), wanted)
+
+    def test_no_file_is_written_that_nobody_named(self) -> None:
+        Path(self.folder, "game.asm").write_text(COUNTER)
+        self.shell("screen > x.txt\nregs > y.txt\nkey 4 down\nsave key\nsave as copy.asm\nquit no\n", "game.asm")
+        self.assertEqual(sorted(path.name for path in self.folder.glob("*.*")) + [*self.folder.glob("key")], ["copy.asm", "game.asm"])
+        self.assertEqual(Path(self.folder, "copy.asm").read_text(), COUNTER)
+
+    def test_a_short_form_takes_a_step(self) -> None:
+        Path(self.folder, "game.asm").write_text(COUNTER)
+        _, short, errors = self.shell("reg 4\nscr 4\n", "game.asm", "--quiet")
+        self.assertEqual((short, errors), (self.shell("regs 4\nscreen 4\n", "game.asm", "--quiet")[1], ""))
+
+    def test_binary_numbers_are_those_of_a_source(self) -> None:
+        _, output, errors = self.shell("print $101\nprint 0b11\nprint $1..1\n", "--quiet")
+        self.assertEqual((output, errors), ("$101 = 5 = #05 = $00000101\n0b11 = 3 = #03 = $00000011\n$1..1 = 9 = #09 = $00001001\n", ""))
+
+    def test_a_number_alone_that_is_a_comment(self) -> None:
+        _, output, errors = self.shell("#210\n# 210\n#add\n", "--quiet")
+        told = "a comment begins with `#`: until #210 goes to that address, and x #210 shows its bytes\n"
+        self.assertEqual((output, errors), (told, ""))
+
+    def test_clear_all(self) -> None:
+        Path(self.folder, "game.asm").write_text(COUNTER)
+        _, output, errors = self.shell("break UP\nclear all\n", "game.asm", "--quiet")
+        self.assertEqual((output.splitlines()[1:], errors), (["1 breakpoint removed: UP"], ""))
+
+    def test_check_names_the_lines_behind_end(self) -> None:
+        for source, wanted in (
+            (COUNTER + "STOP: END ; here\n\n        FOO\n", ["END in line 13 ends the source: 1 line behind it is not read"]),
+            (COUNTER + "        END\n        FOO\n        BAR\n", ["END in line 13 ends the source: 2 lines behind it are not read"]),
+            (COUNTER + "        END\n\n", []),
+        ):
+            with self.subTest(source[len(COUNTER) :]):
+                Path(self.folder, "game.asm").write_text(source)
+                shown = self.shell("check\n", "game.asm", "--quiet")[1].splitlines()
+                self.assertEqual([line for line in shown if "behind" in line], wanted)
 
     def test_pc_inside_a_line_is_told(self) -> None:
         Path(self.folder, "game.asm").write_text(INSIDE)
@@ -148,6 +232,20 @@ class Arguments(AtPipe):
     def test_an_option_that_is_nearly_one(self) -> None:
         _, _, errors = self.shell("", "--kyes", "four.keys")
         self.assertEqual(errors, "chipbench-shell: no option --kyes; did you mean --keys?; chipbench-shell --help lists the options\n")
+
+    def test_a_step_is_a_command(self) -> None:
+        _, _, errors = self.shell("", "game.asm", "--steps", "5")
+        told = "no option --steps: the command goto 5 goes to step 5; chipbench-shell --help lists the options"
+        self.assertEqual(errors, f"chipbench-shell: {told}\n")
+
+    def test_without_an_installation_a_hint_names_the_path_in_the_clone(self) -> None:
+        for script, tool, told in (
+            ("play\n", "chipbench-page", "{0} game.asm opens the page, where you can play"),
+            ("load x.asm\n", "chipbench-shell", "a shell has one source: quit, and start {0} FILE"),
+        ):
+            with self.subTest(tool):
+                _, _, errors = self.shell(script, "--quiet", path=os.defpath)
+                self.assertEqual(errors, f"line 1: no command '{script.split()[0]}': {told.format(TOP / 'packaging' / tool)}\n")
 
     def test_a_source_taken_for_an_image_and_an_image_taken_for_a_source(self) -> None:
         Path(self.folder, "game.asm").write_text(COUNTER)

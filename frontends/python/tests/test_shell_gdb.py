@@ -2,6 +2,7 @@
 
 from __future__ import annotations
 
+import re
 import sys
 import unittest
 from pathlib import Path
@@ -73,7 +74,7 @@ class Gdb(AtPipe):
                 "no breakpoints",
                 "breakpoint UP if V0 = 3, once, 020c",
                 "step 21, 020c, line 9: UP:     ADD V0, 1",
-                "step 32, 020a: the machine has stopped for S1: the program ended",
+                "step 32, 020a: the machine has stopped for S1: the program ended; line 8: EXIT",
             ],
         )
 
@@ -82,6 +83,9 @@ class Gdb(AtPipe):
         self.assertEqual(self.answered("goto 4", "info frame")[-1], "called from 0204, line 5: LOOP:   CALL UP")
         self.assertEqual(self.answered("info reg")[1], "V0 00  V1 00  V2 00  V3 00  V4 00  V5 00  V6 00  V7 00")
         _, _, errors = self.shell("info\ninfo threads\n", "game.asm")
+        # GDB's words that have no command of that name here are in the help too
+        _, shown, _ = self.shell("help info\n", "--quiet")
+        self.assertEqual([word for word in ("stack", "line", "variables") if not re.search(rf"\b{word}\b", shown)], [])
         told = "info takes one of these: registers, breakpoints, display, frame, stack, keys, source, line, symbols, variables"
         self.assertEqual(errors, f"line 1: {told}\nline 2: {told}\n")
 

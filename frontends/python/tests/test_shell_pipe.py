@@ -16,6 +16,7 @@ from at_pipe import AtPipe  # noqa: E402
 from programs import PYTHON, TOP  # noqa: E402
 
 import chipbench_lines  # noqa: E402
+import chipbench_shell.__main__ as start  # noqa: E402
 from chipbench_shell import advice, game, key_file, session, shell, values, views  # noqa: E402
 
 PAGE = (TOP / "docs/SHELL.md").read_text(encoding="utf-8")
@@ -39,7 +40,7 @@ TASKS = {
 
 def load_tests(loader: unittest.TestLoader, tests: unittest.TestSuite, pattern: str | None) -> unittest.TestSuite:
     """The docstrings of the shell are tests too; they need no program."""
-    for module in (advice, chipbench_lines, game, key_file, session, shell, values, views):
+    for module in (advice, chipbench_lines, game, key_file, session, shell, start, values, views):
         tests.addTests(doctest.DocTestSuite(module))
     return tests
 
@@ -140,7 +141,7 @@ class Pipes(AtPipe):
     def test_arguments_that_are_wrong(self) -> None:
         for arguments, wanted, said in (
             (("game.asm", "--image", "x"), 2, "give SOURCE or --image, not both"),
-            (("--tape", "0g"), 2, "not bytes in hexadecimal: 0g"),
+            (("--tape", "0g"), 2, "without 0x or #, as in --tape 2a07; found 0g"),
             (("--rate", "0"), 2, "rate"),
             (("--image", "none.ch8"), 3, "there is no file none.ch8"),
             (("--keys", "none.keys"), 3, "there is no file none.keys"),
