@@ -24,7 +24,7 @@ from typing import Any
 from connections import Connections
 from files import Files, Refused, shown
 from page_requests import NAMES, Bridge
-from request_values import MAX_BODY, OPTION_VALUES
+from request_values import MAX_BODY, OPTION_FORMS, OPTION_VALUES
 from served import content_of, missing_programs, served_files
 
 HOST = "127.0.0.1"
@@ -35,7 +35,7 @@ IDLE_SECONDS = 60
 
 # the settings at the start, as for `chipbench debug`
 SETTINGS = {
-    "rate": ("N", "how many steps lie between two ticks of the timers"),
+    "rate": ("N", "how many steps lie between two ticks of the timers: a tick is 1/60 of a second, so 10 is 600 steps a second"),
     "tape": ("HEX", "the random bytes"),
     "seed": ("N", "a number that makes the random bytes"),
     "profile": ("NAME", "schip, vip, chip48, schip10, schip-modern or octo"),
@@ -184,6 +184,12 @@ class Handler(http.server.BaseHTTPRequestHandler):
             raise Refused(400, "no object")
         return request
 
+    def send_error(self, code: int, message: str | None = None, explain: str | None = None) -> None:
+        """An error of http.server's own, such as an unknown method, is answered as the others are, with all headers also where the
+        request's version isn't known."""
+        self.request_version = self.protocol_version
+        self._refuse(Refused(code, message or self.responses[code][0]))
+
     def _refuse(self, refused: Refused) -> None:
         # what wasn't read of the request would be taken for the next one
         self.close_connection = True
@@ -198,7 +204,8 @@ class Handler(http.server.BaseHTTPRequestHandler):
         for name, value in {**HEADERS, **(more or {})}.items():
             self.send_header(name, value)
         self.end_headers()
-        self.wfile.write(body)
+        if self.command != "HEAD":
+            self.wfile.write(body)
         self.wfile.flush()
 
     def log_message(self, format: str, *args: Any) -> None:
@@ -258,7 +265,7 @@ def faulty_argument(words: argparse.Namespace, settings: dict[str, str]) -> str 
         return f"--port is a number from 0 to {LAST_PORT}, and not {words.port}"
     for name, value in settings.items():
         if not OPTION_VALUES[name].fullmatch(value):
-            return f"--{name} can't be {value}"
+            return f"--{name} takes {OPTION_FORMS[name]}, and not {value}"
     if words.source is not None and words.image is not None:
         return "give SOURCE or --image, and not both"
     if words.image is not None and not Path(words.image).exists():

@@ -50,14 +50,21 @@ class Files:
         self.folder = (source.parent if source is not None else folder or Path.cwd()).absolute()
 
     def path_of(self, name: Any) -> Path:
-        """The path of a plain name in the folder. SOURCE's own name is always one."""
+        """The path of a plain name in the folder, where no link leads out of it. SOURCE's own name is always one."""
         if self.source is not None and name == self.source.name:
             return self.source
         if not isinstance(name, str) or not 0 < len(encoded(name)) < 256 or name.startswith("."):
             raise Refused(400, "a file's name has 1 to 255 bytes and doesn't begin with a full stop")
         if any(character in name for character in "/\\\0\n\r"):
             raise Refused(400, "a file's name has no slash: files are read from and saved to one folder")
-        return self.folder / name
+        path = self.folder / name
+        if not self._is_inside(path):
+            raise Refused(409, f"{shown(name)} leads out of the folder: files are read from and saved to one folder")
+        return path
+
+    def _is_inside(self, path: Path) -> bool:
+        """Whether what a path leads to, link after link, is in the folder."""
+        return Path(os.path.realpath(path)).is_relative_to(os.path.realpath(self.folder))
 
     def names(self) -> list[dict[str, Any]]:
         """The files that the page can open, by name."""
@@ -66,7 +73,8 @@ class Files:
             for entry in entries:
                 if entry.name.startswith(".") or not entry.name.lower().endswith(KINDS):
                     continue
-                with contextlib.suppress(OSError):
+                with contextlib.suppress(OSError, Refused):
+                    self.path_of(entry.name)
                     if entry.is_file():
                         found.append({"name": entry.name, "size": entry.stat().st_size})
         return sorted(found, key=lambda file: file["name"].lower())[:MAX_NAMES]

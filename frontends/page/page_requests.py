@@ -12,6 +12,8 @@ from files import MAX_FILE, Files, Refused, digest_of, read_file, shown
 from request_values import bytes_of
 
 NAMES = ("about", "files", "read", "save")
+#: The memory from address 512 on.
+IMAGE_BYTES = 3584
 
 
 class Bridge:
@@ -35,6 +37,8 @@ class Bridge:
         content = read_file(path)
         if content is None:
             raise Refused(409, f"there is no file {shown(path)}")
+        if len(content) > IMAGE_BYTES:
+            raise Refused(409, f"{shown(path)} can't be opened: it has over {IMAGE_BYTES} bytes")
         self._image = {"name": path.name, "path": str(path.resolve()), "text": content.decode("latin-1"), "digest": digest_of(content)}
 
     def about(self, _: dict[str, Any]) -> dict[str, Any]:

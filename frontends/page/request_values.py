@@ -18,6 +18,15 @@ OPTION_VALUES = {
     "quirks": re.compile(r"[a-z0-9=,+]{1,300}"),
     "every": re.compile(r"[0-9]{1,9}"),
 }
+#: What each of them takes, for whoever types it.
+OPTION_FORMS = {
+    "rate": "a number, as in --rate 10",
+    "tape": "two hexadecimal digits for each byte, without 0x or #, as in --tape 2a07",
+    "seed": "a number, as in --seed 7",
+    "profile": "a name, as in --profile vip",
+    "quirks": "choices with commas between them, as in --quirks shift=vy,edges=wrap",
+    "every": "a number, as in --every 1000",
+}
 
 
 def bytes_of(value: Any, most: int) -> bytes:

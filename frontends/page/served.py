@@ -21,7 +21,7 @@ KINDS = {
     "": "text/plain; charset=utf-8",
 }
 #: the modules of frontends/web that the page and its workers are made of
-MODULES = ("carrier", "memory_host", "options", "requests", "session", "system", "trace_search", "worker")
+MODULES = ("carrier", "memory_host", "options", "requests", "seed_tape", "session", "system", "trace_search", "worker")
 PROGRAMS = ("session.wasm", "chipbench.wasm")
 #: those that were built here come before those of the repository
 PROGRAM_FOLDERS = (WEB / "out", TOP.parent / "release", WEB)

@@ -5,9 +5,16 @@ import { BackgroundSearch } from './background_search.mjs';
 /** A cause and the step of a stop, after which the line may be told that it happens in. */
 const STOP = /^(S\d) (\d+)(?:, line (\d+): .*)?$/;
 
+/** A stop that could not be excluded: its cause, its address, and the line there. */
+const LEFT = /^left (S\d) ([0-9a-f]{4})(?:, line (\d+): .*)?$/;
+
+/** The line below `never` where it holds for more than the keys. */
+const FOR_ALL = 'with any keys, random bytes and speed';
+
 /**
- * What `explore` prints: the cause and the step of a stop, up to which step there is none, or that there never is one; and the other
- * causes that were met. Null for anything else.
+ * What `explore` prints: the cause and the step of a stop, up to which step there is none, or that there never is one, and whether
+ * that holds for any random bytes and speed too; the other causes that were met, and the stops that could not be excluded. Null for
+ * anything else.
  */
 export function readExplored(output) {
   const [first, ...rest] = output.split('\n');
@@ -21,6 +28,11 @@ export function readExplored(output) {
   return {
     crash: found === null ? null : { cause: found[1], step: Number(found[2]), line: found[3] === undefined ? null : Number(found[3]) },
     within: within === null ? null : Number(within[1]),
+    isForAll: rest[0] === FOR_ALL,
+    left: rest.flatMap((line) => {
+      const one = LEFT.exec(line);
+      return one === null ? [] : [{ cause: one[1], address: one[2], line: one[3] === undefined ? null : Number(one[3]) }];
+    }),
     others,
   };
 }

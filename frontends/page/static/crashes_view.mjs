@@ -61,9 +61,18 @@ export class CrashesView {
     setProperty(this.#show, 'disabled', crash === null || isLoaded);
     setProperty(this.#mine, 'disabled', !isLoaded);
     setProperty(this.#badge, 'hidden', crash === null);
-    const others = state.found?.others ?? [];
-    this.#others.replaceChildren(...others.map(({ cause, step }) => element('li', { textContent: `${cause} at step ${grouped(step)}: ${codeText(cause)}` })));
+    this.#others.replaceChildren(...furtherTexts(state.found).map((textContent) => element('li', { textContent })));
   }
+}
+
+/** The other causes that were met, and the stops that could not be excluded, except that of the crash. */
+export function furtherTexts(found) {
+  if (!found) return [];
+  const left = found.left.filter(({ cause, line }) => cause !== found.crash?.cause || line !== found.crash.line);
+  return [
+    ...found.others.map(({ cause, step }) => `${cause} at step ${grouped(step)}: ${codeText(cause)}`),
+    ...left.map(({ cause, address, line }) => `Not excluded: ${cause} at ${line === null ? address : `line ${line}`}: ${codeText(cause)}`),
+  ];
 }
 
 function textOf({ name, step, states, found, why }) {
@@ -82,5 +91,6 @@ function textOf({ name, step, states, found, why }) {
     const line = found.crash.line === null ? '' : `, line ${found.crash.line}`;
     return `${found.crash.cause} at step ${grouped(found.crash.step)}${line}: ${codeText(found.crash.cause)}. ${count === 1 ? 'One key event leads' : `${grouped(count)} key events lead`} there.`;
   }
+  if (found.isForAll) return 'It can’t crash: proved for any keys, any random bytes and any speed.';
   return found.within === null ? 'No keys make it stop, at any step.' : `No keys make it stop up to step ${grouped(found.within)}.`;
 }

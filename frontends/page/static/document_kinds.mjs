@@ -5,7 +5,7 @@ import { readFile } from './text_form.mjs';
 export const UNTITLED = 'untitled';
 
 /** A key of its own, for a document that has no place in a file system. */
-const newKey = () => `own ${Date.now()} ${Math.random().toString(36).slice(2)}`;
+export const newKey = () => `own ${Date.now()} ${Math.random().toString(36).slice(2)}`;
 
 /**
  * A document: its key, under which the browser keeps it, its name, whether it is a file that is written in its place, and then the
@@ -36,9 +36,18 @@ export function withForm(byteString) {
   return { text, form: { encoding, lineEnd } };
 }
 
-/** What is said beside a document's name: whether a file has its text, and else whether the browser keeps it. */
-export function stateText({ isFile, isGone, isSaved, isFull }) {
-  const kept = isFull ? 'NOT kept: this browser has no room' : 'kept in this browser';
+/**
+ * What is said beside a document's name: whether a file has its text, and else whether the browser keeps it. `isLasting` is false where the
+ * browser may delete what it keeps.
+ */
+export function stateText({ isFile, isGone, isSaved, isFull, isLasting = null }) {
+  const kept = isFull ? 'NOT kept: this browser has no room' : `kept in this browser${isLasting === false ? ' for now' : ''}`;
   const where = !isFile ? 'not in a file' : isGone ? 'the file is gone' : 'not saved';
   return isSaved ? 'saved' : `${where}; ${kept}`;
+}
+
+/** The longer text of the same. */
+export function stateTitle(isLasting) {
+  if (isLasting === null) return '';
+  return isLasting ? 'This browser keeps your texts until you delete them.' : 'This browser may delete your texts when the disk is nearly full. Save or download what has to last.';
 }

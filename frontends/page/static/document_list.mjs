@@ -19,8 +19,13 @@ export class DocumentList {
   }
 
   async #draw() {
-    const rows = (await this.#documents.kept()).filter(({ isFile, isEmpty }) => isFile || !isEmpty);
-    this.#rows.replaceChildren(...(rows.length > 0 ? rows.map((row) => this.#row(row)) : [element('p', { textContent: 'None.' })]));
+    let none = 'None.';
+    const kept = await this.#documents.kept().catch((fault) => {
+      none = `They can't be read: ${fault.message}.`;
+      return [];
+    });
+    const rows = kept.filter(({ isFile, isEmpty }) => isFile || !isEmpty);
+    this.#rows.replaceChildren(...(rows.length > 0 ? rows.map((row) => this.#row(row)) : [element('p', { textContent: none })]));
     const size = rows.reduce((sum, row) => sum + row.size, 0);
     byId('document-sum').textContent = `${grouped(rows.length)} ${rows.length === 1 ? 'document' : 'documents'}, ${grouped(Math.ceil(size / 1000))} KB`;
   }

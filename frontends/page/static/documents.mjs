@@ -1,21 +1,20 @@
-// The author's document: the file that it is of, what the browser kept of it, saving, and other documents in its place.
+// The author's document: which one is open, what the browser kept of it, and other documents and texts in its place.
 
-import { request } from './bridge.mjs';
-import { asSource, elsewhere, fileDocument, imageKey, sourceName, stateText, UNTITLED, withForm } from './document_kinds.mjs';
-import { byId, setText } from './dom.mjs';
+import { elsewhere, fileDocument, imageKey, newKey, UNTITLED } from './document_kinds.mjs';
 import { EarlierTexts } from './earlier_texts.mjs';
-import { sourceOf } from './image_source.mjs';
+import { firstDocument, foundDocument, listOf } from './found_document.mjs';
+import { FileSaving } from './file_saving.mjs';
+import { FileWatch } from './file_watch.mjs';
 import { KeyHistory } from './key_history.mjs';
 import { KeyScript } from './key_script.mjs';
+import { LastingStorage } from './lasting_storage.mjs';
 import { notice, takeAllAway, takeAway } from './notices.mjs';
-import { tellFull } from './page_faults.mjs';
+import { OpenDocument } from './open_document.mjs';
+import { tellFull, tellUnread } from './page_faults.mjs';
 import { Store, tabDocument } from './store.mjs';
 import { TextHistory } from './text_history.mjs';
-import { digestOf, readFile, writeFile } from './text_form.mjs';
+import { digestOf, readFile } from './text_form.mjs';
 import { Windows } from './windows.mjs';
-
-/** So often a file is looked at, for another program may save it. */
-const LOOK_MILLISECONDS = 1500;
 
 export class Documents extends EventTarget {
   #about;
@@ -24,16 +23,10 @@ export class Documents extends EventTarget {
   #store;
   #earlier;
   #windows = new Windows();
-  #open = elsewhere({ name: UNTITLED });
-  /** The text of the file when it was read or saved last, or null; and the digest of the file's text that the author was told of last. */
-  #savedText = null;
-  #toldDigest = null;
-  /** Whether the file that the text is of was there when it was looked at last. */
-  #isThere = true;
-  #askName;
+  #lasting = new LastingStorage();
+  #open;
+  #saving;
   #optionsFor;
-  /** Whether the file is being looked at. */
-  #isLooking = false;
   /** Whether the document is the one that the page was opened on, whose settings the command line may say. */
   #isFirst = true;
   /** The number of the last opening: one that takes long gives way to the next. */
@@ -48,32 +41,44 @@ export class Documents extends EventTarget {
     this.#about = about;
     this.#model = model;
     this.#editor = editor;
-    this.#askName = askName;
     this.#optionsFor = optionsFor;
+    this.#open = new OpenDocument(model, about.start);
     this.#earlier = new EarlierTexts(() => this.#tellFull());
-    this.#store = new Store(model, {
-      about: () => ({ key: this.#open.key, name: this.#open.name, isFile: this.#open.isFile, known: this.#open.digest, isSaved: this.#isSaved }),
-      onOther: (record) => {
-        this.#earlier.put({ text: record.text, form: record.form, key: record.key, name: record.name, isFile: record.isFile, why: 'kept by another window' });
-        this.#offerEarlier('Another window has changed this text.');
-      },
-    });
+    this.#store = new Store(model, { about: () => this.#open.record });
     this.#store.addEventListener('full', () => this.#tellFull());
-    this.#store.addEventListener('kept', () => this.#windows.kept());
+    this.#store.addEventListener('kept', () => {
+      this.#windows.kept();
+      this.#earlier.keep();
+      if (model.isEdited) this.#lasting.ask();
+    });
+    this.#lasting.addEventListener('change', () => {
+      if (!this.#isFirst) this.tellState();
+    });
+    this.#store.addEventListener('other', async () => {
+      await this.#earlier.read();
+      this.#offerEarlier('Another window has changed this text.');
+    });
     this.#windows.addEventListener('other', () => notice('window', 'Another window has this document open too. What one of them keeps takes the place of what the other kept, which is then an earlier text.'));
     this.#windows.addEventListener('kept', () => this.#tellOther());
-    addEventListener('focus', () => this.#checkDisk());
-    setInterval(() => {
-      if (!document.hidden) this.#checkDisk();
-    }, LOOK_MILLISECONDS);
+    this.#saving = new FileSaving(this, { model, store: this.#store, open: this.#open, picks: about.picks === true, askName });
+    new FileWatch(this, { model, editor, open: this.#open });
   }
 
   get name() {
-    return this.#open.name;
+    return this.#open.is.name;
   }
 
   get key() {
-    return this.#open.key;
+    return this.#open.is.key;
+  }
+
+  /** Writes the file of the title; where there is none, asks for its name. */
+  save() {
+    return this.#saving.save();
+  }
+
+  saveAs() {
+    return this.#saving.saveAs();
   }
 
   /** All that the browser keeps, the newest first (store.mjs). */
@@ -95,56 +100,51 @@ export class Documents extends EventTarget {
     await this.#store.begin();
     const tab = tabDocument.read(this.#about.start);
     const { isImage, path } = this.#about;
-    const opened = await this.#start(tab === null || tab.key === (isImage ? imageKey(path) : path) ? await this.#firstDocument() : await this.#found(tab));
+    const opened = await this.#start(tab === null || tab.key === (isImage ? imageKey(path) : path) ? await firstDocument(this.#about, this.#store) : await foundDocument(tab, this.#store));
     await this.#earlier.read();
-    const isNew = (entry) => entry.key === this.#open.key && entry.kind !== 'save' && entry.told !== true;
+    const isNew = (entry) => entry.key === this.key && entry.kind !== 'save' && entry.told !== true;
     if (this.earlier.some(isNew)) this.#offerEarlier('');
     return opened;
   }
 
-  /** What the page was opened on; without that the text that was in no file last. */
-  async #firstDocument() {
-    const { isImage, name, text, digest } = this.#about;
+  /** Reads what the browser keeps of a document that is to be opened: all that was done here is in it. */
+  async #readKept(key) {
     try {
-      if (isImage) return elsewhere({ key: imageKey(this.#about.path), name, text: await sourceOf(text), digest });
+      this.#store.keep();
+      const { changes } = this.#store;
+      const kept = await this.#store.read(key);
+      // what was changed meanwhile of the same document is newer, and may be written already
+      return { kept: key === this.#store.key && this.#store.changes !== changes ? this.#store.current : kept, fault: null };
     } catch (fault) {
-      setTimeout(() => notice('upload', `${name} can't be opened: ${fault.message}.`, { bad: true }));
+      return { kept: null, fault };
     }
-    if (name !== null && !isImage) return fileDocument(this.#about);
-    const last = (await this.#store.list()).find((one) => one.name === UNTITLED && !one.isFile);
-    return elsewhere({ key: last?.key, name: UNTITLED });
   }
 
-  /** A document that the browser keeps, with its file where that can be read. */
-  async #found({ key, name, isFile }) {
-    const known = (await this.#store.read(key))?.known ?? null;
-    if (!isFile) return elsewhere({ key, name, digest: known });
-    const found = await request('read', { name, key }).catch(() => null);
-    if (found?.path === key) return fileDocument(found);
-    // a file that the browser has to be asked for again, or that is a download, is written as before; one of another folder isn't reached
-    const isOfBrowser = /^(?:handle|own) /.test(key);
-    return isOfBrowser ? { key, name, isFile: true, digest: known, file: null, isUnread: true } : elsewhere({ key, name, digest: known });
-  }
-
-  /** Shows a document with what the browser kept of it, which is returned; null also where another one was opened meanwhile. */
-  async #start(opened) {
+  /**
+   * Shows a document with what the browser kept of it, which is returned; null also where another one was opened meanwhile. `why` is
+   * said where the text before isn't in a file.
+   */
+  async #start(opened, why = null) {
     this.#opening += 1;
     const opening = this.#opening;
-    const kept = await this.#store.read(opened.key);
-    if (opening !== this.#opening) return null;
-    this.#open = opened;
-    const { key, name, isFile, file, digest, isUnread = false } = opened;
-    this.#store.use(key, kept);
-    this.#savedText = isFile && file !== null ? file.text : isUnread && kept?.isSaved ? kept.text : null;
-    this.#toldDigest = digest;
-    this.#isThere = file !== null || isUnread || !isFile;
-    tabDocument.write({ start: this.#about.start, key, name, isFile });
-    takeAllAway();
-    this.#showName();
-    if (file?.hasStrayCr) notice('ends', 'A CR in this file stands elsewhere than at the end of each line: it is shown as the end of a line, and saved as LF.');
+    const { key, name, isFile, file, digest } = opened;
+    const { kept, fault } = await this.#readKept(key);
     const isKept = kept !== null && kept.text !== file?.text;
-    if (isKept && file !== null && (digest === null || kept.known !== digest)) {
-      this.#putAside(kept, isFile ? 'the file was changed since' : 'opened anew');
+    const isReplaced = isKept && file !== null && (digest === null || kept.known !== digest);
+    // it is written before another text is kept in its place
+    if (isReplaced) await this.#earlier.put({ text: kept.text, form: kept.form, key, name, isFile, why: isFile ? 'the file was changed since' : 'opened anew', kind: 'text' });
+    if (opening !== this.#opening) return null;
+    const isLost = why !== null && this.#open.isUnsaved;
+    if (isLost) this.putAside(this.#model, 'not saved when another file was opened');
+    // what was changed while the other document was read belongs to this one
+    this.#store.keep();
+    this.#open.begin(opened, kept);
+    if (fault === null) this.#store.use(key, kept);
+    else this.#store.useSubstitute(newKey());
+    takeAllAway();
+    if (fault !== null) tellUnread(name, fault, { again: () => this.openKept(opened), writeOver: () => this.#store.writeOver(key) });
+    if (file?.hasStrayCr) notice('ends', 'A CR in this file stands elsewhere than at the end of each line: it is shown as the end of a line, and saved as LF.');
+    if (isReplaced) {
       this.#take({ ...kept, ...file, form: undefined, textHistory: undefined, breakLines: [] });
       this.#offerEarlier(`The text is that of ${name}.`);
     } else if (isKept) {
@@ -156,21 +156,22 @@ export class Documents extends EventTarget {
     this.#isFirst = false;
     this.#store.opened();
     this.#windows.use(key);
+    if (isLost) this.#offerEarlier(why);
     return kept;
   }
 
   /** @param {any} contents what a document has */
   #take(contents) {
     const { text, form, encoding, lineEnd, options: kept, look, keys = new KeyScript(), step = 0, played = 0, breakLines = [], textHistory = new TextHistory(), keyHistory = new KeyHistory() } = contents;
-    const options = this.#optionsFor({ kept, isFirst: this.#isFirst, isNew: text === '' && this.#open.file === null });
+    const options = this.#optionsFor({ kept, isFirst: this.#isFirst, isNew: text === '' && this.#open.is.file === null });
     this.#model.startWith({ text, form: form ?? { encoding, lineEnd }, keys, step, played, breakLines, textHistory, keyHistory, options, look });
     this.tellState();
   }
 
   #tellKept(file) {
-    const { isFile } = this.#open;
-    const origin = isFile ? 'text of the file' : /\.(?:asm|s|txt)$/i.test(this.#open.name) ? 'text that was opened' : 'source of the image';
-    const takeFile = () => this.#replace(file.text, file, `The text is now the ${origin}.`);
+    const { isFile, name } = this.#open.is;
+    const origin = isFile ? 'text of the file' : /\.(?:asm|s|txt)$/i.test(name) ? 'text that was opened' : 'source of the image';
+    const takeFile = () => this.replace(file.text, file, `The text is now the ${origin}.`);
     notice('kept', `This text was kept by the browser and isn't in ${isFile ? 'the' : 'a'} file yet.`, {
       choices: [['Go on', () => {}], [`Take the ${origin}`, takeFile]],
     });
@@ -180,12 +181,7 @@ export class Documents extends EventTarget {
 
   /** Opens another document in place of this one, whose text is kept. */
   async open(opened, why) {
-    await this.#store.keep();
-    const { text } = this.#model;
-    const isLost = text !== this.#savedText && text !== this.#open.file?.text;
-    if (isLost) this.#putAside(this.#model, 'not saved when another file was opened');
-    const kept = await this.#start(opened);
-    if (isLost) this.#offerEarlier(why);
+    const kept = await this.#start(opened, why);
     this.dispatchEvent(new Event('open'));
     return kept;
   }
@@ -196,50 +192,62 @@ export class Documents extends EventTarget {
 
   /** Opens a document that the browser keeps. */
   async openKept(row) {
-    return this.open(await this.#found(row), `${row.name} is open now.`);
+    return this.open(await foundDocument(row, this.#store), `${row.name} is open now.`);
   }
 
   /** Whether this is a new document without a text. */
   get isBlank() {
-    return this.#model.text === '' && this.#open.file === null;
+    return this.#model.text === '' && this.#open.is.file === null;
   }
 
   /** A first text: of a file that isn't there yet, or of a document of that name. */
   async startFrom(name, byteString) {
-    if (!this.#open.isFile || !this.isBlank) await this.openText(name, byteString);
+    if (!this.#open.is.isFile || !this.isBlank) await this.openText(name, byteString);
     else this.#editor.replace(0, 0, readFile(byteString).text);
   }
 
   /** A text that was handed to the page: one that it had before, of the same name and bytes, is the same document; any other is a new one. */
   async openText(name, byteString) {
     const digest = digestOf(byteString);
-    const before = (await this.#store.list()).find((one) => one.name === name && !one.isFile && one.known === digest);
+    const before = (await listOf(this.#store)).find((one) => one.name === name && !one.isFile && one.known === digest);
     await this.open(elsewhere({ key: before?.key, name, text: byteString, digest }), `${name} is open now. Save asks for a name.`);
   }
 
   /** Another text takes the place of the author's, as an edit that can be undone. */
-  #replace(text, { encoding, lineEnd }, why) {
-    this.#putAside(this.#model, 'another text took its place');
+  replace(text, { encoding, lineEnd }, why) {
+    this.putAside(this.#model, 'another text took its place');
     this.#editor.replace(0, this.#editor.text.length, text);
     this.#model.setText(text, { encoding, lineEnd });
     this.#offerEarlier(why);
   }
 
-  #putAside({ text, form }, why, kind = 'text') {
-    const { key, name, isFile } = this.#open;
-    this.#earlier.put({ text, form, key, name, isFile, why, kind });
+  /** Puts a text of the open document aside. */
+  putAside({ text, form }, why, kind = 'text') {
+    const { key, name, isFile } = this.#open.is;
+    this.keepEarlier({ text, form, key, name, isFile, why, kind });
+  }
+
+  /** Puts a text aside, with the document that it belongs to. */
+  keepEarlier(entry) {
+    this.#earlier.put(entry);
+  }
+
+  /** The work is kept under this key from now on; `kept` is what the browser kept of it, or null. */
+  use(key, kept) {
+    this.#store.use(key, kept);
+    this.#windows.use(key);
   }
 
   #offerEarlier(why) {
-    this.#earlier.offer(why, this.#open.key, (place) => this.takeBack(place));
+    this.#earlier.offer(why, this.key, (place) => this.takeBack(place));
   }
 
   /** Takes an earlier text back, into its own document. */
   async takeBack(place) {
     const { text, form, name = UNTITLED, key, isFile } = this.#earlier.take(place);
     takeAway('aside');
-    if (key !== this.#open.key && key !== undefined) await this.open(await this.#found({ key, name, isFile }), `${name} is open again.`);
-    if (text !== this.#model.text) this.#replace(text, form, 'The text was taken back.');
+    if (key !== this.key && key !== undefined) await this.open(await foundDocument({ key, name, isFile }, this.#store), `${name} is open again.`);
+    if (text !== this.#model.text) this.replace(text, form, 'The text was taken back.');
   }
 
   drop(place) {
@@ -254,145 +262,19 @@ export class Documents extends EventTarget {
 
   /** Another window has kept this document: its text can be taken. */
   async #tellOther() {
-    const kept = await this.#store.read(this.#open.key);
+    const kept = await this.#store.read(this.key).catch(() => null);
     if (kept === null || kept.text === this.#model.text) return;
-    notice('window', 'Another window has changed this text.', { choices: [['Take its text', () => this.#replace(kept.text, kept.form, 'The text is now that of the other window.')], ['Keep mine', () => {}]] });
+    notice('window', 'Another window has changed this text.', { choices: [['Take its text', () => this.replace(kept.text, kept.form, 'The text is now that of the other window.')], ['Keep mine', () => {}]] });
   }
 
-  // Saving --------------------------------------------------------------------------------------------------------------------
-
-  #showName() {
-    const { name, isFile } = this.#open;
-    byId('file-name').textContent = name;
-    document.title = `${name} – chipbench`;
-    byId('save').textContent = isFile ? 'Save' : 'Save …';
-  }
-
-  /** Whether the file has the text, as far as it is known. */
-  get #isSaved() {
-    return this.#open.isFile && this.#isThere && this.#savedText === this.#model.text;
-  }
+  // What is said of it --------------------------------------------------------------------------------------------------------
 
   tellState() {
-    const isGone = !this.#isThere && this.#savedText !== null;
-    setText(byId('file-state'), stateText({ isFile: this.#open.isFile, isGone, isSaved: this.#isSaved, isFull: this.#store.isFull }));
+    this.#open.tellState({ isFull: this.#store.isFull, isLasting: this.#lasting.isLasting });
   }
 
   #tellFull() {
     this.tellState();
-    tellFull(this.#store.isFull);
-  }
-
-  /** Writes the file of the title; where there is none, asks for its name. */
-  save() {
-    const { isFile, name, key, digest } = this.#open;
-    return isFile ? this.#write({ name, key }, this.#isThere ? digest : null) : this.saveAs();
-  }
-
-  async saveAs() {
-    const { name: own, key, isFile, digest } = this.#open;
-    const asked = await this.#askName(isFile ? own : sourceName(own));
-    if (asked === null) return;
-    const isOwn = isFile && asked.name === own && (asked.key === undefined || asked.key === key);
-    const name = isOwn || this.#about.picks ? asked.name : asSource(asked.name);
-    await this.#write({ name, key: asked.key ?? (this.#about.picks ? undefined : key) }, isOwn ? digest : null);
-  }
-
-  /** Writes a file, where it is still the one that is known. */
-  async #write({ name, key }, known) {
-    const { document: number, text, form } = this.#model;
-    try {
-      const reply = await request('save', { name, key, text: writeFile(text, form), known });
-      // what is saved meanwhile is of another document
-      if (number !== this.#model.document) return;
-      if (reply.saved) await this.#saved(text, reply);
-      else this.#askToOverwrite(reply);
-    } catch (fault) {
-      const kept = this.#store.isFull ? 'Nothing keeps the text but this window.' : 'Nothing is lost: the text is kept in this browser.';
-      notice('save', `It wasn't saved: ${fault.message}. ${kept}`, { bad: true });
-    }
-  }
-
-  async #saved(text, { name, path, digest }) {
-    const before = this.#open;
-    const isMoved = path !== before.key;
-    const kept = isMoved ? await this.#store.read(path) : null;
-    if (before !== this.#open) return;
-    if (this.#savedText !== null && this.#savedText !== text && path === this.#open.key) {
-      this.#putAside({ text: this.#savedText, form: this.#model.form }, 'in the file before you saved', 'save');
-    }
-    this.#open = { key: path, name, isFile: true, digest, file: { text, ...this.#model.form } };
-    if (isMoved) {
-      this.#store.use(path, kept);
-      this.#windows.use(path);
-    }
-    this.#savedText = text;
-    this.#toldDigest = digest;
-    this.#isThere = true;
-    tabDocument.write({ start: this.#about.start, key: path, name, isFile: true });
-    for (const told of ['save', 'kept', 'disk']) takeAway(told);
-    this.#showName();
-    this.tellState();
-    this.#store.touch();
-    await this.#store.keep();
-    // what was in no file is in this one now
-    if (isMoved && !before.isFile) await this.#store.remove(before.key).catch(() => {});
-  }
-
-  #askToOverwrite({ name, path, text, digest }) {
-    const isOwn = path === this.#open.key;
-    const number = this.#model.document;
-    const overwrite = () => {
-      // asked of another document by now
-      if (number !== this.#model.document) return undefined;
-      if (text !== null) this.#earlier.put({ ...withForm(text), name, key: path, isFile: true, why: 'in the file before it was written over', kind: 'text' });
-      return this.#write({ name, key: path }, digest);
-    };
-    const told = isOwn ? `${name} was changed by another program since you opened it.` : `There is a file ${name} already.`;
-    notice('save', `${told} It wasn't saved.`, { bad: true, choices: [['Write mine over it', overwrite], ['Leave it', () => {}]] });
-  }
-
-  /** Takes a file that another program changed, where nothing is unsaved here; else tells of it, once for each of its texts. */
-  async #checkDisk() {
-    if (!this.#open.isFile || this.#isLooking) return;
-    this.#isLooking = true;
-    const { name, key } = this.#open;
-    const found = await request('read', { name, key }).catch(() => null);
-    this.#isLooking = false;
-    if (found === null || found.path !== this.#open.key || key !== this.#open.key) return;
-    this.#setThere(found.text !== null);
-    if (found.digest === this.#toldDigest || found.text === null) return;
-    this.#toldDigest = found.digest;
-    if (this.#model.text === this.#savedText) {
-      this.#follow(found);
-      return;
-    }
-    const take = () => {
-      this.#open = fileDocument(found);
-      this.#savedText = this.#open.file.text;
-      this.#replace(this.#savedText, this.#open.file, 'The text is now that of the file.');
-      this.tellState();
-    };
-    notice('disk', `${found.name} was changed by another program.`, { choices: [['Take its text', take], ['Keep mine', () => {}]] });
-  }
-
-  #setThere(isThere) {
-    if (isThere === this.#isThere) return;
-    this.#isThere = isThere;
-    this.tellState();
-    if (!isThere) notice('disk', `${this.#open.name} was deleted or moved by another program. Save writes it again.`);
-  }
-
-  /** The text becomes that of the file, as an edit that can be undone. */
-  #follow(found) {
-    this.#putAside(this.#model, 'in the file before another program changed it', 'save');
-    this.#open = fileDocument(found);
-    const { text, encoding, lineEnd } = this.#open.file;
-    this.#savedText = text;
-    this.#editor.become(text);
-    this.#model.setText(text, { encoding, lineEnd });
-    this.tellState();
-    takeAway('disk');
-    notice('followed', `${found.name} was saved by another program: its text is here now. Undo brings the one before back.`);
+    tellFull(this.#store.isFull || this.#earlier.isFull);
   }
 }

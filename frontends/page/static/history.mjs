@@ -9,12 +9,13 @@ export class History {
   take(kept, isChange) {
     if (!Array.isArray(kept?.done) || !Array.isArray(kept.undone)) return;
     if (![...kept.done, ...kept.undone].every(isChange)) return;
-    this.done = kept.done;
-    this.undone = kept.undone;
+    this.done = [...kept.done];
+    this.undone = [...kept.undone];
   }
 
+  /** As it is kept: what is changed later isn't in it. */
   toJSON() {
-    return { done: this.done, undone: this.undone };
+    return { done: [...this.done], undone: [...this.undone] };
   }
 
   get canUndo() {

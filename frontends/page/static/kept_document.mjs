@@ -30,6 +30,12 @@ export function documentOf(record) {
   };
 }
 
+/** A record's text as one that is put aside, and why it is. */
+export function earlierOf({ text, form, key, name, isFile }, why) {
+  const time = Date.now();
+  return { text, form: formOf(form), key, name, isFile, why, time, id: `${time} ${Math.random()}` };
+}
+
 /** How much room a record takes, in characters. */
 export const sizeOf = (record) => JSON.stringify(record).length;
 

@@ -153,18 +153,19 @@ class Page {
     this.documentList = new DocumentList(this.documents);
     this.exports = new Exports(parts);
     this.gameExport = new GameExport(parts);
-    this.start = new StartPage({ documents: this.documents, editor: this.editor });
+    this.start = new StartPage({ documents: this.documents, editor: this.editor, settled: () => this.viewer.settle() });
   }
 
   async #begin() {
     this.#listen();
     const kept = await this.documents.begin();
+    const { document: number } = this.model;
     await findLastStep(this.#about, this);
     byId('step').max = this.model.lastStep;
-    if (kept !== null) takeKeptPlace(this.model, kept);
+    if (kept !== null) takeKeptPlace(this.model, number, kept.step);
     this.#begun = true;
-    this.start.showWhereBlank();
     this.viewer.refresh();
+    this.start.showWhereBlank();
     this.#beginBackground();
   }
 
@@ -261,9 +262,13 @@ class Page {
   }
 }
 
-try {
-  globalThis.chipbenchPage = new Page(await request('about'));
-} catch (fault) {
-  notice('fault', `The page can't begin: ${fault.message}`, { bad: true });
-  console.error(fault);
+async function begin() {
+  try {
+    globalThis.chipbenchPage = new Page(await request('about'));
+  } catch (fault) {
+    notice('fault', `The page can't begin: ${fault.message}`, { bad: true });
+    console.error(fault);
+  }
 }
+
+begin();

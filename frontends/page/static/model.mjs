@@ -59,6 +59,11 @@ export class Model extends EventTarget {
     return Math.max(this.played, this.keys.events.at(-1)?.step ?? 0);
   }
 
+  /** Whether the text or the keys were changed, as far as that can be undone. */
+  get isEdited() {
+    return this.textHistory.canUndo || this.keyHistory.canUndo;
+  }
+
   get rate() {
     return Number(this.options.rate ?? 10);
   }

@@ -1,12 +1,13 @@
 // What earlier versions of the page kept in the browser's small storage is taken over into the database, once; and what a window that
 // is closed had not written yet.
 
-import { inStore, readOne, taken } from './database.mjs';
-import { formOf } from './kept_document.mjs';
+import { inStore, inStores, taken } from './database.mjs';
+import { earlierOf, formOf } from './kept_document.mjs';
 
 const PREFIX = 'chipbench-page ';
 const EARLIER = 'chipbench-page, earlier';
 const PENDING = 'chipbench-page, pending ';
+const WINDOW = Math.random();
 
 function parsed(text) {
   try {
@@ -26,11 +27,11 @@ function oldRecord(slot, content, history) {
   return { ...kept, key: slot, name, isFile: !isElsewhere && !isUntitled, history: parsed(history), time: Date.now(), stamp: 'taken over' };
 }
 
-/** Puts a record under its key; but not over one that is there already, unless `isNewer`. */
-const putRecord = (record, isNewer) =>
+/** Puts a record under its key, but not over one that is there already. */
+const putRecord = (record) =>
   inStore('documents', 'readwrite', (store) => {
     taken(store.get(record.key), (there) => {
-      if (there === undefined || isNewer) store.put(record);
+      if (there === undefined) store.put(record);
     });
   });
 
@@ -41,7 +42,7 @@ export async function takeOver(storage = localStorage) {
   for (const name of slots) {
     const slot = name.slice(PREFIX.length);
     const record = oldRecord(slot, storage[name], storage[`${name}, history`]);
-    if (record !== null) await putRecord(record, false);
+    if (record !== null) await putRecord(record);
     for (const gone of [name, `${name}, history`, `${name}, aside`]) storage.removeItem(gone);
   }
   await takeEarlier(storage);
@@ -54,50 +55,77 @@ async function takeEarlier(storage) {
     await inStore('earlier', 'readwrite', (store) => {
       texts.forEach(({ slot, form, ...one }, place) => {
         const time = Number.isFinite(one.time) ? one.time : Date.now();
-        store.put({ ...one, form: formOf(form), key: slot, time, id: `${time} ${place}` });
+        store.put({ ...one, form: formOf(form), key: slot ?? one.key, time, id: one.id ?? `${time} ${place}` });
       });
     });
   }
   storage.removeItem(EARLIER);
 }
 
-async function takePending(storage) {
+/** Keeps texts that were put aside and aren't written yet, of a window that is being closed. */
+export function keepEarlierPending(texts) {
+  try {
+    const others = [parsed(localStorage.getItem(EARLIER))].flat().filter((one) => typeof one?.text === 'string' && !texts.some(({ id }) => id === one.id));
+    localStorage.setItem(EARLIER, JSON.stringify([...others, ...texts]));
+  } catch {
+    // a page whose texts can't be written asks before it is closed
+  }
+}
+
+/** Takes over what closed windows had not written: of one document, or of all. */
+async function takePending(storage, key = null) {
   for (const name of Object.keys(storage).filter((one) => one.startsWith(PENDING))) {
     const record = parsed(storage.getItem(name));
-    if (typeof record?.key === 'string' && typeof record.text === 'string') await takeWork(record);
+    const isDocument = typeof record?.key === 'string' && typeof record.text === 'string';
+    if (key !== null && !(isDocument && record.key === key)) continue;
+    if (isDocument) await takeWork(record);
     storage.removeItem(name);
   }
 }
 
+/** Takes over what closed windows had not written of a document that is read now. */
+export const takePendingOf = (key) => takePending(smallStorage(), key);
+
 /**
- * Takes what a window had that was closed. What another window has kept since stays where this one had done no work, and else is put
- * aside.
+ * Takes what a window had that was closed; `before` are the stamps that the window itself had read or written. What another window has
+ * kept since stays where the closed one had done no work, and else is put aside.
  */
-async function takeWork({ before, isWork, ...record }) {
-  const there = await readOne('documents', record.key);
-  const isOther = there !== undefined && there.stamp !== before && there.stamp !== record.stamp;
-  if (isOther && !isWork) return;
-  if (isOther && there.text !== record.text) {
-    const { text, form, key, name, isFile } = there;
-    const time = Date.now();
-    await inStore('earlier', 'readwrite', (store) => store.put({ text, form: formOf(form), key, name, isFile, why: 'kept by another window', time, id: `${time} ${Math.random()}` }));
+const takeWork = ({ before, isWork, ...record }) =>
+  inStores(['documents', 'earlier'], 'readwrite', ([store, earlier]) => {
+    taken(store.get(record.key), (there) => {
+      const isOther = there !== undefined && ![before, record.stamp].flat().includes(there.stamp);
+      if (isOther && !isWork) return;
+      if (isOther && typeof there.text === 'string' && there.text !== record.text) earlier.put(earlierOf(there, 'kept by another window'));
+      store.put(record);
+    });
+  });
+
+/** The browser's small storage; an empty one where there is none. */
+function smallStorage() {
+  try {
+    return localStorage;
+  } catch {
+    return /** @type {any} */ ({});
   }
-  await putRecord(record, true);
 }
 
-/** Keeps what isn't written yet of a window that is being closed, which has no time for the database. */
+/** Where this window keeps what isn't written of a document: each window has a place of its own. */
+const pendingName = (key) => `${PENDING}${key} ${WINDOW}`;
+
+/** Keeps what isn't written yet of a window that is being closed, which has no time for the database. Returns whether there is room. */
 export function keepPending(record) {
   try {
-    localStorage.setItem(PENDING + record.key, JSON.stringify(record));
+    localStorage.setItem(pendingName(record.key), JSON.stringify(record));
+    return true;
   } catch {
-    // a page whose texts can't be kept asks before it is closed
+    return false;
   }
 }
 
 /** The database has it by now. */
 export function dropPending(key) {
   try {
-    localStorage.removeItem(PENDING + key);
+    localStorage.removeItem(pendingName(key));
   } catch {
     // there is no small storage either
   }

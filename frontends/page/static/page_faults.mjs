@@ -23,6 +23,12 @@ export function tellFault(fault, again) {
   if (!(fault instanceof BridgeFault || fault instanceof ProgramEnded)) console.error(fault);
 }
 
+/** What the browser keeps of a document couldn't be read: `again()` reads it again, and `writeOver()` keeps this text in its place. */
+export function tellUnread(name, fault, { again, writeOver }) {
+  const text = `What this browser keeps of ${name} can't be read: ${fault.message}. It is left as it is, and what you do here is kept as another document.`;
+  notice('unread', text, { bad: true, choices: [['Read it again', again], ['Write over it', writeOver], ['Go on', () => {}]] });
+}
+
 /** The browser has no room for what is to be kept, or has it again. */
 export function tellFull(isFull) {
   if (!isFull) {

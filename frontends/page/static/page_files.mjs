@@ -144,7 +144,7 @@ export function ownRequests({ examples, documents, game }) {
     save: (body) => files.save(body),
     pick: () => files.pick(),
     choose: ({ name }) => files.choose(name),
-    game: async () => game,
+    game,
     text: async ({ name }) => ({ text: examples[name] ?? documents[name] ?? null }),
   };
 }

@@ -42,9 +42,10 @@ export async function findLastStep(about, { model, workbench }, isAgain = false)
   return undefined;
 }
 
-/** Takes the keys and the step that were kept, as far as the program has such steps. */
-export function takeKeptPlace(model, { keys, step }) {
-  const { lastStep } = model;
+/** Takes the step that was kept, and leaves out key events past the last step; nothing where another document than `number` is open by now. */
+export function takeKeptPlace(model, number, step) {
+  const { document, keys, lastStep } = model;
+  if (document !== number) return;
   const past = keys.events.filter((event) => event.step > lastStep);
   if (past.length > 0) {
     notice('past', `Events past the last step of this program, ${grouped(lastStep)}, were left out: ${past.length}.`);

@@ -42,10 +42,7 @@ export class Player extends EventTarget {
   setRun(hasRun) {
     if (hasRun === this.#hasRun) return;
     this.#hasRun = hasRun;
-    if (!hasRun && this.#direction !== 0) {
-      this.play(0);
-      this.#tell('paused: a line has a fault');
-    }
+    if (!hasRun && this.#direction !== 0) this.pause('a line has a fault');
     this.dispatchEvent(new Event('change'));
   }
 
@@ -66,6 +63,12 @@ export class Player extends EventTarget {
     this.guard?.begin(this.#model.step);
     if (direction !== 0) requestAnimationFrame((now) => this.#tick(now));
     this.dispatchEvent(new Event('change'));
+  }
+
+  /** Plays no further, and says why. */
+  pause(why) {
+    this.play(0);
+    this.#tell(`paused: ${why}`);
   }
 
   toggle(direction) {
@@ -126,8 +129,7 @@ export class Player extends EventTarget {
     if (step >= lastStep) return;
     // the release is an event too: where the program doesn't take both, the play goes no further
     if (keys.size + 2 > MOST_EVENTS) {
-      this.play(0);
-      this.#tell(`paused: there are ${grouped(keys.size)} key events, and the program takes no more than ${grouped(MOST_EVENTS)}`);
+      this.pause(`there are ${grouped(keys.size)} key events, and the program takes no more than ${grouped(MOST_EVENTS)}`);
       return;
     }
     this.#pressed.set(key, step);

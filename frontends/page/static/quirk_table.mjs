@@ -30,7 +30,7 @@ export const QUIRKS = {
   },
   "scroll": {
     "stored": "00CN, 00FB, 00FC: the pixels move by n rows or 4 columns of stored pixels",
-    "whole": "00CN, 00FB, 00FC: they move by n rows or 4 columns of the size: in the low size twice as far"
+    "whole": "00CN, 00FB, 00FC: the pixels move by n rows or 4 columns of the current size: in the low size twice as far"
   },
   "size": {
     "keep": "00FE, 00FF: the pixels stay",
@@ -42,7 +42,7 @@ export const QUIRKS = {
   },
   "instructions": {
     "super": "00CN, 00FB to 00FF, FX30, FX75 and FX85 are instructions",
-    "base": "they are not instructions, S2: the size is always the low one"
+    "base": "these words are not instructions, S2: the size is always the low one"
   }
 };
 

@@ -31,17 +31,11 @@ async function posted(name, body = {}) {
   return reply.json();
 }
 
-/** The page of an exported game, and the session's module, in base64. */
+/** The page of an exported game, and the bytes of the session's module. */
 async function game() {
   const template = await textOf('game.html');
-  const binary = await served('session.wasm', (reply) => reply.blob());
-  if (template === null || binary === null) return { template: null, module: null };
-  const address = await new Promise((done) => {
-    const reader = new FileReader();
-    reader.onload = () => done(reader.result);
-    reader.readAsDataURL(binary);
-  });
-  return { template, module: address.slice(address.indexOf(',') + 1) };
+  const module = await served('session.wasm', (reply) => reply.arrayBuffer());
+  return template === null || module === null ? { template: null } : { template, module: new Uint8Array(module) };
 }
 
 // asked at once, while the modules of the page are fetched
@@ -49,8 +43,8 @@ const about = posted('about');
 about.catch(() => {});
 const posts = Object.fromEntries(['files', 'read', 'save'].map((name) => [name, (body) => posted(name, body)]));
 const own = { ...posts, about: () => about, game, text: async ({ name }) => ({ text: await textOf(name) }) };
-const [session, program] = ['session.wasm', 'chipbench.wasm'].map(moduleOf);
+const modules = { session: () => moduleOf('session.wasm'), program: () => moduleOf('chipbench.wasm') };
 const plain = { createScriptURL: (address) => address };
 const addresses = globalThis.trustedTypes?.createPolicy('worker', plain) ?? plain;
-carryByWorkers(() => new Worker(addresses.createScriptURL('worker.mjs'), { type: 'module' }), { session, program }, own);
+carryByWorkers(() => new Worker(addresses.createScriptURL('worker.mjs'), { type: 'module' }), modules, own);
 await import('./main.mjs');

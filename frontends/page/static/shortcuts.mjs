@@ -51,12 +51,10 @@ export function listen({ player, look, act, editsKeys }) {
     player.press(key);
   };
   const hasModifier = (event) => event.ctrlKey || event.altKey || event.metaKey;
-  /** A list takes no letters from a game that plays. */
-  const isTyped = (target) => takesText(target) && !(target instanceof HTMLSelectElement && player.direction > 0);
   // before a timeline or a list of tabs takes the arrows, or a list a letter
   document.addEventListener('keydown', (event) => {
-    if (isBusy(event) || player.direction <= 0 || isTyped(event.target) || hasModifier(event) || event.shiftKey) return;
-    const key = mappedKey(look(), event.code) ?? (event.target instanceof HTMLSelectElement ? keyOf(event.code) : null);
+    if (isBusy(event) || player.direction <= 0 || isTyped(event) || hasModifier(event) || event.shiftKey) return;
+    const key = mappedKey(look(), event.code) ?? (takesText(event.target) ? keyOf(event.code) : null);
     if (key === null && !ARROWS.includes(event.code)) return;
     event.stopPropagation();
     if (key === null) event.preventDefault();
@@ -82,10 +80,27 @@ export function listen({ player, look, act, editsKeys }) {
     down.delete(event.code);
     player.release(key);
   });
+  // what is typed into a text isn't for the game, which waits for it
+  document.addEventListener('focusin', ({ target }) => {
+    if (player.direction > 0 && fieldOf(target) === 'text') player.pause('what you type goes into the field');
+  });
   addEventListener('blur', () => {
     for (const key of down.values()) player.release(key);
     down.clear();
   });
+}
+
+/** What a field is: a text, a number, or a choice such as a list; null for what isn't one. The source is a text that may be edited while it plays. */
+function fieldOf(target) {
+  if (target instanceof HTMLSelectElement) return 'choice';
+  if (!(target instanceof HTMLInputElement)) return null;
+  return ['checkbox', 'radio'].includes(target.type) ? 'choice' : target.type === 'number' ? 'number' : 'text';
+}
+
+/** Whether a key is for the field with the focus, while a game plays: a choice leaves the game its keys, a number all but digits. */
+function isTyped({ target, code }) {
+  const field = fieldOf(target);
+  return field === 'number' ? /^(?:Digit|Numpad)/.test(code) : takesText(target) && field !== 'choice';
 }
 
 function actionOf(event) {

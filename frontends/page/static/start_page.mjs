@@ -20,11 +20,14 @@ export class StartPage {
   #place = byId('start');
   #documents;
   #editor;
+  #settled;
   #isMade = false;
 
-  constructor({ documents, editor }) {
+  /** `settled()` resolves when what is asked about the document is answered: the pictures of the examples come after it. */
+  constructor({ documents, editor, settled }) {
     this.#documents = documents;
     this.#editor = editor;
+    this.#settled = settled;
     byId('start-open').addEventListener('click', () => byId('upload').click());
     byId('start-empty').addEventListener('click', () => this.#leave());
     byId('show-start').addEventListener('click', () => this.#show());
@@ -67,7 +70,7 @@ export class StartPage {
   #example(name, about, steps) {
     const canvas = element('canvas', { width: WIDTH, height: HEIGHT });
     const card = this.#card(`${name}.asm`, about, canvas);
-    const asked = request('example', { name, steps }).catch(() => ({ text: null, screen: null }));
+    const asked = this.#settled().then(() => request('example', { name, steps })).catch(() => ({ text: null, screen: null }));
     asked.then(({ text, screen }) => {
       card.hidden = text === null;
       if (screen === null) return;

@@ -18,7 +18,10 @@ function isUtf8(bytes) {
 }
 
 export function toBytes(byteString) {
-  return Uint8Array.from(/** @type {any} */ (byteString), (/** @type {any} */ character) => character.charCodeAt(0));
+  // a loop takes a tenth of the time of `Uint8Array.from`, which goes over a text by an iterator
+  const bytes = new Uint8Array(byteString.length);
+  for (let place = 0; place < byteString.length; place += 1) bytes[place] = byteString.charCodeAt(place);
+  return bytes;
 }
 
 export function toByteString(bytes) {

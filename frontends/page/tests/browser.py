@@ -4,6 +4,7 @@ from __future__ import annotations
 
 import argparse
 import shutil
+import signal
 import sys
 import time
 import traceback
@@ -50,6 +51,13 @@ class Tests(SourceTests, TypingTests, RunTests, FileTests, ShapeTests, LayoutTes
     """Each method whose name begins with `test_` is one test."""
 
 
+def part_of(text: str) -> tuple[int, int]:
+    first, step = map(int, text.split("/"))
+    if not 1 <= first <= step:
+        raise ValueError(text)
+    return first, step
+
+
 def main(arguments: list[str]) -> int:
     parser = argparse.ArgumentParser(prog="frontends/page/tests/browser")
     parser.add_argument("--program", default=str(PROVED), help="the chipbench to run (default: the proved one)")
@@ -58,6 +66,8 @@ def main(arguments: list[str]) -> int:
     parser.add_argument("--patience", type=float, default=1.0, metavar="N", help="wait N times longer, on a busy machine (default: 1)")
     parser.add_argument("--pictures", type=Path, help="a folder for pictures to look at")
     parser.add_argument("--documents", type=Path, metavar="FOLDER", help="make the pictures of the examples there, and no test")
+    parser.add_argument("--but", action="append", default=[], metavar="NAME", help="a part of the names of tests that aren't run")
+    parser.add_argument("--part", type=part_of, default=(1, 1), metavar="K/N", help="every Nth test, from the Kth on")
     parser.add_argument("names", nargs="*", help="parts of the names of the tests to run (default: all)")
     words = parser.parse_args(arguments)
     if not Path(words.program).exists():
@@ -66,6 +76,8 @@ def main(arguments: list[str]) -> int:
     if words.pictures is not None:
         words.pictures.mkdir(parents=True, exist_ok=True)
     Browser.patience = words.patience
+    # whoever stops the tests, as `timeout` does, has the browser end too
+    signal.signal(signal.SIGTERM, lambda *_: sys.exit(143))
     tests = Tests(BROWSERS[words.browser](), words.program, words.page, words.pictures)
     try:
         if words.documents is not None:
@@ -74,7 +86,9 @@ def main(arguments: list[str]) -> int:
         names = [name for name in dir(tests) if name.startswith("test_")]
         chosen = [name for name in names if not words.names or any(part in name for part in words.names)]
         left_out = OF_THE_BRIDGE if tests.is_one_file else OF_ONE_FILE
-        chosen = [name for name in chosen if name not in left_out]
+        chosen = [name for name in chosen if name not in left_out and not any(part in name for part in words.but)]
+        first, step = words.part
+        chosen = chosen[first - 1 :: step]
         results = [ran(tests, name) for name in chosen]
     finally:
         tests.browser.close()

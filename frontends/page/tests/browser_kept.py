@@ -8,10 +8,14 @@ import json
 import threading
 import time
 
-from browser_page import PageTests, wait_for
+from browser_page import KEPT, PageTests, wait_for
 from driver import CONTROL
 
 FULL = "globalThis.putBefore = IDBObjectStore.prototype.put; IDBObjectStore.prototype.put = function () { this.transaction.abort(); };"
+UNREAD = """globalThis.getBefore = IDBObjectStore.prototype.get; IDBObjectStore.prototype.get = function (key) {
+    if (this.transaction.mode === 'readonly') this.transaction.abort();
+    return getBefore.call(this, key);
+};"""
 
 
 class QuietHandler(http.server.SimpleHTTPRequestHandler):
@@ -73,6 +77,30 @@ class KeptTests(PageTests):
             self.wait_kept("LD V0, 3\n")
             browser.wait("!/no room/.test(document.getElementById('file-state').textContent)")
             assert browser.value("dispatchEvent(new Event('beforeunload', { cancelable: true }))")
+
+    def test_a_document_that_cannot_be_read(self) -> None:
+        """What is kept of it stays as it is, what is typed is another document, and later it is read with its keys and its undo."""
+        with self.page("CLS\n", "first.asm") as browser:
+            (self.folder / "second.asm").write_text("RET\n")
+            self.put_line(1, "LD V0, 1 ; mine")
+            browser.value("chipbenchPage.model.setKeys(chipbenchPage.model.keys.with(3, 5, true))")
+            self.wait_kept("LD V0, 1 ; mine\n", "first.asm")
+            self.open_named("second.asm")
+            before = self.kept("first.asm")
+            browser.value(UNREAD)
+            self.open_named("first.asm")
+            browser.wait("/first.asm can't be read/.test(document.getElementById('notices').textContent)")
+            self.put_line(1, "LD V0, 2 ; typed")
+            typed = "record.text.includes('; typed')"
+            wait_for(lambda: self.browser.value(KEPT % typed) is not None, "what is typed is kept")
+            assert self.browser.value(KEPT % f"record.key === {json.dumps(before['key'])}")["stamp"] == before["stamp"]
+            browser.value("IDBObjectStore.prototype.get = getBefore")
+            self.notice_button("Read it again")
+            browser.wait("chipbenchPage.model.text === 'LD V0, 1 ; mine\\n'")
+            assert browser.value("chipbenchPage.model.keys.size") == 1
+            while browser.value("chipbenchPage.model.textHistory.canUndo"):
+                browser.value("chipbenchPage.editor.undo()")
+            assert browser.value("chipbenchPage.model.text") == "CLS\n"
 
     def test_text_and_undo_are_one(self) -> None:
         """What can be undone after a reload is what led to the text that is there."""

@@ -46,12 +46,13 @@ class RandomTests(PageTests):
         with self.page(TEXTS[0], NAMES[0]):
             for _ in range(count):
                 name = self.browser.value("document.getElementById('file-name').textContent")
-                done.append(self.happen(chance, texts, name))
-                if chance.random() < 0.4:
-                    try:
+                try:
+                    done.append(self.happen(chance, texts, name))
+                    if chance.random() < 0.4:
                         self.check(chance, texts)
-                    except AssertionError as fault:
-                        raise AssertionError(f"seed {seed}, after {done[-8:]}: {fault}") from None
+                except AssertionError as fault:
+                    told = self.browser.value("[...document.querySelectorAll('.notice')].map((one) => one.textContent)")
+                    raise AssertionError(f"seed {seed}, after {done[-8:]}, told {told}: {fault}") from None
 
     def happen(self, chance: random.Random, texts: dict[str, str], name: str) -> str:
         """One event; says which."""

@@ -35,6 +35,27 @@ class WayTests(PageTests):
             browser.press("w", "KeyW", text="w", hold=0.2)
             browser.wait(f"{KEYS} === 2")
 
+    def test_a_field_that_is_clicked_takes_no_letter_of_a_game(self) -> None:
+        """A number or a box leaves them to the game, and a number takes digits; a text pauses the play, and then takes them."""
+        with self.page(WAITS) as browser:
+            browser.value("Object.assign(document.getElementById('find'), { hidden: false })")
+            self.tab("sprite")
+            browser.click("#play")
+            browser.wait(PLAYS)
+            for place, count in (("#find [name=exact]", 2), ("#sprite-rows", 4)):
+                browser.click(place)
+                assert browser.value(f"document.activeElement.matches('{place}')"), (place, browser.value(FOCUS))
+                browser.press("w", "KeyW", text="w", hold=0.2)
+                browser.wait(f"{KEYS} === {count}")
+            browser.press("1", "Digit1", text="1")
+            assert [browser.value(KEYS), browser.value(PLAYS), browser.value("document.getElementById('sprite-rows').value")] == [4, True, "81"]
+            browser.click("#find [name=what]")
+            browser.wait("chipbenchPage.player.direction === 0")
+            assert "paused: what you type goes into the field" in self.text_of("#run-result"), self.text_of("#run-result")
+            keys = browser.value(KEYS)
+            browser.press("w", "KeyW", text="w")
+            assert [browser.value(KEYS), browser.value("document.querySelector('#find [name=what]').value")] == [keys, "w"]
+
     def test_a_letter_changes_no_run_that_stands(self) -> None:
         """Unless the keys are in sight; else it is told what the letter would do."""
         with self.page(WAITS) as browser:
@@ -87,6 +108,9 @@ class WayTests(PageTests):
             browser.value("chipbenchPage.editor.goToLine(1); chipbenchPage.editor.select(2, 2); chipbenchPage.editor.focus()")
             for text in ("n", "ni", "你"):
                 browser.call("Input.imeSetComposition", text=text, selectionStart=len(text), selectionEnd=len(text))
+            # text and undo go together also where it is kept before its end
+            self.wait_kept("; 你\n")
+            assert self.kept()["history"]["text"]["done"][-1]["inserted"] == "你", self.kept()["history"]
             browser.type("你好")
             browser.wait("chipbenchPage.model.text === '; 你好\\n'")
             time.sleep(0.2)

@@ -39,6 +39,12 @@ declare class OffscreenCanvas {
   convertToBlob(options: object): Promise<Blob>;
 }
 
+declare class DecompressionStream {
+  constructor(format: string);
+  readonly readable: ReadableStream<Uint8Array>;
+  readonly writable: WritableStream<Uint8Array>;
+}
+
 declare var chipbenchPage: any;
 declare var trustedTypes: any;
 declare var showOpenFilePicker: any;

@@ -18,6 +18,7 @@ import { KeyHistory } from '../static/key_history.mjs';
 import { KeyScript } from '../static/key_script.mjs';
 import { nearestPlace, wordAround } from '../static/editor_pointer.mjs';
 import { Crashes, readExplored } from '../static/crashes.mjs';
+import { furtherTexts } from '../static/crashes_view.mjs';
 import { MNEMONICS, REGISTERS, rowOfWord, rowsOf, tokensOf } from '../static/language.mjs';
 import { PROFILES } from '../static/quirk_table.mjs';
 import { lookOf, mappedKey } from '../static/look.mjs';
@@ -46,7 +47,7 @@ const kept = (value) => JSON.parse(JSON.stringify(value));
 
 test('games: a page has the game, and no text of it is read as the page', () => {
   const template = '<title>@TITLE@</title><p>@SETTINGS@</p><script id="game">@GAME@</script>@MODULE@@TITLE@';
-  const game = { title: 'a <b> & @GAME@', source: '; </script>@MODULE@\n', options: { rate: '20' }, tape: '05', look: { arrows: '2486', letters: true }, module: 'AAAA' };
+  const game = { title: 'a <b> & @GAME@', source: '; </script>@MODULE@\n', options: { rate: '20' }, tape: '05', look: { arrows: '2486', letters: true }, module: new Uint8Array(3) };
   const page = gamePage(template, game);
   const title = 'a &#60;b&#62; &#38; @GAME@';
   const about = '{"source":"; \\u003c/script>@MODULE@\\n","rate":20,"profile":"schip","quirks":"","tape":"05","arrows":"2486","letters":true}';
@@ -411,11 +412,15 @@ test('sprites: the DB lines that one is from, and is written to', () => {
 
 test('crashes: what `explore` prints', () => {
   // as docs/FORMATS.md has it
-  assert.deepEqual(readExplored('S5 3\nkeys 2\nstates 1\n'), { crash: { cause: 'S5', step: 3, line: null }, within: null, others: [] });
+  assert.deepEqual(readExplored('S5 3\nkeys 2\nstates 1\n'), { crash: { cause: 'S5', step: 3, line: null }, within: null, isForAll: false, left: [], others: [] });
   assert.deepEqual(readExplored('S5 3, line 13: RET\nkeys 2\nstates 1\n').crash, { cause: 'S5', step: 3, line: 13 });
   assert.deepEqual(readExplored('S6 40\nkeys 2\nS2 77\nstates 91\n').others, [{ cause: 'S2', step: 77 }]);
-  assert.deepEqual(readExplored('within 2349\nstates 200001\n'), { crash: null, within: 2349, others: [] });
-  assert.deepEqual(readExplored('never\nstates 7\n'), { crash: null, within: null, others: [] });
+  assert.deepEqual(readExplored('within 2349\nstates 200001\n'), { crash: null, within: 2349, isForAll: false, left: [], others: [] });
+  assert.deepEqual(readExplored('never\nstates 7\n'), { crash: null, within: null, isForAll: false, left: [], others: [] });
+  assert.equal(readExplored('never\nwith any keys, random bytes and speed\nfacts 5\n').isForAll, true);
+  const some = readExplored('S2 3, line 4: DW #0000\nkeys 2\nstates 1\nleft S2 0206, line 4: DW #0000\nleft S6 020a\n');
+  assert.deepEqual(some.left, [{ cause: 'S2', address: '0206', line: 4 }, { cause: 'S6', address: '020a', line: null }]);
+  assert.deepEqual(furtherTexts(some).map((text) => text.slice(0, 24)), ['Not excluded: S6 at 020a']);
   assert.equal(readExplored('a.asm:1:1: F9: undefined name\n'), null);
 });
 

@@ -156,6 +156,34 @@ class Care(Running):
             self.assertEqual(self.ask(name)[0], 404, name)
         self.assertEqual(self.send("PUT", "about", b"{}", Origin=f"http://{self.host}")[0], 501)
 
+    def answer_to(self, request: bytes) -> bytes:
+        """All that is answered to some bytes, until the connection is closed."""
+        with socket.create_connection(("127.0.0.1", self.server.server_port), timeout=SECONDS) as peer:
+            peer.sendall(request)
+            return b"".join(iter(lambda: peer.recv(4096), b""))
+
+    def test_errors_of_the_server_have_the_same_headers(self) -> None:
+        path = f"/{self.server.token}/".encode()
+        requests = {
+            501: b"BREW " + path + b" HTTP/1.1\r\n\r\n",
+            400: b"GET " + path + b" one more HTTP/1.1\r\n\r\n",
+            505: b"GET " + path + b" HTTP/9.9\r\n\r\n",
+            414: b"GET /" + b"x" * 70_000 + b" HTTP/1.1\r\n\r\n",
+            431: b"GET " + path + b" HTTP/1.1\r\n" + b"A: b\r\n" * 200 + b"\r\n",
+        }
+        for status, request in requests.items():
+            head, _, body = self.answer_to(request).partition(b"\r\n\r\n")
+            first, *lines = head.split(b"\r\n")
+            self.assertIn(str(status).encode(), first)
+            for name, value in bridge.HEADERS.items():
+                self.assertIn(f"{name}: {value}".encode(), lines, status)
+            self.assertIn(b"Content-Type: text/plain; charset=utf-8", lines)
+            self.assertNotIn(b"<", body)
+
+    def test_an_error_about_a_head_has_no_body(self) -> None:
+        answer = self.answer_to(f"HEAD /{self.server.token}/ HTTP/1.1\r\n\r\n".encode())
+        self.assertTrue(answer.startswith(b"HTTP/1.1 501 ") and answer.endswith(b"\r\n\r\n"), answer)
+
 
 
 class ManyConnections(Running):
@@ -380,6 +408,32 @@ class OtherFiles(Running):
             for request in ("read", "save"):
                 self.assertEqual(self.ask(request, name=name, text="", known=None)[0], 400, name)
 
+    def test_links_out_of_the_folder(self) -> None:
+        """What a link leads to counts, and not where the link is. SOURCE itself may lead anywhere."""
+        with tempfile.TemporaryDirectory() as elsewhere:
+            outside = Path(elsewhere, "outside.asm")
+            outside.write_bytes(b"THEIRS\n")
+            (self.folder / "near").mkdir()
+            (self.folder / "near" / "far.asm").write_bytes(b"RET\n")
+            leads = {
+                "out.asm": outside,
+                "hop.asm": Path("out.asm"),
+                "new.asm": Path(elsewhere, "none.asm"),
+                "up.asm": Path("..", Path(elsewhere).name, "outside.asm"),
+            }
+            for name, target in {**leads, "in.asm": Path("near", "far.asm")}.items():
+                (self.folder / name).symlink_to(target)
+            for name in leads:
+                status, reason = self.ask("read", name=name)
+                self.assertEqual((status, reason), (409, f"{name} leads out of the folder: files are read from and saved to one folder\n"))
+                self.assertEqual(self.saved("MINE\n", None, name)[0], 409, name)
+            self.assertEqual(self.good("read", name="in.asm")["text"], "RET\n")
+            self.assertEqual([file["name"] for file in self.good("files")["files"]], ["game.asm", "in.asm"])
+            self.assertEqual((os.listdir(elsewhere), outside.read_bytes()), (["outside.asm"], b"THEIRS\n"))
+            self.path.unlink()
+            self.path.symlink_to(outside)
+            self.assertEqual(self.good("about")["text"], "THEIRS\n")
+
     def test_a_name_that_no_file_can_have(self) -> None:
         """JSON can hold one half of a pair of surrogates, which no bytes of a name stand for. The response says so."""
         for name in ("\ud800", "\udfff", "\udc7f", "\udd00", "game\ud83d.asm", "\udc80\ud800.asm"):
@@ -498,8 +552,10 @@ class TheScript(unittest.TestCase):
     def test_faulty_arguments(self) -> None:
         """Each ends with a sentence before anything starts."""
         (self.folder / "game.ch8").write_bytes(b"\x12\x00")
+        (self.folder / "big.ch8").write_bytes(bytes(3585))
         for arguments, status, said in (
-            (["--rate", "x"], 2, "--rate can't be x"),
+            (["--rate", "x"], 2, "--rate takes a number, as in --rate 10, and not x"),
+            (["--tape", "0x12"], 2, "--tape takes two hexadecimal digits for each byte, without 0x or #, as in --tape 2a07, and not 0x12"),
             (["--port", "99999"], 2, "--port is a number from 0 to 65535"),
             (["--port", "-1"], 2, "--port"),
             (["--port", "x"], 2, "--port"),
@@ -508,6 +564,7 @@ class TheScript(unittest.TestCase):
             ([str(self.folder)], 2, "is not a file"),
             (["--image", str(self.folder)], 2, "is not a file"),
             (["--image", str(self.folder / "none.ch8")], 2, "there is no file"),
+            (["--image", str(self.folder / "big.ch8")], 2, "big.ch8 can't be opened: it has over 3584 bytes"),
             (["--image", str(self.folder / "game.ch8"), "a.asm"], 2, "give SOURCE or --image, and not both"),
             (["--image"], 2, "--image"),
             (["--help"], 0, ""),

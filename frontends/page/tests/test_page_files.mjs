@@ -1,6 +1,8 @@
 // The files of a page without a bridge, beside a stand-in for a browser's file access.
 import assert from 'node:assert/strict';
+import { readdir, readFile } from 'node:fs/promises';
 import test, { afterEach } from 'node:test';
+import { carryBy } from '../static/bridge.mjs';
 import { PageFiles } from '../static/page_files.mjs';
 
 class FakeFile {
@@ -122,4 +124,31 @@ test('an example is read by its name, and another name has no text', async () =>
   assert.equal(files.picks, false);
   assert.equal((await files.read({ name: 'bounce.asm' })).text, 'CLS\n');
   assert.deepEqual(await files.read({ name: 'none.asm' }), { name: 'none.asm', path: null, text: null, digest: null });
+});
+
+test('modules: none has over 300 lines, and all that is served has fewer than 11,300', async () => {
+  const folder = new URL('../static/', import.meta.url);
+  const counted = await Promise.all((await readdir(folder)).map(async (name) => [name, (await readFile(new URL(name, folder), 'utf-8')).split('\n').length - 1]));
+  assert.deepEqual(counted.filter(([name, lines]) => name.endsWith('.mjs') && lines > 300), []);
+  assert.ok(counted.reduce((sum, [, lines]) => sum + lines, 0) < 11_300);
+});
+
+test('a file: what was read before a save, and comes after it, takes the place of nothing', async () => {
+  let [look, answer] = [null, null];
+  carryBy(() => new Promise((done) => {
+    answer = done;
+  }));
+  const place = { addEventListener() {}, querySelectorAll: () => [] };
+  Object.assign(globalThis, { addEventListener: (_, act) => (look = act), setInterval: () => 0, document: { hidden: true, getElementById: () => place, addEventListener() {} } });
+  const { FileWatch } = await import('../static/file_watch.mjs');
+  const open = { is: { key: '/a.asm', name: 'a.asm', isFile: true, digest: 'new' }, savedText: 'RET\n', toldDigest: 'old', isThere: true };
+  const become = [];
+  new FileWatch({ putAside() {}, tellState() {} }, { model: { text: 'RET\n' }, editor: { become: (text) => become.push(text) }, open });
+  const looking = look();
+  // saved meanwhile
+  Object.assign(open, { is: { ...open.is }, toldDigest: 'new' });
+  answer({ name: 'a.asm', path: '/a.asm', text: 'CLS\n', digest: 'old' });
+  await looking;
+  await new Promise((done) => setTimeout(done, 10));
+  assert.deepEqual([become, open.toldDigest], [[], 'new']);
 });
