@@ -3,6 +3,7 @@
 // and begins anew with its next request.
 import { BridgeFault, carryBy } from './bridge.mjs';
 import { OPTIONS } from './options.mjs';
+import { isSeed, tapeOf } from './seed_tape.mjs';
 
 const SECONDS = 60;
 /** The workers of single requests; the one for short commands has the others. */
@@ -12,6 +13,7 @@ const LONG_RUNS = ['explore', 'prove'];
 class Workers {
   #begin;
   #modules;
+  #taken = {};
   #workers = new Map();
   #number = 0;
 
@@ -24,8 +26,7 @@ class Workers {
     if (!this.#workers.has(kind)) {
       const worker = this.#begin();
       const name = kind === 'session' ? 'session' : 'program';
-      // a module may come later than the page; it is compiled once for all workers
-      const ready = Promise.resolve(this.#modules[name]).then((module) => worker.postMessage({ kind: name, module }));
+      const ready = this.#module(name).then((module) => worker.postMessage({ kind: name, module }));
       const waiting = new Map();
       worker.onmessage = ({ data }) => {
         const { answered, tell } = waiting.get(data.number) ?? {};
@@ -40,9 +41,16 @@ class Workers {
     return this.#workers.get(kind);
   }
 
-  // Has workers of these kinds begin, so that each takes its module while the page is made.
-  begin(...kinds) {
-    for (const kind of kinds) this.#worker(kind);
+  // A module is taken and compiled when its first worker begins, once for all workers.
+  #module(name) {
+    this.#taken[name] ??= this.#modules[name]();
+    return this.#taken[name];
+  }
+
+  // Has the session's worker begin, so that it takes its module while the page is made. The first answer needs no other worker, and
+  // the program's module is seven times as large.
+  begin() {
+    this.#worker('session');
   }
 
   end(kind) {
@@ -113,17 +121,19 @@ class LongRuns {
 /**
  * Has the page's requests about the program carried out by workers, and those about files by `own`, which are functions by the names of
  * requests: `about`, `files`, `read`, `save`, and where the browser's file access is used `pick` and `choose`; `game`, the page of an
- * exported game; `text`, a document or an example by its name. `begin()` begins a worker; `modules` are the WebAssembly modules, or promises of them.
+ * exported game; `text`, a document or an example by its name. `begin()` begins a worker; `modules` are functions that give promises of the
+ * WebAssembly modules.
  */
 export function carryByWorkers(begin, modules, own) {
   const workers = new Workers(begin, modules);
-  workers.begin('program', 'session');
+  workers.begin();
   const runs = Object.fromEntries(LONG_RUNS.map((name) => [name, new LongRuns(workers, name)]));
-  // The session's module takes a tape, and the program makes one of a seed.
-  const withTape = async ({ seed, ...options }) =>
-    seed === undefined ? options : { ...options, ...(await workers.ask('program', 'tape', { seed })) };
+  // The session's module takes a tape. The program says what is wrong with a seed that is none.
+  const tape = async ({ seed }) => (isSeed(seed) ? { tape: tapeOf(seed) } : workers.ask('program', 'tape', { seed }));
+  const withTape = async ({ seed, ...options }) => (seed === undefined ? options : { ...options, ...(await tape({ seed })) });
   const carried = {
     about: async () => ({ ...(await own.about()), options: OPTIONS }),
+    tape,
     example: async ({ name, steps }) => {
       const { text } = await own.text({ name: `${name}.asm` });
       return text === null ? { text, screen: null } : workers.ask('program', 'example', { text, steps });

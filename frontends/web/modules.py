@@ -24,6 +24,11 @@ FEATURES = ["memory64", "bulk-memory", "sign-ext", "nontrapping-float-to-int", "
 STACK_BYTES = 1 << 20
 PARTS_BYTES = 16 << 20
 
+# The std's equality of two slices of bytes with the same length, which equality.c takes the place of.
+STD_EQUAL = "@\"core::cmp::slices::groups_equal::<i8,31'core::cmp::numbers::U8PartialEq{}>\"("
+WORDS_EQUAL = "@bytes_equal("
+WORDS_EQUAL_DECLARED = "declare zeroext i1 @bytes_equal(ptr, i64, ptr, i64)\n"
+
 # what each module exports, and the crate that it is made of
 SESSION = ("chip_web", ["session_open", "session_answer", "session_read", "session_close"])
 PROGRAM = ("chipbench", ["main"])
@@ -67,7 +72,9 @@ def exported(line, crate, names):
 
 
 def retarget(source, target, change=lambda line: line):
-    """Writes a module for x86-64 as one for WebAssembly, each line changed first."""
+    """Writes a module for x86-64 as one for WebAssembly, each line changed first. Slices of bytes are compared by words there; the number
+    of calls that do so is returned."""
+    replaced = 0
     with open(source, encoding="utf-8") as lines, open(target, "w", encoding="utf-8") as out:
         for line in lines:
             if line.startswith("target datalayout"):
@@ -78,7 +85,12 @@ def retarget(source, target, change=lambda line: line):
                 line = change(line)
                 if line.startswith("attributes #"):
                     line = X86_ALONE.sub("", line)
+                elif STD_EQUAL in line and " call " in line:
+                    line = line.replace(STD_EQUAL, WORDS_EQUAL)
+                    replaced += 1
             out.write(line)
+        out.write(WORDS_EQUAL_DECLARED)
+    return replaced
 
 
 def compile_module(module, out, exports, change=lambda line: line):
@@ -86,8 +98,9 @@ def compile_module(module, out, exports, change=lambda line: line):
     with tempfile.TemporaryDirectory(prefix="chipbench-web-") as work:
         text = ["-S", "-emit-llvm", "-O0", "-Xclang", "-disable-llvm-passes", "-x", "ir"]
         subprocess.run([f"{kit()}/toolchain/bin/clang", X86_TARGET, *text, module, "-o", f"{work}/x86.ll"], check=True)
-        retarget(f"{work}/x86.ll", f"{work}/module.ll", change)
-        files = [f"{work}/module.ll", f"{HERE}/calls.ll", f"{HERE}/heap.c", f"{HERE}/wide.c", f"{HERE}/processor.c"]
+        if retarget(f"{work}/x86.ll", f"{work}/module.ll", change) == 0 and exports == PROGRAM[1]:
+            raise SystemExit("frontends/web/build: the std compares slices of bytes in another way than STD_EQUAL in modules.py says")
+        files = [f"{work}/module.ll", f"{HERE}/calls.ll", *(f"{HERE}/{name}.c" for name in ("heap", "wide", "equality", "processor"))]
         link(work, objects_of(files, work), [*exports, *HOST_EXPORTS], SYSTEM if exports == PROGRAM[1] else [])
         lower(f"{work}/wide.wasm", out)
 
@@ -113,11 +126,11 @@ def link(work, objects, exports, more):
 
 
 def parts(out):
-    """The heap and the wide numbers alone, for tests, in a memory that may not grow far."""
+    """The heap, the wide numbers and the equality of bytes alone, for tests, in a memory that may not grow far."""
     calls = re.findall(r"^(?:void|wide|signed_wide) \*?(\w+)\(half", open(f"{HERE}/tests/wide_calls.c", encoding="utf-8").read(), re.M)
     with tempfile.TemporaryDirectory(prefix="chipbench-web-") as work:
-        objects = objects_of([f"{HERE}/heap.c", f"{HERE}/wide.c", f"{HERE}/tests/wide_calls.c"], work)
-        link(work, objects, ["malloc", "free", "realloc", "__heap_base", *calls], [f"--max-memory={PARTS_BYTES}"])
+        objects = objects_of([*(f"{HERE}/{name}.c" for name in ("heap", "wide", "equality")), f"{HERE}/tests/wide_calls.c"], work)
+        link(work, objects, ["malloc", "free", "realloc", "bytes_equal", "__heap_base", *calls], [f"--max-memory={PARTS_BYTES}"])
         lower(f"{work}/wide.wasm", out)
 
 

@@ -51,7 +51,7 @@ function natively(words) {
 }
 
 test('a search ends at its time, by the clock of the host', { skip }, () => {
-  const { status, errors } = inMemory(['prove', 'stated.asm', '--seconds', '1']);
+  const { status, errors } = inMemory(['prove', 'stated.asm', '--seconds', '1', '--no-facts']);
   assert.equal(status, 0);
   assert.match(errors, /out of time/);
 });
@@ -68,7 +68,7 @@ test('each command prints and writes what the program does', { skip: skip || (pr
 for (const megabytes of [3, 8, 64]) {
   test(`with memory of ${megabytes} MB a search says that memory ran out`, { skip }, () => {
     const small = new WebAssembly.Module(capped(bytes, (megabytes * MEGABYTE) / PAGE));
-    const searched = inMemory(['explore', 'many.asm'], small);
+    const searched = inMemory(['explore', 'many.asm', '--no-facts'], small);
     assert.equal(searched.status, 4);
     assert.match(searched.errors, /^chipbench: out of memory$/m);
     assert.equal(inMemory(['asm', 'game.asm', 'game.ch8'], small).status, 0);

@@ -85,7 +85,8 @@ test('a search over all keys is told of while it goes on, and gives the keys tha
   const found = requests.explore({ source: 'LOOP: LD V0, K\nSE V0, 3\nJP LOOP\nRET\n', options: { rate: '10', every: '1000' } }, () => {});
   assert.match(found.output, /^S5 3, line 4: RET\n/);
   assert.equal(found.keys, '0 3 down\n1 3 up\n');
-  const source = fs.readFileSync(new URL('../../../examples/breaker.asm', import.meta.url), 'latin1');
+  // Each key that was pressed stays in the memory, so there are many states, and I may come to its end.
+  const source = 'LD V1, 16\nLD I, #F00\nLOOP: LD V0, K\nLD [I], V0\nADD I, V1\nJP LOOP\n';
   const first = { told: null };
   const tell = (progress) => {
     first.told = progress;
@@ -101,7 +102,7 @@ test('what prove prints is told as it comes', { skip }, (context) => {
   const source = ';! never V0 = 3 at DONE\n;! V1 = 0 here\nLOOP: LD V0, K\nSE V0, 3\nJP LOOP\nDONE: JP DONE\n';
   const found = requests.prove({ source, options: { rate: '10', every: '1000' } }, ({ output }) => output && told.push(output));
   const answers = found.output.trimEnd().split('\n').map((line) => JSON.parse(line));
-  assert.deepEqual(answers.slice(0, 2).map(({ line, answer }) => [line, answer]), [[1, 'broken'], [2, 'never broken']]);
+  assert.deepEqual(answers.slice(0, 2).map(({ line, answer }) => [line, answer]), [[2, 'never broken with any keys, random bytes and speed'], [1, 'broken']]);
   assert.ok(told.length > 0 && told.every((output) => found.output.startsWith(output)));
 });
 
