@@ -112,7 +112,7 @@ def most_states(code):
 def wrong_answer(program, number):
     """What is wrong with the answer for a program."""
     code = image(number)
-    ran = limited([program, "explore", "--image", "-", *ALLOWED, *MOST_STATES], code)
+    ran = limited([program, "explore", "--image", "-", "--no-facts", *ALLOWED, *MOST_STATES], code)
     answer = ran.stdout.decode().splitlines()
     most = most_states(code)
     if answer[:1] != ["never"] or not answer[-1].startswith("states "):

@@ -174,7 +174,7 @@ def asked(program, code, folder, *options):
     file.write_bytes(bytes(code))
     keys.unlink(missing_ok=True)
     settings = ["--rate", str(RATE), "--tape", TAPE, "--keys-allowed", ",".join(map(str, KEYS))]
-    ran = program.run(["explore", "--image", "image", "--steps", str(STEPS), *settings, "--keys-to", "keys", *options], b"", folder)
+    ran = program.run(["explore", "--image", "image", "--no-facts", "--steps", str(STEPS), *settings, "--keys-to", "keys", *options], b"", folder)
     lines = [line for line in keys.read_text(encoding="utf-8").splitlines() if line[:1].isdigit()] if keys.exists() else []
     answer = ran.stdout.decode().splitlines()
     answer[:1] = [without_place(line, code, lines) for line in answer[:1]]

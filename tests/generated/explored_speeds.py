@@ -51,20 +51,26 @@ def image(number):
     return b"".join(each.to_bytes(2, "big") for each in words)
 
 
+def steps_from(state):
+    """The states after a step, with each set of keys that it may tell apart, with a tick and without one."""
+    for keys in SEARCHED.masks(state):
+        for tick in (False, True):
+            after = SEARCHED.copied(state)
+            after.step(keys, tick)
+            yield after
+
+
 def searched(code):
     """The first step at which some keys and ticks stop the program, by the cause's number. None for too many states."""
     states, first = [EMULATED.Machine(code, QUIRKS, bytes.fromhex(SEARCHED.TAPE), None)], {}
     for step in range(1, SEARCHED.STEPS + 1):
         later = {}
         for state in states:
-            for keys in SEARCHED.masks(state):
-                for ticks in (False, True):
-                    after = SEARCHED.copied(state)
-                    after.step(keys, ticks)
-                    if after.stopped:
-                        first.setdefault(SEARCHED.cause(after), step)
-                    else:
-                        later[SEARCHED.shown(after)] = after
+            for after in steps_from(state):
+                if after.stopped:
+                    first.setdefault(SEARCHED.cause(after), step)
+                else:
+                    later[SEARCHED.shown(after)] = after
         states = list(later.values())
         if len(states) > MOST_STATES:
             return None

@@ -19,6 +19,7 @@ FILES = {
     # line 1 begins at 512, line 2 at 514
     "notes.asm": b"LOOP: LD V0, 1 ;! V0 <= 5\nJP LOOP\n;! V0 <= 5 at 3\nEND\nnext game\n",
     "quiet.asm": b"LOOP: LD V0, 1\nJP LOOP ; never ;!\n;! V0 <= 5 at LOOP\nEND\n\n; the end\n",
+    "behind.asm": b"LOOP: JP LOOP\nEND\n; the end\n;! V0 <= 5\n",
     "broken.asm": b";! V0 < 1\nLOOP: LD V0, 1\nJP LOOP\n",
 }
 ONE = (
@@ -49,6 +50,10 @@ TAPES = {
 }
 HIDDEN = "chipbench: notes.asm:1: `;!` behind a statement or a label states nothing; put it on a line of its own\n"
 BEHIND_END = "chipbench: notes.asm:4: END ends the source here, so the lines below it are ignored\n"
+NOT_CHECKED = "chipbench: behind.asm:2: END ends the source here, so the lines below it are ignored; `;!` lines there state nothing\n"
+DECIMAL = "chipbench: {}: an address in hexadecimal begins with #: #{}\n"
+# the one word of the image is at 512, #200; 0206 is #CE
+NO_WORD = "chipbench: game.ch8: no word of the image begins at address 206, which is #CE; its words have the addresses #200 to #200\n"
 NO_LINE = "chipbench: notes.asm{}: no line begins at address {}; the nearest, line 1, begins at 512\n"
 TEXT = (
     "chipbench: {} looks like a source, and is taken as an image; `asm` makes an image of a source, and other commands take one "
@@ -60,7 +65,11 @@ NOTES = [
     (["check", "quiet.asm"], "", ""),
     (["prove", "notes.asm"], "", NO_LINE.format(":3", 3) + HIDDEN + BEHIND_END),
     (["prove", "quiet.asm"], "", ""),
-    (["explore", "notes.asm", "--reach", "2"], "", NO_LINE.format("", 2)),
+    (["check", "behind.asm"], "", NOT_CHECKED),
+    (["explore", "notes.asm", "--reach", "2"], "", NO_LINE.format("", 2) + DECIMAL.format("notes.asm", "2")),
+    (["explore", "notes.asm", "--reach", "#2"], "", NO_LINE.format("", 2)),
+    (["explore", "--image", "game.ch8", "--reach", "0206"], "", NO_WORD + DECIMAL.format("game.ch8", "0206")),
+    (["explore", "--image", "game.ch8", "--reach", "#200"], "", ""),
     (["explore", "notes.asm", "--reach", "LOOP"], "", ""),
     (["explore", "notes.asm", "--never", "V0 = 6 at 2"], "", NO_LINE.format("", 2)),
     (["dis", "quiet.asm"], "", TEXT.format("quiet.asm")),

@@ -29,7 +29,7 @@ def held(number):
 
 def wrong_memory(program, source):
     """What is wrong with the memory that the progress tells."""
-    words = [program.file, "explore", "source", "--keys-allowed", "1,2,4,8", "--states", MOST_STATES, "--progress"]
+    words = [program.file, "explore", "source", "--keys-allowed", "1,2,4,8", "--states", MOST_STATES, "--progress", "--no-facts"]
     with tempfile.TemporaryDirectory() as folder:
         pathlib.Path(folder, "source").write_text(source)
         told = []

@@ -16,7 +16,7 @@ PROGRAMS = pathlib.Path(__file__).with_name("proved_programs.py")
 EXAMPLE = pathlib.Path(__file__).parents[2] / "examples" / "road.asm"
 RATE = 10
 TAPE = "3b5a91c7042fe866"
-GOOD_ANSWERS = (": never broken: ", ": unbroken up to step ", ": reached at step ", ": always: ")
+GOOD_ANSWERS = (": never broken: ", ": never broken with any keys, ", ": unbroken up to step ", ": reached at step ", ": always: ")
 
 # name, keys, source with a line ;! for each test, and the tests, in the order of these lines: what breaks the property, or reaches it
 GAMES = {}
@@ -329,7 +329,7 @@ def wrong_game(program, name):
         symbols = program.run(["syms", "game.asm"], b"", folder).stdout.decode().splitlines()
         at = {words[0]: int(words[1]) for words in (line.split() for line in symbols) if len(words) > 1}
         settings = ["--rate", str(RATE), "--tape", TAPE, "--keys-allowed", ",".join(map(str, keys))]
-        ran = program.run(["prove", "game.asm", "--json", *settings, "--keys-to", "keys/"], b"", folder)
+        ran = program.run(["prove", "game.asm", "--json", "--no-facts", *settings, "--keys-to", "keys/"], b"", folder)
         told = [json.loads(line) for line in ran.stdout.decode().splitlines()]
         answers = {answer["line"]: answer for answer in told if "line" in answer and not answer["property"].startswith("can ")}
         lines = [number for number, line in enumerate(source.splitlines(), 1) if line.startswith(";!") and not line.startswith(";! can ")]

@@ -6,8 +6,10 @@ answers come from the search over whole states of the first, on the machine of t
 that makes a step, at its place. A property is text for the program and a test of such a machine here, made side by side, so that nothing
 of the program reads it. Each script that is found is replayed: the property is broken at its step and at no earlier one.
 
-Each third program is asked with `--any-speed` too: the answers are those of the rate, but for those at any speed, which no choice of keys
-and ticks may break. Each fifth is asked with `--deep` and room for few states.
+Each program is asked with `--no-facts`, and each other one with facts too: the answers are the same, but for those with any keys, random
+bytes and speed, which no choice of keys and ticks may break, here with two tapes. Each third program is asked with `--any-speed`: the answers
+are those of the rate, but for those at any speed, which no choice of keys and ticks may break. Each fifth is asked with `--deep` and room for
+few states.
 
 Of all that, 200 programs are tried with the quick cases, and the others with the slow ones.
 """
@@ -27,6 +29,8 @@ PROPERTIES = 5
 # how far keys and ticks are tried, and with how many states at one step
 TICKED_STEPS = 40
 MOST_TICKED = 400
+# random bytes beside those of the searches
+OTHER_TAPE = "a5ff00137c"
 RELATIONS = {
     "=": operator.eq, "<>": operator.ne, "<": operator.lt, "<=": operator.le, ">": operator.gt, ">=": operator.ge,
 }
@@ -131,9 +135,9 @@ def first_met(code, tests):
     return first
 
 
-def is_met_ticking(code, test):
+def is_met_ticking(code, test, tape=SEARCHED.TAPE):
     """Whether some keys and ticks lead a program to a test, as far as there are few states."""
-    states = [EMULATED.Machine(code, SEARCHED.QUIRKS, bytes.fromhex(SEARCHED.TAPE), None)]
+    states = [EMULATED.Machine(code, SEARCHED.QUIRKS, bytes.fromhex(tape), None)]
     for _ in range(TICKED_STEPS):
         if any(test(state) for state in states):
             return True
@@ -175,7 +179,9 @@ def proved(program, folder, *options):
 def words_of(kind, name):
     """The words for a property that is met, one that isn't up to a step, and one that never is."""
     met, unmet = ("reached", "not reached") if kind == "ever" else ("broken", "unbroken")
-    return {"met": met, "unmet": unmet, "never": f"never {met}", "speed": f"never {met} at any speed"}[name]
+    never = f"never {met}"
+    facts = f"{never} with any keys, random bytes and speed"
+    return {"met": met, "unmet": unmet, "never": never, "speed": f"{never} at any speed", "facts": facts}[name]
 
 
 def wrong_answer(answer, kind, first, is_deep):
@@ -191,7 +197,7 @@ def wrong_answer(answer, kind, first, is_deep):
         return f"{answer}, and it is met at {first}"
     if word == words_of(kind, "unmet"):
         return "" if covered == STEPS or is_deep and covered < STEPS else f"{answer}, short of {STEPS}"
-    return "" if word in (words_of(kind, "never"), words_of(kind, "speed")) else f"{answer}"
+    return "" if word in [words_of(kind, name) for name in ("never", "speed", "facts")] else f"{answer}"
 
 
 def wrong_answers(answers, properties, first, is_deep=False):
@@ -224,6 +230,17 @@ def wrong_script(code, folder, answers, properties):
     return ""
 
 
+def wrong_facts(program, folder, code, properties, first):
+    """What is wrong with the answers where facts are asked before the search."""
+    answers, _ = proved(program, folder)
+    wrong = wrong_answers(answers, properties, first)
+    for line, (_, kind, test) in enumerate(properties, 1):
+        if not wrong and answers[line]["answer"] == words_of(kind, "facts"):
+            if any(is_met_ticking(code, test, tape) for tape in (SEARCHED.TAPE, OTHER_TAPE)):
+                wrong = f"{answers[line]}, and some keys and ticks lead there"
+    return wrong
+
+
 def wrong_program(program, number, folder):
     """What is wrong with the answers for a program, or None where it is left out, and whether one of its properties is met."""
     rng = random.Random(f"proved {number}")
@@ -240,19 +257,21 @@ def wrong_program(program, number, folder):
     keys.mkdir(exist_ok=True)
     for file in keys.iterdir():
         file.unlink()
-    answers, status = proved(program, folder, "--keys-to", "keys/")
+    answers, status = proved(program, folder, "--keys-to", "keys/", "--no-facts")
     wrong = wrong_answers(answers, properties, first) or wrong_script(code, folder, answers, properties)
     bad = any((step is None) == (kind == "ever") for (_, kind, _), step in zip(properties, first))
     if not wrong and status != int(bad):
         wrong = f"status {status} of {answers}"
+    if not wrong and number % 2 == 0:
+        wrong = wrong_facts(program, folder, code, properties, first)
     if not wrong and number % 3 == 0:
-        answers, _ = proved(program, folder, "--any-speed")
+        answers, _ = proved(program, folder, "--any-speed", "--no-facts")
         wrong = wrong_answers(answers, properties, first)
         for line, (_, kind, test) in enumerate(properties, 1):
             if not wrong and answers[line]["answer"] == words_of(kind, "speed") and is_met_ticking(code, test):
                 wrong = f"{answers[line]}, and some ticks lead there"
     if not wrong and number % 5 == 0:
-        answers, _ = proved(program, folder, "--deep", "--states", str(SEARCHED.FEW_STATES))
+        answers, _ = proved(program, folder, "--deep", "--states", str(SEARCHED.FEW_STATES), "--no-facts")
         wrong = wrong_answers(answers, properties, first, is_deep=True)
     return wrong and f"program {number} ({code.hex()}): {wrong}"
 

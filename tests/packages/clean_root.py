@@ -247,7 +247,8 @@ class TestRootWithPython(unittest.TestCase):
 
     def test_notices_are_those_of_the_repository(self):
         notices = (common.TOP / "THIRD-PARTY").read_text(encoding="utf-8")
-        ask = "from documents import document; from games import game_page; print(document('THIRD-PARTY')); assert 'Licences' in game_page()['template']"
+        ask = "import html, served; text = served.served_files()['THIRD-PARTY'].read_text(encoding='utf-8'); print(text)"
+        ask += "; assert text in html.unescape(served.content_of('game.html', {})[1].decode())"
         shown = self.root.shell(f'PYTHONPATH=/usr/share/chipbench/page python3 -B -c "{ask}"')
         self.assertEqual(shown, notices + "\n")
 

@@ -1,6 +1,8 @@
 """The quick tests: no network, no root, seconds."""
+import base64
 import email.utils
 import fnmatch
+import hashlib
 import html
 import json
 import os
@@ -13,6 +15,7 @@ import tarfile
 import tempfile
 import unittest
 import zipfile
+import zlib
 from xml.etree import ElementTree
 
 from common import DOCUMENTS, STAND_IN, TOP, Page, answers_initialize, contents, dead_links, entries, image_of
@@ -139,11 +142,28 @@ class TestNotices(unittest.TestCase):
         for name in noted_names():
             self.assertRegex(self.notices, rf"(?m)^(?:\S+, )?{name}\b.*\n    Copyright \(c\) \S")
 
+    @unittest.skipIf(shutil.which("esbuild") is None, "no command esbuild")
     def test_notices_in_the_page(self):
         self.module("session.wasm"), self.module("chipbench.wasm")
         run(TOP / "frontends/web/page", self.folder / "page.html", TOP / "release")
         page = (self.folder / "page.html").read_text(encoding="utf-8")
         self.assertEqual(html.unescape(re.search(r'<pre id="licences-text"[^>]*>([^<]*)</pre>', page)[1]), self.notices)
+
+    @unittest.skipIf(shutil.which("esbuild") is None, "no command esbuild")
+    def test_modules_in_the_page(self):
+        """The page has the bytes of both modules, in the size that it may have; so does the one for who hosts it."""
+        self.module("session.wasm"), self.module("chipbench.wasm")
+        run(TOP / "frontends/web/page", self.folder / "page.html", TOP / "release")
+        run(TOP / "packaging/hosted-page", self.folder / "hosted.html")
+        for name, most in (("page.html", 2_100_000), ("hosted.html", 1_400_000)):
+            content = (self.folder / name).read_bytes()
+            self.assertLessEqual(len(content), most)
+            blocks = {found[1]: (found[2], found[3]) for found in re.finditer(r'<script type="application/[\w-]+" id="([\w-]+)"([^>]*)>([^<]*)</script>', content.decode())}
+            bytes_of = {letter: byte for byte, letter in enumerate(json.loads(blocks["texts"][1])["alphabet"])}
+            for block, file in (("session-module", "session.wasm"), ("chipbench-module", "chipbench.wasm")):
+                form, text = blocks[block]
+                found = zlib.decompress(base64.b64decode(text)) if "deflated" in form else bytes(map(bytes_of.get, text))
+                self.assertEqual(found, self.module(file).read_bytes())
 
     def test_notices_in_an_exported_game(self):
         run(TOP / "frontends/web/game", TOP / "examples/bounce.asm", self.folder / "game.html", "--module", self.module("session.wasm"))
@@ -246,6 +266,38 @@ class TestRelease(unittest.TestCase):
         self.build(binaryen="wasm-opt version 1")
         self.change("frontends/web/out/session.wasm")
         self.assertIn("weren't compared", self.check(0))
+
+    def esbuild(self, version):
+        """A folder of commands in which esbuild has another version."""
+        tools = self.top / "esbuild-tools"
+        tools.mkdir()
+        (tools / "esbuild").write_text(f"#!/bin/sh\necho {version}\n", encoding="utf-8")
+        (tools / "esbuild").chmod(0o755)
+        return {**os.environ, "PATH": f"{tools}:{os.environ['PATH']}"}
+
+    def test_a_page_of_another_esbuild_is_not_compared(self):
+        if not self.modules():
+            self.skipTest("release/ has no page")
+        env = self.esbuild("9.9.9")
+        self.assertIn("made it, and this is 9.9.9", run(self.top / "packaging/release", "--check", env=env).decode())
+        self.change("frontends/page/static/style.css")
+        said = run(self.top / "packaging/release", "--check", env=env, status=1).decode()
+        self.assertIn("the page is of other sources", said)
+
+    def test_a_page_that_is_built_to_other_bytes_is_refused(self):
+        if not self.modules() or shutil.which("esbuild") is None:
+            self.skipTest("release/ has no page, or there is no esbuild")
+        note, page = self.top / "release/FROM", self.top / "release/chipbench.html"
+        before = hashlib.sha256(page.read_bytes()).hexdigest()
+        self.change("release/chipbench.html")
+        note.write_text(note.read_text(encoding="utf-8").replace(before, hashlib.sha256(page.read_bytes()).hexdigest()), encoding="utf-8")
+        self.assertIn("the page has other bytes", self.check(1))
+
+    def test_without_esbuild_the_page_names_the_package(self):
+        tools = self.top / "no-tools"
+        tools.mkdir()
+        done = subprocess.run([sys.executable, self.top / "frontends/web/page", self.top / "made.html"], env={"PATH": str(tools)}, capture_output=True, text=True)
+        self.assertEqual((done.returncode, done.stderr), (1, "frontends/web: Debian's package esbuild isn't installed: apt-get install esbuild\n"))
 
     def first(self, **options):
         """The first run of ./chipbench without the toolchain, and what it said."""

@@ -7,6 +7,8 @@ from common import ARCHIVE, EXAMPLE, IS_ALL, PROFILES, PROGRAM, TOP, archive, co
 from languages import GO, JAVASCRIPT, RUST
 
 ROWS = ("6XKK", "7XKK", "8XY4", "CXKK")
+# rows that the emulators of four instructions don't know, and the part of which a runner has to say that it differs
+PARTS = {"00E0": "screen", "00FD": "stop", "00FE": "high", "2NNN": "stack|pc", "ANNN": "i", "FX55": "memory", "FX75": "flags"}
 MOST_LINES = 79
 RUNNERS = sorted(EXAMPLE.glob("run_*"))
 FLAG_LAST = "        v[x] = result & 255\n        if flag is not None:\n            v[15] = flag\n"
@@ -43,6 +45,21 @@ class TestPython(unittest.TestCase):
         document = (EXAMPLE / "README.md").read_text(encoding="utf-8")
         for line in lines[:2]:
             self.assertIn(f"    {line}\n", document)
+
+    def test_a_file_is_refused(self):
+        file = folder("schip") / "8XY4.txt"
+        for what in ("steps", "words", "programs"):
+            printed = python(EXAMPLE / f"run_{what}.py", file, status=1)
+            self.assertEqual(printed, f"{file}: expected a folder, such as schip\n")
+
+    def test_another_format_is_refused(self):
+        other = work() / "other-format"
+        shutil.copytree(folder("schip"), other)
+        for name in ("index.json", "words.json"):
+            text = (other / name).read_text(encoding="utf-8")
+            (other / name).write_text(re.sub('"format": ?1', '"format": 2', text), encoding="utf-8")
+        for what in ("steps", "words", "programs"):
+            self.assertIn("another format", python(EXAMPLE / f"run_{what}.py", other, status=1))
 
     def test_names_a_wrong_word(self):
         wrong = example_with("each-5XYN", "case 0x5 if n == 0:", "case 0x5:")
@@ -83,14 +100,27 @@ class TestRunners(unittest.TestCase):
     def setUp(self):
         self.files = work() / "languages"
         if not self.files.exists():
-            steps("--instruction", ",".join(ROWS), "--count", 30, "--format", "flat", self.files)
+            steps("--instruction", ",".join([*ROWS, *PARTS]), "--count", 30, "--format", "flat", self.files)
 
     def paths(self, *rows):
         return [self.files / f"{row}.txt" for row in rows or ROWS]
 
+    def other_format(self):
+        """A file whose lines name another format."""
+        made = work() / "other-format.txt"
+        lines = (self.files / "6XKK.txt").read_text(encoding="utf-8").splitlines(keepends=True)
+        made.write_text("".join(lines[:1] + [line.replace("step 1 ", "step 2 ") for line in lines[1:]]), encoding="utf-8")
+        return made
+
     def finds_the_bug(self, printed):
         self.assertRegex(printed, r"^8XY4 case \d+: V(F|0 to VF)?\b.*\n")
         self.assertEqual(printed.count(" case "), 1)
+
+    def names_the_parts(self, printed):
+        lines = [line.split(" ", 3) for line in printed.splitlines() if " case " in line]
+        self.assertEqual([line[0] for line in lines], list(PARTS))
+        for row, _, number, found in lines:
+            self.assertRegex(found.lower(), rf"\b({PARTS[row]})\b", f"{row} {number}")
 
     def test_each_is_short(self):
         self.assertEqual([path.name for path in RUNNERS if len(path.read_text().splitlines()) > MOST_LINES], [])
@@ -111,6 +141,23 @@ class TestRunners(unittest.TestCase):
         self.assertEqual(run(*strict, "-o", wrong, EXAMPLE / "run_steps.c", work() / "wrong.c"), "")
         self.assertEqual(run(right, *self.paths()), "0 of 120 cases differ\n")
         self.finds_the_bug(run(wrong, *self.paths(), status=1))
+        self.assertIn("another format", run(right, self.other_format(), status=2))
+
+    @unittest.skipUnless(compiler(), "needs a C compiler")
+    def test_c_without_a_case(self):
+        """A run that reads nothing is no pass."""
+        files = {"steps": "8XY4.txt", "words": "words.txt", "programs": "programs.txt"}
+        for what, name in files.items():
+            built = work() / f"empty_{what}"
+            run(compiler(), "-std=c99", "-o", built, EXAMPLE / f"run_{what}.c", EXAMPLE / "emulator.c")
+            read = {"steps": "case", "words": "words", "programs": "program"}[what]
+            told = f"no {read} read; give a file such as schip/{name}\n"
+            self.assertEqual(run(built, folder("schip"), status=2), told)
+            for other in {*files.values()} - {name}:
+                self.assertIn(run(built, folder("schip") / other, status=2), (told, "another format\n"))
+            if what != "words":
+                self.assertEqual(run(built, status=2), told)
+            self.assertRegex(run(built, folder("schip") / name), "^0 of ")
 
     @unittest.skipUnless(compiler() and ARCHIVE.is_file(), "needs a C compiler, and release/chipbench-steps.tar.xz")
     def test_c_agrees_with_the_archive(self):
@@ -126,8 +173,11 @@ class TestRunners(unittest.TestCase):
     @unittest.skipUnless(shutil.which("node"), "needs node")
     def test_javascript(self):
         (self.files / "machine.mjs").write_text(JAVASCRIPT)
-        self.finds_the_bug(run("node", EXAMPLE / "run_steps.mjs", self.files / "machine.mjs", *self.paths(), status=1))
-        self.assertEqual(run("node", EXAMPLE / "run_steps.mjs", self.files / "machine.mjs", *self.paths("6XKK", "7XKK", "CXKK")), "")
+        tried = ["node", EXAMPLE / "run_steps.mjs", self.files / "machine.mjs"]
+        self.finds_the_bug(run(*tried, *self.paths(), status=1))
+        self.assertIn("another format", run(*tried, self.other_format(), status=1))
+        self.assertEqual(run(*tried, *self.paths("6XKK", "7XKK", "CXKK")), "")
+        self.names_the_parts(run(*tried, *self.paths(*PARTS), status=1))
 
     @unittest.skipUnless(shutil.which("rustc"), "needs rustc")
     def test_rust(self):
@@ -136,12 +186,18 @@ class TestRunners(unittest.TestCase):
         self.assertEqual(run("rustc", "--edition", "2021", "-o", "rust_steps", "run_steps.rs", cwd=self.files), "")
         self.finds_the_bug(run(self.files / "rust_steps", *self.paths(), status=1))
         self.assertEqual(run(self.files / "rust_steps", *self.paths("6XKK", "7XKK", "CXKK")), "")
+        self.names_the_parts(run(self.files / "rust_steps", *self.paths(*PARTS), status=1))
+        self.assertIn("another format", run(self.files / "rust_steps", self.other_format(), status=101))
 
     @unittest.skipUnless(shutil.which("go"), "needs go")
     def test_go(self):
         shutil.copy(EXAMPLE / "run_steps.go", self.files)
         (self.files / "machine.go").write_text(GO)
-        self.finds_the_bug(run("go", "run", "run_steps.go", "machine.go", *self.paths(), status=1, cwd=self.files))
+        tried = ["go", "run", "run_steps.go", "machine.go"]
+        self.finds_the_bug(run(*tried, *self.paths(), status=1, cwd=self.files))
+        self.names_the_parts(run(*tried, *self.paths(*PARTS), status=1, cwd=self.files))
+        for other in (self.other_format(), work() / "missing.txt"):
+            self.assertIn("another format", run(*tried, other, status=1, cwd=self.files))
 
     def test_each_reads_the_parts_of_a_state_in_their_order(self):
         """By its text, also where Go isn't installed."""

@@ -44,6 +44,7 @@ class TestTable(unittest.TestCase):
         found = counts(self.lines)
         self.assertIn(f"{found['steps']} bugs are found by steps, {found['words']} by words, {found['programs']} by programs", numbers)
         self.assertGreater(2 * found["both"], found["steps"])
+        self.assertGreaterEqual(found["alone"], 15)
 
     def test_words_find_each_decoder(self):
         found = {name: what for name, what in map(cells, self.lines) if name in DECODERS}
