@@ -28,7 +28,7 @@ after_operands [] (y ∷ ys) (Err f) q go h i = refl
 after_operands (x ∷ xs) ys (Ok z) q go h i = cc
 after_operands (x ∷ xs) ys (Err f) q go h i = refl
 
--- it is the value under no names, where a name has none
+-- the value of a constant is its value under no names, because a name has no value there
 pub constant-value : (e : Tree) → constant e ≡ result_ok (value e no_names)
 unfolding constant
 constant-value (number z) = refl

@@ -7,7 +7,7 @@ use Rattle.chip_lang.specs.Tree.{tree_of}
 use Rattle.chip_lang.specs.Value.{◌>>=◌, Symbols}
 use Rattle.chip_lang.specs.Code.{byte_of, word_bytes, datum_of, data_bytes}
 
--- bytes, and what is left of an outcome
+-- bytes before the bytes of an outcome; a fault stays a fault
 abbrev pub after : List ℕ → Result (List ℕ) Fault → Result (List ℕ) Fault
 after bytes (Ok rest) = Ok (bytes ++ rest)
 after bytes (Err fault) = Err fault

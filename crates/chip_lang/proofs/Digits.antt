@@ -46,7 +46,7 @@ own_n : HasOwn 0 takes_n
 own_n Vx w = omega arith
 own_n p w = omega arith
 
--- ---- the field of an operand stands in the operand's place
+-- ---- the field of an operand is at the operand's place
 
 if_ok : (b : Bool) (n f : ℕ) (fault : Fault) → (if b then Ok n else Err fault) ≡ Ok f → (b ≡ true) × (n ≡ f)
 if_ok true n f fault h = (refl, cc)
@@ -95,7 +95,7 @@ fields_are r s f h = cc
 
 -- ---- the words of a form are those with its digits
 
--- where an operand takes a digit the form's base has none
+-- the base of a form has the digit 0 where an operand takes the digit
 abbrev leaves_room : (Pattern → Bool) → (bits : ℕ) → Row → Bool
 leaves_room takes bits r = not (list_any takes r.patterns) || digit bits r.base == 0
 
@@ -223,7 +223,7 @@ same_test true b p q = sym (p refl)
 same_test false true p q = q refl
 same_test false false p q = refl
 
--- a form gives a word just where the word has its digits
+-- a form gives a word if and only if the word has the form's digits
 pub gives_digits : (r : Row) (w : ℕ) → is_proper r ≡ true → w < 65536 → gives r w ≡ has_digits r (digit 12 w) (digit 8 w) (digit 4 w) (digit 0 w)
 gives_digits r w proper h =
     let word = bit_or r.base (parts_in r.patterns w) in

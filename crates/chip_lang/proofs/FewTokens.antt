@@ -5,7 +5,7 @@ use Rattle.chip_lang.specs.declared.limits.TheConstants.{OPEN_PARENTHESES}
 use Rattle.chip_lang.specs.declared.lexeme.Lexeme.{Lexeme}
 use Rattle.chip_lang.specs.Line.{is_sign_of, too_deep}
 
--- tokens that are few after these counts
+-- after these counts, the tokens are too few to open too many parentheses
 abbrev pub Few : ℕ → ℕ → List Lexeme → Type 0
 Few opened closed ts = opened + length ts ≤ closed + OPEN_PARENTHESES
 

@@ -1,4 +1,4 @@
--- What has a value keeps it when names are added.
+-- An expression that has a value keeps it when names are added.
 use Rattle.std.proofs.Common.{◌≡◌, ℕ, ℤ, Option, Some, None, List, Ok, refl}
 use Rattle.chip_lang.specs.declared.fault.Fault.TheVariants.{UndefinedName}
 use Rattle.chip_lang.proofs.Outcomes.{first-value}

@@ -21,7 +21,7 @@ use Rattle.chip_lang.proofs.NamedForms.{is_there}
 abbrev words_ending_in : ℕ → List (List ℕ)
 words_ending_in last = unwrap_or (slice_get words (last - 65)) []
 
--- the words beside a word
+-- the words that end in the same byte as a word
 abbrev beside : List ℕ → List (List ℕ)
 beside w = words_ending_in (slice_index w (length w - 1))
 
@@ -91,7 +91,7 @@ nothing = record { directive = None; special = None; forms = []; is_instruction 
 no_meaning : (w : List ℕ) → is_known w ≡ false → nothing ≡ meaning w
 no_meaning w unknown = rw (no_directive w unknown, no_special w unknown, no_forms w unknown, no_name w unknown) refl
 
--- what a word means is what stands beside it in the rows of its last byte
+-- the meaning of a word is the one beside it in the rows of its last byte
 means : (w : List ℕ) → unwrap_or (find_word (map row (beside w)) w) nothing ≡ meaning w
 means w = elim (cases_Bool (is_known w)) [ inl known ↦ rw (found (beside w) w, known) refl | inr unknown ↦ rw (found (beside w) w, unknown) (no_meaning w unknown) ]
 

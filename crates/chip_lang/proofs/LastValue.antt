@@ -13,7 +13,7 @@ use Rattle.chip_lang.specs.inner.LastValue.{top_value, value_put, values_left, l
 abbrev Outcome : Type 0
 Outcome = Result ℤ Fault
 
--- what comes of the values of a stack, or the first fault from the bottom
+-- an outcome that depends on the values of a stack, or the first fault from the bottom
 abbrev with_values : Symbols → List Tree → (List ℤ → Outcome) → Outcome
 with_values symbols [] go = go []
 with_values symbols (t ∷ stack) go = with_values symbols stack (λ vs. value t symbols >>= λ v. go (v ∷ vs))
@@ -57,7 +57,7 @@ pub last_value-whole : (names : List (List ℕ)) (symbols : Symbols) (items : Li
     last_value names symbols [] items ≡ value (top (stack_of names items)) symbols
 last_value-whole names symbols items h = value_after names symbols [] items h
 
--- ---- a zero more under the last one changes nothing
+-- ---- one more zero under the last value changes nothing
 
 put_over_zero : (names : List (List ℕ)) (symbols : Symbols) (i : Item) (stack : List ℤ) → value_put names symbols i (stack ++ pos 0 ∷ []) ≡ value_put names symbols i stack
 put_over_zero names symbols (Unary sign) [] = refl
@@ -90,7 +90,7 @@ last_value-zero names symbols stack (i ∷ items) =
       | inr e ↦ ap (λ s. last_value names symbols (v ∷ s) items) e ∙ last_value-zero names symbols (v ∷ values_left i stack) items
     ])
 
--- ---- where the items after an operand end
+-- ---- the end of the items after an operand
 
 pub no_more : (names : List (List ℕ)) (symbols : Symbols) (stack : List ℤ) (items : List Item) → length items ≡ 0 → last_value names symbols stack items ≡ Ok (top_value stack)
 no_more names symbols stack [] h = refl
@@ -106,7 +106,7 @@ after_fault : (names : List (List ℕ)) (symbols : Symbols) (i : Item) (f : Faul
 after_fault names symbols i f stack rest items is put =
     ap (last_value names symbols stack) is ∙ ap (λ r. r >>= λ x. last_value names symbols (x ∷ values_left i stack) items) put
 
--- the fault of the item after those with which an operand begins
+-- the fault of an item that follows the items at the front of an operand
 pub operand_fault : (names : List (List ℕ)) (symbols : Symbols) (i : Item) (f : Fault) (first left right : ℤ) (all rest items : List Item) → SFits w32 first → SFits w32 left →
     ((under : List ℤ) → last_value names symbols (to_z w32 (of_z w32 first) ∷ to_z w32 (of_z w32 left) ∷ under) all ≡ last_value names symbols (right ∷ to_z w32 (of_z w32 left) ∷ under) rest) →
     rest ≡ i ∷ items → ((under : List ℤ) → value_put names symbols i (right ∷ left ∷ under) ≡ Err f) →

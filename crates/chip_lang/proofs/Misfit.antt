@@ -6,7 +6,7 @@ use Rattle.chip_lang.specs.declared.lexeme.Lexeme.{Lexeme}
 use Rattle.chip_lang.specs.Line.{pieces}
 use Rattle.chip_lang.proofs.Pieces.{before_comma, cut_at_comma, no_comma}
 
--- with a comma after each
+-- the number of tokens in pieces, with a comma after each piece
 abbrev pub joined : List (List Lexeme) → ℕ
 joined [] = 0
 joined (p ∷ ps) = length p + 1 + joined ps

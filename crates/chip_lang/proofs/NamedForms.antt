@@ -37,7 +37,7 @@ pub form_among : (fs : List Form) (name : List ℕ) (operands : List Operand) �
 unfolding forms_of
 form_among fs name operands same = ap (λ rows. first_fit rows operands) same ∙ same_form name forms operands
 
--- whether there is a form of a name
+-- whether a name has a form
 pub some_among : (fs : List Form) (name : List ℕ) → map row_of_form fs ≡ forms_of name → not (length fs == 0) ≡ is_mnemonic name
 unfolding forms_of
 some_among fs name same =
@@ -47,7 +47,7 @@ not_not : (b : Bool) → b ≡ not (not b)
 not_not true = refl
 not_not false = refl
 
--- whether there is none
+-- whether a name has no form
 pub none_among : (fs : List Form) (name : List ℕ) → map row_of_form fs ≡ forms_of name → (length fs == 0) ≡ not (is_mnemonic name)
 none_among fs name same = not_not (length fs == 0) ∙ ap not (some_among fs name same)
 

@@ -46,7 +46,7 @@ pub names_whole : (names : List (List ℕ)) (items : List Item) → IsWhole name
 unfolding names_on
 names_whole names items h = sym h.all ∙ sym (names_on-fold names items []) ∙ names_on-one (stack_of names items) h.one
 
--- the first of the names from a place on is that of the place
+-- the first of the names from a place on is the name at that place
 pub slice_get-drop : {A : Type 0} (xs : List A) (k : ℕ) → slice_get (drop k xs) 0 ≡ slice_get xs k
 slice_get-drop [] zero = refl
 slice_get-drop [] (suc k) = refl

@@ -14,7 +14,7 @@ use Rattle.chip_lang.specs.declared.expr.Prefix.{Prefix}
 use Rattle.chip_lang.specs.Expression.{Tree, name, binary}
 use Rattle.chip_lang.specs.inner.Postfix.{top, popped, pushed, stack_of, name_of_item, names_of, IsAmongFirst, AreNumbered}
 
--- ---- a name more
+-- ---- one more name
 
 pushed-more : (names : List (List ℕ)) (n : List ℕ) (stack : List Tree) (i : Item) → IsAmongFirst (length names) i →
     pushed (names ++ n ∷ []) stack i ≡ pushed names stack i
@@ -44,7 +44,7 @@ names_of-more names n (i ∷ items) h =
     ∙ ap (λ back. name_of_item names i ++ back) (names_of-more names n items (All-tail (IsAmongFirst (length names)) i items h))
     ∙ sym (flat_map-cons (name_of_item names) i items)
 
--- ---- an item more
+-- ---- one more item
 
 among-more : (count more : ℕ) → count ≤ more → (i : Item) → IsAmongFirst count i → IsAmongFirst more i
 among-more count more le (Name k) h = omega (arith, le, h)
@@ -55,7 +55,7 @@ names_of-push : (names : List (List ℕ)) (items : List Item) (i : Item) → nam
 names_of-push names items i =
     flat_map-append (name_of_item names) items (i ∷ []) ∙ ap (λ back. names_of names items ++ back) (flat_map-cons (name_of_item names) i [] ∙ append-nil (name_of_item names i))
 
--- ---- what stays numbered
+-- ---- items that stay numbered
 
 -- an item without a name more
 numbered_push : (names : List (List ℕ)) (items : List Item) (i : Item) → IsAmongFirst 0 i → name_of_item names i ≡ [] → AreNumbered names items →

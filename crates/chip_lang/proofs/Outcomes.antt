@@ -1,9 +1,9 @@
--- What comes of an outcome.
+-- Outcomes, and the values that follow from them.
 use Rattle.std.proofs.Common.{◌≡◌, Result, Ok, Err, refl}
 use Rattle.chip_lang.specs.declared.fault.Fault.{Fault}
 use Rattle.chip_lang.specs.Value.{◌>>=◌}
 
--- an outcome was had, and a value comes of it
+-- an outcome has a value, and another value follows from it
 pub record Comes {A B : Type 0} (r : Result A Fault) (go : A → Result B Fault) (v : B) : Type 0 where
   pub first : A
   pub had : r ≡ Ok first

@@ -34,9 +34,9 @@ own_digits r w digits =
     let d2 = and_parts _ _ d1.1 in
     record { top = is_own takes_top 12 r w d.0; x = is_own takes_x 8 r w d1.0; y = is_own takes_y 4 r w d2.0; n = is_own takes_n 0 r w d2.1 }
 
--- ---- what is found in a table
+-- ---- the row that is found in a table
 
--- what two readings of a table have in common, they have in common at the row that is found
+-- two functions that agree on all rows of a table agree on the row that is found
 pub found_same : {R A : Type 0} (test : R → Bool) (f g : R → A) (rows : List R) (r : R) → map f rows ≡ map g rows → find test rows ≡ Some r → f r ≡ g r
 found_same {R = R} {A = A} test f g rows r e h =
     let k = position_or_len test rows in

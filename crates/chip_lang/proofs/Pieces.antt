@@ -52,7 +52,7 @@ no_comma ts n e h = whole ts (omega arith)
 pub ruleset piece_steps = (cut_at_comma, no_comma, to_end)
 
 module _ {A B : Type 0} where
-  -- what was found, and what is left to find
+  -- the values that were found, before those that are left to find
   abbrev pub after : (A → B) → List A → Option (List B) → Option (List B)
   after v xs None = None
   after v xs (Some ys) = Some (map v xs ++ ys)

@@ -1,5 +1,5 @@
--- What is read of a line's tokens: it uses few names, which are parted by tokens that are no names, and an instruction is of
--- the form of its name and operands, with registers from V0 to VF.
+-- The reading of a line's tokens. It uses few names, because tokens that aren't names separate
+-- them, and its instruction has the form of its name and operands, with registers from V0 to VF.
 use Rattle.std.proofs.Common.{◌≡◌, ℕ, suc, ◌+◌, ◌*◌, ◌≤◌, Bool, true, false, not, ◌==◌, ◌&&◌, ◌||◌, ltb, if◌then◌else◌, is_some, List, [], ◌∷◌, length, map, Option, Some, None, refl, subst, arith}
 use Rattle.std.specs.Prelude.{option_and_then, option_map}
 use Rattle.std.specs.List.{flat_map, list_all}
@@ -27,7 +27,7 @@ use Rattle.chip_lang.proofs.Sound.{only_expressions}
 
 -- ---- expressions
 
--- between each two names of an expression stands a sign
+-- there is a sign between each two names of an expression
 names_in_few : {l : ℕ} {ts : List Lexeme} {e : Tree} → Parses l ts e → 2 * length (names_in e) ≤ suc (length ts)
 names_in_few a_number = omega arith
 names_in_few (a_name h) = omega arith
@@ -42,7 +42,7 @@ names_in_few (with_operator c {left = left} {right = right} {a = a} {b = b} p q 
     rw e (omega (arith, first, second, length-append left (Sign c ∷ right), length-append (names_in a) (names_in b)))
 names_in_few (stronger h) = names_in_few h
 
--- what is found, if anything, has so few names and passes a test
+-- an expression that is found, if any, has so few names and passes a test
 abbrev FewIn : {A : Type 0} → (A → List (List ℕ)) → (A → Bool) → (room : ℕ) → Option A → Type 0
 FewIn names test room None = Unit {0}
 FewIn names test room (Some x) = (2 * length (names x) ≤ room) × (test x ≡ true)

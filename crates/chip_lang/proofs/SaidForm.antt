@@ -1,4 +1,4 @@
--- The word of a form but SYS is an instruction that the form says.
+-- The word of each form except SYS decodes to an instruction of that form.
 use Rattle.std.proofs.Common.{◌≡◌, ◌≢◌, ℕ, ◌<◌, ◌==◌, Bool, true, false, if◌then◌else◌, List, [], ◌∷◌, map, codes, Option, Some, None, refl, sym, ap, ◌∙◌}
 use Rattle.std.specs.Prelude.{option_map}
 use Rattle.std.specs.List.{list_all, find}
@@ -78,7 +78,7 @@ find_form_is : (rows : List Row) (name : List ℕ) (operands : List Operand) →
 find_form_is [] name operands = refl
 find_form_is (r ∷ rows) name operands = rw (find_form_is rows name operands) refl
 
--- ---- the instruction that it says
+-- ---- the instruction that the form says
 
 said_by : (r : Row) (w : ℕ) (o : Option Entry) → entry_of w ≡ o → sign_of o ≡ Some (r.name, r.base) → DecodesTo r w
 unfolding decode_of
@@ -94,7 +94,7 @@ said_by r w (Some entry) e h =
       base = ap (λ s. s.1) same;
     }
 
--- each word with the digits of a form but SYS decodes to an instruction of that form
+-- each word with the digits of a form other than SYS decodes to an instruction of that form
 said_row : (r : Row) (w : ℕ) → is_sys r ≡ false → unless_sys r (sign_of (own_entry r w)) ≡ unless_sys r (Some (r.name, r.base)) → w < 65536 → HasDigits r w → DecodesTo r w
 said_row r w plain same h digits = said_by r w (own_entry r w) (entry_own r w h digits) (rw plain at same)
 

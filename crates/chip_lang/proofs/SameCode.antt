@@ -1,4 +1,5 @@
--- What has one value under two tables, where they agree on its names.
+-- The value of an expression and the code of a line are the same under two tables that agree on
+-- their names.
 use Rattle.std.proofs.Common.{◌≡◌, ℕ, ℤ, Bool, true, Option, Some, None, List, [], ◌∷◌, ◌++◌, refl, sym, ◌∙◌, ap}
 use Rattle.std.specs.List.{list_all, flat_map}
 use Rattle.std.specs.Option.{option_eq}

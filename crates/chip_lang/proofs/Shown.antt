@@ -49,7 +49,7 @@ pub entry_gives : (w : ℕ) (e : Entry) → entry_of w ≡ Some e → gives e.fo
 unfolding entry_of
 entry_gives w e h = found_passes (λ e. gives e.form w) table e h
 
--- what is made of an option is made of what stands in it
+-- a result made of an option is made of the value in it
 pub made_of : {A B : Type 0} (make : A → B) (o : Option A) (y : B) → option_map make o ≡ Some y → (x : A) × (o ≡ Some x) × (make x ≡ y)
 made_of make None y h = cc
 made_of make (Some x) y h = (x, refl, cc)

@@ -1,10 +1,10 @@
--- The tables of digits have at each place its digits.
+-- The tables of digits have the right digits at each place.
 use Rattle.std.proofs.Common.{◌≡◌, ℕ, zero, suc, ◌+◌, ◌*◌, ◌/◌, ◌%◌, ◌<◌, ◌==◌, ◌&&◌, Bool, true, inl, inr, ◌∷◌, slice_index, refl, arith}
 use Rattle.std.proofs.lemmas.Bool.{and_parts, cases_lt, eqb-true}
 use Rattle.chip_lang.specs.Show.{hex_digit, two_hex_digits, four_hex_digits, register_digit}
 use Rattle.chip_lang.specs.declared.source_text.TheConstants.{DIGIT_PAIRS, REGISTER_DIGITS}
 
--- whether the numbers below one pass a test, which computes
+-- true if all numbers below a number pass a test; this computes
 abbrev all_below : (ℕ → Bool) → ℕ → Bool
 all_below test zero = true
 all_below test (suc n) = test n && all_below test n

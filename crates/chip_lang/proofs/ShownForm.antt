@@ -1,4 +1,4 @@
--- The form that a word is shown in is that of its digits.
+-- The form in which a word is shown is the form that has its digits.
 use Rattle.std.proofs.Common.{◌≡◌, ℕ, ◌<◌, ◌/◌, is_some, Option, Some, None, refl, ap}
 use Rattle.std.specs.Prelude.{option_map}
 use Rattle.chip_lang.specs.Table.{Entry, fields_in}

@@ -60,8 +60,8 @@ further_end (suc n) level left rest h front = ap (λ o. with_right (parse n (bel
 
 -- ---- levels one after another
 
--- what a level finds is what a weaker one finds, where no operator of a level between stands in
--- front
+-- the result of a level is the result of a weaker one, if no operator of a level between them is at
+-- the front
 pub raised : (d k level : ℕ) (ts rest : List Lexeme) (left : Tree) → d + k ≡ level → 1 ≤ k → length rest < length ts →
     ((l : ℕ) → k < l → l ≤ level → None ≡ front_operator rest l) →
     ((m : ℕ) → 9 * length ts + k < m → Some (left, rest) ≡ parse m k ts) →
@@ -98,7 +98,7 @@ pub settled : (done level next : ℕ) (ts rest : List Lexeme) (left : Tree) → 
 settled done level next ts rest left low high front short stop found =
     raised (level - done) done level ts rest left (omega arith) low short (λ l p q. sym (no_operator rest l (λ e. stop l p q (front ∙ e)))) found
 
--- where a level finds nothing a weaker one finds nothing
+-- if a level finds nothing, a weaker level finds nothing
 pub sunk : (d k level : ℕ) (ts : List Lexeme) → d + k ≡ level → 1 ≤ k →
     ((m : ℕ) → 9 * length ts + k < m → None ≡ parse m k ts) → (n : ℕ) → 9 * length ts + level < n → None ≡ parse n level ts
 sunk zero k level ts is low none n b =
@@ -109,7 +109,7 @@ sunk (suc d) k level ts is low none n b =
     let next : suc under ≡ level = omega arith in
     nothing_step n under ts (omega arith) (omega arith) (sunk d k under ts refl low none) ∙ ap (λ l. parse n l ts) next
 
--- ---- the same, of what a function answers
+-- ---- the same steps for the results of functions
 
 pub plain_ok : {E : Type 0} (e : Tree) (r : Result (Option (Bor (List Lexeme))) E) (ts : List Lexeme) → None ≡ front_prefix ts →
     IfOk r (λ found. (n : ℕ) → 9 * length ts < n → seen e found ≡ parse n 0 ts) →
@@ -146,7 +146,7 @@ further_at n level k sign left ts rest p y is high same l q front found more =
 
 -- ---- operators one after another
 
--- what is found after a left side and the tokens after it is what is found after a first one and
+-- the result after a left side and the tokens after it is the result after a first left side and
 -- more tokens
 abbrev pub Leads : ℕ → Tree → List Lexeme → Tree → List Lexeme → Type 0
 Leads level first ts left rest =

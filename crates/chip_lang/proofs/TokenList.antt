@@ -16,7 +16,7 @@ use Rattle.chip_lang.specs.computed.Tokens.{tokens_from, tokens_of}
 use Rattle.chip_lang.specs.Scan.{AllBlank, IsToken, IsOver, AreTokens}
 use Rattle.chip_lang.proofs.Scan.{token_step}
 
--- ---- how long a token is
+-- ---- the length of a token
 
 abbrev Bounded : List ℕ → Kind × ℕ → Type 0
 Bounded bytes r = (0 < r.1) × (r.1 ≤ length bytes + 1)
@@ -100,7 +100,7 @@ only_from (t ∷ ts) line place h a =
 pub no_other_tokens : (line : List ℕ) (ts : List Token) → AreTokens line 0 ts → ts ≡ tokens_of line
 no_other_tokens line ts a = only_from ts line 0 (omega arith) a
 
--- ---- that list
+-- ---- the list of tokens
 
 blank_before : (line : List ℕ) (place to : ℕ) → is_blank (get_or line place 0) ≡ true → AllBlank line (place + 1) to → AllBlank line place to
 blank_before line place to h all k p q =
@@ -165,7 +165,7 @@ pub ruleset token_laws = (these_tokens, no_other_tokens)
 pub placed : (line : List ℕ) (ts : List Token) → ts ≡ tokens_of line → AreTokens line 0 ts
 placed line ts e = subst (AreTokens line 0) (sym e) (these_tokens line)
 
--- ---- where tokens lie
+-- ---- the places of tokens
 
 -- a token lies in its line
 pub record LiesIn (line : List ℕ) (t : Token) : Type 0 where

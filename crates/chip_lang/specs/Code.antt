@@ -10,7 +10,7 @@ use Rattle.chip_lang.specs.Value.{◌>>=◌, Symbols, value}
 use Rattle.chip_lang.specs.Line.{Body, db, dw, da, code, Reading, bad, read}
 use Rattle.chip_lang.specs.Encoding.{signed_below, word_of_form}
 
--- one byte
+-- one byte, as a list
 abbrev pub byte_of : ℕ → List ℕ
 byte_of n = n ∷ []
 
@@ -18,11 +18,11 @@ byte_of n = n ∷ []
 abbrev pub word_bytes : ℕ → List ℕ
 word_bytes w = w / 256 ∷ w % 256 ∷ []
 
--- a value of DB or DW: in its range, a negative one modulo the limit
+-- a value of DB or DW: a negative one modulo the limit, and a fault if it is out of range
 abbrev pub datum_of : ℕ → Tree → Symbols → Result ℕ Fault
 datum_of limit e symbols = value e symbols >>= signed_below limit
 
--- the bytes of some values, each in a range, left to right
+-- the bytes of some values from left to right, each value in its range
 abbrev pub data_bytes : ℕ → (ℕ → List ℕ) → List Tree → Symbols → Result (List ℕ) Fault
 data_bytes limit shown [] symbols = Ok []
 data_bytes limit shown (e ∷ es) symbols =
@@ -38,7 +38,7 @@ own_bytes (code form operands) symbols =
     word_of_form form operands symbols >>= λ w. Ok (word_bytes w)
 own_bytes body symbols = Ok []
 
--- how many bytes a statement has of its own, where it has no fault
+-- the number of bytes that a statement has of its own if it has no fault
 abbrev pub own_length : Body → ℕ
 own_length (db es) = length es
 own_length (dw es) = 2 * length es
@@ -50,22 +50,22 @@ abbrev pub coded : Result (List ℕ) Fault → Coded
 coded (Ok bytes) = Bytes bytes
 coded (Err fault) = Faulty fault
 
--- the code of a line; of a line that can't be read its reading fault
+-- the code of a line, which is the reading fault if the line can't be read
 abbrev pub code_of : Reading → Symbols → Coded
 code_of (bad fault) symbols = Faulty fault
 code_of (read label body) symbols = coded (own_bytes body symbols)
 
--- how many bytes of its own a line has, where it has no fault
+-- the number of bytes that a line has of its own if it has no fault
 abbrev pub code_length : Reading → ℕ
 code_length (bad fault) = 0
 code_length (read label body) = own_length body
 
--- the bytes of a code, none of a faulty line
+-- the bytes of a code; a faulty line has none
 abbrev pub bytes_coded : Coded → List ℕ
 bytes_coded (Bytes bytes) = bytes
 bytes_coded (Faulty fault) = []
 
--- the fault of a code, if it is one
+-- the fault of a code, if the code is a fault
 abbrev pub fault_coded : Coded → Option Fault
 fault_coded (Bytes bytes) = None
 fault_coded (Faulty fault) = Some fault

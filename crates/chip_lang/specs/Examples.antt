@@ -1,4 +1,4 @@
--- Worked examples of the definitions (own).
+-- Worked examples of the definitions (chosen by this project).
 use Rattle.std.specs.Prelude.{ℕ, ◌≡◌, pos, negsuc, codes, [], ◌∷◌, Some, None, Ok, Err}
 use Rattle.chip_lang.specs.declared.fault.Fault.TheVariants.{Overflow, DivisionByZero, BadCharacter, UnfinishedString, UnknownWord, WrongOperands, TooDeep, BadName, NotInProfile}
 use Rattle.chip_lang.specs.declared.token.Token.{Token}

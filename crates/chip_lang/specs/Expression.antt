@@ -1,4 +1,4 @@
--- Expressions as trees (own).
+-- Expressions as trees (chosen by this project).
 use Rattle.std.specs.Prelude.{ℕ, ℤ, List}
 use Rattle.chip_lang.specs.declared.expr.Prefix.{Prefix}
 use Rattle.chip_lang.specs.declared.expr.Operator.{Operator}

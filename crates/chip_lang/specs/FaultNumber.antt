@@ -1,4 +1,4 @@
--- The numbers of faults, F1 to F17 (own).
+-- The numbers of faults, F1 to F17 (chosen by this project).
 use Rattle.std.specs.Prelude.{ℕ}
 use Rattle.chip_lang.specs.declared.fault.Fault.{Fault}
 use Rattle.chip_lang.specs.declared.fault.Fault.TheVariants.{BadCharacter, UnfinishedString, UnknownWord, WrongOperands, NumberTooLarge, TooDeep, BadName, DefinedTwice, UndefinedName, OutOfRange, DivisionByZero, Overflow, OrgBelowHere, PastMemory, StrayBranch, UnclosedIf, NotInProfile}

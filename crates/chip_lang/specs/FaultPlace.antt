@@ -1,4 +1,5 @@
--- The place of a line's fault: at which of the line's tokens it lies (own).
+-- The place of a line's fault, that is, the tokens of the line at which it lies (chosen by this
+-- project).
 use Rattle.std.specs.Prelude.{ℕ, ◌+◌, ◌-◌, ◌&&◌, not, Bool, true, false, if◌then◌else◌, nat_lt, is_some, List, [], ◌∷◌, length, Option, Some, None, slice_get}
 use Rattle.std.specs.List.{prefix_len}
 use Rattle.chip_lang.specs.declared.fault.Fault.{Fault}
@@ -19,25 +20,26 @@ use Rattle.chip_lang.specs.computed.Tokens.{tokens_of}
 
 -- ---- tokens are counted from 0
 
--- the token of an index; where the line has no such token, the end of its last one
+-- the token with an index; if the line has no such token, the end of its last one
 abbrev pub at : ℕ → Place
 at index = record { first = index; wide = false }
 
--- the token of an index and all after it
+-- the token with an index and all tokens after it
 abbrev pub from : ℕ → Place
 from index = record { first = index; wide = true }
 
--- ---- what the table says
+-- ---- the parts of the table
 
 abbrev pub is_bad : Lexeme → Bool
 is_bad (Bad f) = true
 is_bad t = false
 
--- the leftmost bad token
+-- the index of the leftmost bad token; the number of tokens if none is bad
 abbrev pub leftmost_bad : List Lexeme → ℕ
 leftmost_bad ts = prefix_len (λ t. not (is_bad t)) ts
 
--- the parenthesis with which those opened and not closed go beyond OPEN_PARENTHESES
+-- the index of the parenthesis that makes more than OPEN_PARENTHESES open at once; the number of
+-- tokens if none does
 abbrev pub deepest : (opened closed : ℕ) → List Lexeme → ℕ
 deepest opened closed [] = 0
 deepest opened closed (t ∷ ts) =
@@ -46,24 +48,25 @@ deepest opened closed (t ∷ ts) =
     if nat_lt (closed_now + OPEN_PARENTHESES) opened_now then 0
     else deepest opened_now closed_now ts + 1
 
--- the first token of the statement, after a label and its colon; of a definition the name. `count`
--- is how many tokens the line has
+-- the index of the statement's first token, after a label and its colon; for a definition, the
+-- index of its name. `count` is the number of the line's tokens
 abbrev pub statement_at : (count : ℕ) → Shape → ℕ
 statement_at count (definition w value) = 0
 statement_at count (statement label ts) = count - length ts
 
--- what follows the statement's word; of a definition what follows EQU or =
+-- the index of the first token after the statement's word; for a definition, after EQU or =
 abbrev pub operands_at : (count : ℕ) → Shape → ℕ
 operands_at count (definition w value) = count - length value
 operands_at count (statement label ts) = count - length ts + 1
 
--- the name that the line gives a value: the definition's, the label, or the word after DEFINE
+-- the index of the name that the line gives a value: the name of a definition, the label, or the
+-- word after DEFINE
 abbrev pub name_at : (count : ℕ) → Shape → ℕ
 name_at count (definition w value) = 0
 name_at count (statement (Some l) ts) = 0
 name_at count (statement None ts) = count - length ts + 1
 
--- the first of the words that the line defines and can't be defined
+-- the index of the first word that the line defines and that can't be defined
 abbrev pub bad_name_at : (count : ℕ) → Shape → ℕ
 bad_name_at count (definition w value) = 0
 bad_name_at count (statement None ts) = count - length ts + 1
@@ -71,18 +74,20 @@ bad_name_at count (statement (Some l) ts) = if is_bad_name l then 0 else count -
 
 -- ---- operands that don't fit
 
--- a piece between commas is an operand; for ORG, DS, DB and DW it is an expression
+-- true if a piece between commas is an operand or, for ORG, DS, DB and DW, an expression
 abbrev pub is_fit : (values : Bool) → List Lexeme → Bool
 is_fit true piece = is_some (expression_of piece)
 is_fit false piece = is_some (operand_of_tokens piece)
 
--- how many tokens stand before the first piece that doesn't fit, with a comma after each piece
+-- the number of tokens before the first piece that doesn't fit, counting a comma after each piece;
+-- more than the number of all tokens if each piece fits
 abbrev pub before_misfit : (values : Bool) → List (List Lexeme) → ℕ
 before_misfit values [] = 0
 before_misfit values (p ∷ ps) =
     if is_fit values p then length p + 1 + before_misfit values ps else 0
 
--- operands from an index on: the first that doesn't fit, or all of them where each fits by itself
+-- the first operand that doesn't fit, or all operands if each fits by itself; `first` is the index
+-- of the first operand's first token, and `count` is the number of the operands' tokens
 abbrev pub misfit_from : (first count before : ℕ) → Place
 misfit_from first count before = if nat_lt count before then from first else at (first + before)
 
@@ -96,29 +101,31 @@ takes_values Db = true
 takes_values Dw = true
 takes_values d = false
 
--- EQU without a name, and a directive that takes no label after one
+-- true for EQU without a name, and for a directive after a label if it takes none
 abbrev pub is_misplaced : (labelled : Bool) → Directive → Bool
 is_misplaced labelled Equ = true
 is_misplaced labelled d = labelled && not (takes_label d)
 
--- a statement that begins with a word: the directive where it is misplaced, else its operands
+-- the place of operands that don't fit, in a statement that begins with a word: the directive if it
+-- is misplaced, or else the operands
 abbrev pub wrong_in_word : (labelled : Bool) → Option Directive → (first : ℕ) → List Lexeme → Place
 wrong_in_word labelled None first ts = misfit false (first + 1) ts
 wrong_in_word labelled (Some d) first ts =
     if is_misplaced labelled d then at first
     else (if takes_values d then misfit true (first + 1) ts else from (first + 1))
 
--- a statement that begins with no word lies wrong at its first token
+-- the place of operands that don't fit, in a statement; if no word begins it, the first token
 abbrev pub wrong_in_statement : (labelled : Bool) (first : ℕ) → List Lexeme → Place
 wrong_in_statement labelled first (Word w ∷ ts) = wrong_in_word labelled (directive_of w) first ts
 wrong_in_statement labelled first ts = at first
 
--- a definition whose value is not an expression lies wrong there
+-- the place of operands that don't fit, in a line; for a definition, the value, which isn't an
+-- expression
 abbrev pub wrong : (count : ℕ) → Shape → Place
 wrong count (definition w value) = from (count - length value)
 wrong count (statement label ts) = wrong_in_statement (is_some label) (count - length ts) ts
 
--- ---- the table: at which tokens each fault lies
+-- ---- the table: the tokens at which each fault lies
 
 abbrev pub place_of_fault : Fault → List Lexeme → Place
 place_of_fault BadCharacter ts = at (leftmost_bad ts)
@@ -145,7 +152,8 @@ abbrev pub end_of : Option Token → ℕ
 end_of None = 0
 end_of (Some t) = t.end
 
--- from the start of the first token to its end, or to the end of the line's last one
+-- the part of a line from the start of the first token to its end or, if `wide`, to the end of the
+-- line's last token; without a first token, the empty part at the end of the last one
 abbrev pub span_from : Option Token → (wide : Bool) (last : ℕ) → Span
 span_from None wide last = record { start = last; end = last }
 span_from (Some t) true last = record { start = t.start; end = last }
@@ -154,7 +162,7 @@ span_from (Some t) false last = record { start = t.start; end = t.end }
 abbrev pub span_of_place : List Token → Place → Span
 span_of_place ts p = span_from (slice_get ts p.first) p.wide (end_of (slice_get ts (length ts - 1)))
 
--- the bytes of a line at which a fault of it lies
+-- the part of a line at which one of its faults lies
 unfoldable pub span_of_fault : Fault → List ℕ → Span
 span_of_fault fault line = span_of_place (tokens_of line) (place_of_fault fault (lexemes_of line))
 
@@ -168,7 +176,8 @@ abbrev pub mnemonic_in : Shape → Option (List ℕ)
 mnemonic_in (definition w value) = None
 mnemonic_in (statement label ts) = mnemonic_at ts
 
--- the mnemonic with which the statement of a line begins, in upper case
+-- the mnemonic that the statement of a line begins with, in upper case; none if it begins with no
+-- mnemonic
 unfoldable pub mnemonic_of : List ℕ → Option (List ℕ)
 mnemonic_of line = mnemonic_in (shape_of (lexemes_of line))
 

@@ -1,4 +1,4 @@
--- The form of an instruction in source: that of its name and operands (Chipper manual).
+-- The form of an instruction in source, found by its name and operands (Chipper manual).
 use Rattle.std.specs.Prelude.{ℕ, ◌==◌, ◌&&◌, Bool, true, false, if◌then◌else◌, List, [], ◌∷◌, Option, Some, None}
 use Rattle.std.specs.Str.{bytes_eq}
 use Rattle.chip_lang.specs.declared.form.Form.{Form}
@@ -16,7 +16,7 @@ abbrev pub option_row : Option Form → Option Row
 option_row None = None
 option_row (Some f) = Some (row_of_form f)
 
--- a word and its pattern
+-- true if a word for a part of the machine, or [I], fits a pattern
 unfoldable pub is_special : Special → Pattern → Bool
 is_special index Index = true
 is_special delay_timer DelayTimer = true
@@ -29,7 +29,7 @@ is_special flags Flags = true
 is_special at_index AtIndex = true
 is_special s p = false
 
--- an operand and its pattern
+-- true if an operand fits a pattern
 unfoldable pub matches : Pattern → Operand → Bool
 matches p (special s) = is_special s p
 matches Vx (register x) = true
@@ -46,15 +46,15 @@ all_match [] (o ∷ os) = false
 all_match (p ∷ ps) [] = false
 all_match (p ∷ ps) (o ∷ os) = matches p o && all_match ps os
 
--- a form is that of a name and operands
+-- true if a form has this name, and these operands fit it
 abbrev pub fits : Row → List ℕ → List Operand → Bool
 fits r n os = bytes_eq r.name n && all_match r.patterns os
 
--- the first form of a table that fits
+-- the first form of a table that has this name and that these operands fit
 abbrev pub find_form : List Row → List ℕ → List Operand → Option Row
 find_form [] n os = None
 find_form (r ∷ rs) n os = if fits r n os then Some r else find_form rs n os
 
--- the form of a name and operands, if there is one
+-- the form with this name that these operands fit, if there is one
 abbrev pub form_of : List ℕ → List Operand → Option Row
 form_of n os = find_form forms n os

@@ -1,5 +1,5 @@
--- The grammar of expressions (own: the levels, and that a level groups to the left; Chipper manual
--- for the signs).
+-- The grammar of expressions (Chipper manual for the signs; the levels, and that a level groups to
+-- the left, are chosen by this project).
 use Rattle.std.specs.Prelude.{ℕ, suc, ◌≡◌, ◌==◌, if◌then◌else◌, false, pos, ℤ, List, [], ◌∷◌, ◌++◌, Option, Some, None}
 use Rattle.chip_lang.specs.declared.lexeme.Lexeme.{Lexeme}
 use Rattle.chip_lang.specs.declared.lexeme.Lexeme.TheVariants.{Word, Number, Text, Sign}
@@ -10,13 +10,13 @@ use Rattle.chip_lang.specs.declared.expr.Operator.TheVariants.{ShiftLeft, ShiftR
 use Rattle.chip_lang.specs.Tree.{Tree, number, name, unary, binary}
 use Rattle.chip_lang.specs.Reserved.{is_reserved}
 
--- the sign before an operand that a byte is: + - ~
+-- the sign before an operand that a byte stands for: + - ~
 abbrev pub prefix_of : ℕ → Option Prefix
 prefix_of c =
     if c == 43 then Some Plus
     else (if c == 45 then Some Minus else (if c == 126 then Some Not else None))
 
--- the sign between operands that a byte is: < > * / + - & | ^ and the backslash
+-- the sign between operands that a byte stands for: < > * / + - & | ^ and the backslash
 abbrev pub operator_of : ℕ → Option Operator
 operator_of c =
     if c == 60 then Some ShiftLeft else (if c == 62 then Some ShiftRight
@@ -25,7 +25,7 @@ operator_of c =
     else (if c == 38 then Some And else (if c == 124 then Some Or
     else (if c == 94 then Some Xor else (if c == 92 then Some Xor else None)))))))))
 
--- the level of an operator; a smaller one binds more strongly
+-- the level of an operator; operators of a smaller level bind more strongly
 abbrev pub level_of : Operator → ℕ
 level_of ShiftLeft = 2
 level_of ShiftRight = 2
@@ -37,10 +37,9 @@ level_of And = 5
 level_of Or = 6
 level_of Xor = 7
 
--- The tokens are an expression of a level: an atom at 0, signs before an operand at 1, operators
--- from 2 to 7.
--- An operator's left side is of its own level, its right side of a stronger one: so operators group
--- to the left.
+-- The tokens are an expression of a level: an atom at level 0, signs before an operand at level 1,
+-- operators at levels 2 to 7. The left side of an operator is of the operator's own level and its
+-- right side of a stronger level, so operators group to the left.
 pub data Parses : ℕ → List Lexeme → Tree → Type 0 where
   a_number : {z : ℤ} → Parses 0 (Number z ∷ []) (number z)
   a_name : {w : List ℕ} → is_reserved w ≡ false → Parses 0 (Word w ∷ []) (name w)
@@ -54,6 +53,6 @@ pub data Parses : ℕ → List Lexeme → Tree → Type 0 where
       all ≡ left ++ Sign c ∷ right → Parses (suc l) all (binary sign a b)
   stronger : {l : ℕ} {ts : List Lexeme} {e : Tree} → Parses l ts e → Parses (suc l) ts e
 
--- the tokens are an expression
+-- the tokens are this expression
 abbrev pub IsExpression : List Lexeme → Tree → Type 0
 IsExpression ts e = Parses 7 ts e

@@ -30,14 +30,14 @@ directive_of w = find_word directives w
 unfoldable pub special_of : List ℕ → Option Special
 special_of w = find_word specials w
 
--- V and a hexadecimal digit
+-- the register that the letter V and a hexadecimal digit name
 abbrev pub register_named : ℕ → ℕ → Option ℕ
 register_named letter digit =
     if letter == 86 && (is_between 48 57 digit || is_between 65 70 digit)
     then Some (digit_value digit)
     else None
 
--- the register that a word is: V0 to VF
+-- the register that a word names: V0 to VF
 unfoldable pub register_of : List ℕ → Option ℕ
 register_of [] = None
 register_of (letter ∷ []) = None

@@ -1,25 +1,26 @@
--- What the language of the assembler is: a reader believes these files.
+-- The definitions of the assembler's language, which a reader has to believe.
 --     Table      the table of instructions: their source forms and their words
 --     Decoding   the instruction of a word
 --     Token      the token at a place of a line
---     Scan       what makes a list the tokens of a line
+--     Scan       the relation between a line and its list of tokens
 --     Named, Keyword, Reserved      words of the language
---     Form       the source form of a name and operands
+--     Form       the source form for a name and operands
 --     Expression, Tree, Grammar, Value      expressions, and their values
 --     Show       the source text of a word
 --     Operand, Encoding             operands, and the word of a form
---     Statement  the word of a statement, and what it decodes to
+--     Statement  the word of a statement, and the instruction that it decodes to
 --     Line       the reading of a line
 --     Code       the code of a line
---     Uses       the names that a line uses and defines
+--     Uses       the names that a line uses, and the name that it defines
 --     Meter      counts of work
 --     FaultNumber      the numbers of faults
---     FaultPlace       at which tokens a fault lies
---     SeenLine   the values of a line without where they lie in memory
+--     FaultPlace       the tokens at which a fault lies
+--     SeenLine   lines as contracts see them, without their places in memory
 --     Examples   worked examples
---     computed   the tokens of a line and the expression that tokens are, found step by step; laws
---                say that they are those of Scan and of Grammar
---     inner      what the functions inside say; no public clause cites it, and a reader may skip it
+--     computed   functions that find the tokens of a line, and the expression that tokens are; laws
+--                say that they agree with Scan and with Grammar
+--     inner      definitions for private functions; no public clause cites them, and a reader may
+--                skip them
 pub mod Code
 pub mod Decoding
 pub mod Encoding

@@ -1,5 +1,5 @@
--- The reading of a line: its label and its statement, or its first fault (Chipper manual; own for
--- the order of faults).
+-- The reading of a line: its label and its statement, or its first fault (Chipper manual; the order
+-- of faults is chosen by this project).
 use Rattle.std.specs.Prelude.{ℕ, ◌+◌, ◌-◌, ◌==◌, ◌&&◌, ◌||◌, not, Bool, true, false, if◌then◌else◌, nat_lt, is_some, is_none, List, [], ◌∷◌, ◌++◌, length, map, drop, Option, Some, None, option_map, option_and_then, codes, slice_range}
 use Rattle.std.specs.List.{list_any}
 use Rattle.std.specs.Str.{bytes_eq}
@@ -25,11 +25,12 @@ use Rattle.chip_lang.specs.Tree.{Tree}
 use Rattle.chip_lang.specs.computed.Parse.{expression_of}
 use Rattle.chip_lang.specs.Reserved.{is_reserved, is_mnemonic}
 
--- a byte in upper case
+-- a byte, in upper case if it is a letter
 abbrev pub upper : ℕ → ℕ
 upper b = if is_between 97 122 b then b - 32 else b
 
--- what a token of a line holds: a word is in upper case, a text is without its quotes
+-- the contents of a token: those of a word are in upper case, those of a text are without the
+-- quotes
 abbrev pub lexeme_of_kind : List ℕ → Kind → Lexeme
 lexeme_of_kind bytes word_kind = Word (map upper bytes)
 lexeme_of_kind bytes (number_kind z) = Number z
@@ -43,14 +44,15 @@ lexeme_of line t = lexeme_of_kind (slice_range line t.start t.end) t.kind
 abbrev pub lexemes_of : List ℕ → List Lexeme
 lexemes_of line = map (lexeme_of line) (tokens_of line)
 
--- a line shows by its first byte that it is blank or only a comment
+-- true for an empty line and for a line that begins with a semicolon: the line is blank or only a
+-- comment
 abbrev pub shows_nothing : List ℕ → Bool
 shows_nothing [] = true
 shows_nothing (b ∷ bytes) = b == 59
 
 -- ---- the parts of a line
 
--- a word
+-- true if a token is this word
 abbrev pub is_the : List ℕ → Lexeme → Bool
 is_the w (Word v) = bytes_eq w v
 is_the w t = false
@@ -63,22 +65,22 @@ abbrev pub is_a_word : Lexeme → Bool
 is_a_word (Word w) = true
 is_a_word t = false
 
--- EQU or =
+-- true if a token is EQU or =
 abbrev pub is_equ : Lexeme → Bool
 is_equ t = is_the (codes "EQU") t || is_sign_of 61 t
 
--- What a line is, by its tokens: a definition with what follows EQU or =, or a statement, and the
--- name that it gives.
+-- The shape of a line, found from its tokens: a definition, with its name and the tokens after EQU
+-- or =, or a statement, with its label if it has one.
 pub data Shape : Type 0 where
   definition : (name : List ℕ) (value : List Lexeme) → Shape
   statement : (label : Option (List ℕ)) (tokens : List Lexeme) → Shape
 
--- the cases after a word and a colon
+-- the shape of a line that begins with a word and a colon, given the tokens after them
 abbrev pub after_label : List ℕ → List Lexeme → Shape
 after_label w [] = statement (Some w) []
 after_label w (t ∷ rest) = if is_equ t then definition w rest else statement (Some w) (t ∷ rest)
 
--- the cases after a word
+-- the shape of a line that begins with a word, given the tokens after it
 abbrev pub after_word : List ℕ → List Lexeme → Shape
 after_word w [] = statement None (Word w ∷ [])
 after_word w (t ∷ rest) =
@@ -92,7 +94,7 @@ shape_of (t ∷ rest) = statement None (t ∷ rest)
 
 -- ---- names that a line gives a value
 
--- a name that can't be defined
+-- true if a name can't be defined: it is reserved or has more than NAME_BYTES bytes
 abbrev pub is_bad_name : List ℕ → Bool
 is_bad_name w = is_reserved w || nat_lt NAME_BYTES (length w)
 
@@ -101,13 +103,13 @@ abbrev pub statement_of : Shape → List Lexeme
 statement_of (definition w value) = []
 statement_of (statement label ts) = ts
 
--- the directive at the front
+-- the directive at the front of a statement, if there is one
 abbrev pub front_directive : List Lexeme → Option Directive
 front_directive [] = None
 front_directive (Word w ∷ rest) = directive_of w
 front_directive (t ∷ rest) = None
 
--- the word after the first token
+-- the word after the first token, if there is one
 abbrev pub second_word : List Lexeme → List (List ℕ)
 second_word [] = []
 second_word (t ∷ []) = []
@@ -127,9 +129,9 @@ abbrev pub names_of : Shape → List (List ℕ)
 names_of (definition w value) = w ∷ []
 names_of (statement label ts) = by_label label ++ by_define (front_directive ts) ts
 
--- ---- what a statement says
+-- ---- the meaning of a statement
 
--- what a statement of a line says
+-- the meaning of a line's statement
 pub data Body : Type 0 where
   empty : Body
   equ : Tree → Body
@@ -159,24 +161,24 @@ pieces (t ∷ ts) = if is_sign_of 44 t then [] ∷ pieces ts else with_first t (
     with_first t [] = (t ∷ []) ∷ []
     with_first t (p ∷ ps) = (t ∷ p) ∷ ps
 
--- every one, if each is there
+-- all values, if each of them is there
 abbrev pub all_some : {A : Type 0} → List (Option A) → Option (List A)
 all_some [] = Some []
 all_some (None ∷ os) = None
 all_some (Some x ∷ os) = option_and_then (λ xs. Some (x ∷ xs)) (all_some os)
 
--- the pieces in what is left after a comma, or of a whole without one
+-- the pieces of the tokens after a comma; none if there is no comma
 abbrev pub pieces_in : Option (List Lexeme) → List (List Lexeme)
 pieces_in None = []
 pieces_in (Some ts) = pieces ts
 
--- a register, or a word for a part of the machine
+-- the operand that a word is: a register, or else a part of the machine
 abbrev pub named : Option ℕ → Option Special → Option Operand
 named (Some x) s = Some (register x)
 named None (Some s) = Some (special s)
 named None None = None
 
--- [I]
+-- true if the tokens are [I]
 abbrev pub is_at_index : List Lexeme → Bool
 is_at_index (a ∷ b ∷ c ∷ []) = is_sign_of 91 a && is_the (codes "I") b && is_sign_of 93 c
 is_at_index ts = false
@@ -194,7 +196,7 @@ or_expression None (Some e) = Some (expression e)
 abbrev pub operand_of_tokens : List Lexeme → Option Operand
 operand_of_tokens ts = or_expression (part_of_machine ts) (expression_of ts)
 
--- no operands, or those between commas
+-- the operands between commas; an empty list without tokens
 abbrev pub operands_of : List Lexeme → Option (List Operand)
 operands_of [] = Some []
 operands_of (t ∷ ts) = all_some (map operand_of_tokens (pieces (t ∷ ts)))
@@ -206,7 +208,7 @@ abbrev pub one_text : List Lexeme → Option (List ℕ)
 one_text (Text bytes ∷ []) = Some bytes
 one_text ts = None
 
--- one word that isn't reserved
+-- the name, if the tokens are one word that isn't reserved
 abbrev pub one_name : List Lexeme → Option (List ℕ)
 one_name (Word w ∷ []) = if is_reserved w then None else Some w
 one_name ts = None
@@ -221,7 +223,7 @@ abbrev pub nothing : List Lexeme → Body → Option Body
 nothing [] body = Some body
 nothing (t ∷ ts) body = None
 
--- BINARY, CHIP8, CHIP48, SCHIP10 or SCHIP11 alone
+-- true if the tokens are one word: BINARY, CHIP8, CHIP48, SCHIP10 or SCHIP11
 abbrev pub is_known_option : List Lexeme → Bool
 is_known_option (t ∷ []) =
     is_the (codes "BINARY") t || is_the (codes "CHIP8") t || is_the (codes "CHIP48") t
@@ -248,7 +250,7 @@ directive_body Xref ts = Some xref
 directive_body Include ts = None
 directive_body Undef ts = None
 
--- a label may stand before it
+-- true if a directive can have a label before it
 abbrev pub takes_label : Directive → Bool
 takes_label Define = false
 takes_label Ifdef = false
@@ -261,7 +263,7 @@ takes_label Used = false
 takes_label Xref = false
 takes_label d = true
 
--- an instruction of the source form that its name and operands have
+-- an instruction in the source form that has its name and that its operands fit
 abbrev pub instruction_body : List ℕ → List Lexeme → Option Body
 instruction_body w ts =
     option_and_then (λ operands. option_map (λ form. code form operands) (form_of w operands))
@@ -277,12 +279,12 @@ statement_body labelled [] = Some empty
 statement_body labelled (Word w ∷ ts) = word_body labelled w (directive_of w) ts
 statement_body labelled (t ∷ ts) = None
 
--- what a line says, if all that follows its first word fits
+-- the meaning of a line, if everything after its first word fits
 abbrev pub body_of_shape : Shape → Option Body
 body_of_shape (definition w ts) = option_map equ (expression_of ts)
 body_of_shape (statement label ts) = statement_body (is_some label) ts
 
--- ---- what is at fault
+-- ---- faults
 
 -- the fault of the leftmost bad token
 abbrev pub bad_token : List Lexeme → Option Fault
@@ -290,30 +292,30 @@ bad_token [] = None
 bad_token (Bad f ∷ ts) = Some f
 bad_token (t ∷ ts) = bad_token ts
 
--- a statement that doesn't begin with a word
+-- true if a statement begins with a token that isn't a word
 abbrev pub begins_with_no_word : List Lexeme → Bool
 begins_with_no_word [] = false
 begins_with_no_word (t ∷ ts) = not (is_a_word t)
 
--- a statement that begins with a word which is neither a directive nor an instruction
+-- true if a statement begins with a word that is neither a directive nor an instruction
 abbrev pub begins_with_unknown_word : List Lexeme → Bool
 begins_with_unknown_word (Word w ∷ ts) = is_none (directive_of w) && not (is_mnemonic w)
 begins_with_unknown_word ts = false
 
--- INCLUDE, UNDEF, and OPTION without exactly one of its words
+-- true for INCLUDE, for UNDEF, and for OPTION without exactly one of its words
 abbrev pub is_outside : Option Directive → List Lexeme → Bool
 is_outside (Some Include) ts = true
 is_outside (Some Undef) ts = true
 is_outside (Some Options) ts = not (is_known_option (drop 1 ts))
 is_outside d ts = false
 
--- USED and XREF: what follows isn't looked at
+-- true for USED and XREF: the tokens after them are ignored
 abbrev pub is_skipped : Option Directive → Bool
 is_skipped (Some Used) = true
 is_skipped (Some Xref) = true
 is_skipped d = false
 
--- more parentheses are open at some token than can be; closing ones count below 0 too
+-- true if at some token more parentheses are open than can be; unmatched closing ones count below 0
 abbrev pub too_deep : (opened closed : ℕ) → List Lexeme → Bool
 too_deep opened closed [] = false
 too_deep opened closed (t ∷ ts) =
@@ -323,12 +325,12 @@ too_deep opened closed (t ∷ ts) =
 
 -- ---- the reading
 
--- a fault, where it holds
+-- a fault, if it holds
 abbrev pub fault_if : Bool → Fault → Option Fault
 fault_if holds fault = if holds then Some fault else None
 
--- The faults of a reading in their order, each where it holds. WrongOperands comes once more after
--- them: where nothing fits.
+-- The faults of a reading in their order, each if it holds. WrongOperands comes again after them,
+-- for a statement that fits nothing.
 abbrev pub faults_in_order : List Lexeme → Shape → List (Option Fault)
 faults_in_order ts shape =
     bad_token ts
@@ -339,13 +341,14 @@ faults_in_order ts shape =
     ∷ fault_if (too_deep 0 0 ts && not (is_skipped (front_directive (statement_of shape)))) TooDeep
     ∷ []
 
--- the first of these that holds
+-- the first fault that holds
 abbrev pub first_that_holds : List (Option Fault) → Option Fault
 first_that_holds [] = None
 first_that_holds (None ∷ faults) = first_that_holds faults
 first_that_holds (Some fault ∷ faults) = Some fault
 
--- what a line says: the name that it gives a value, and its statement; or its first fault
+-- the reading of a line: the name that it gives a value, if any, and its statement; or its first
+-- fault
 pub data Reading : Type 0 where
   bad : Fault → Reading
   read : (name : Option (List ℕ)) (body : Body) → Reading
@@ -354,7 +357,7 @@ abbrev pub first_name : List (List ℕ) → Option (List ℕ)
 first_name [] = None
 first_name (n ∷ ns) = Some n
 
--- the first fault, or else what the line says, or else that nothing fits
+-- the first fault, or else the meaning of the line, or else the fault that nothing fits
 abbrev pub fault_or_body : Option Fault → (name : Option (List ℕ)) → Option Body → Reading
 fault_or_body (Some fault) name body = bad fault
 fault_or_body None name (Some body) = read name body
@@ -368,6 +371,6 @@ reading_of_shape ts shape =
 abbrev pub reading_of_tokens : List Lexeme → Reading
 reading_of_tokens ts = reading_of_shape ts (shape_of ts)
 
--- the one reading of a line
+-- the reading of a line, which has exactly one
 unfoldable pub reading_of : List ℕ → Reading
 reading_of line = reading_of_tokens (lexemes_of line)

@@ -1,6 +1,6 @@
--- Counts of the work done (own).
+-- Counts of the work done (chosen by this project).
 use Rattle.std.specs.Prelude.{ℕ, ◌+◌, ◌-◌, ◌^◌, min}
 
--- one more, staying at the greatest value of 64 bits
+-- one more, but at most the greatest value of 64 bits
 abbrev pub one_more : ℕ → ℕ
 one_more n = min (n + 1) (2 ^ 64 - 1)

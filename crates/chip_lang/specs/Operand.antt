@@ -1,4 +1,4 @@
--- Operands without where they lie in memory (own).
+-- Operands as contracts see them, without their places in memory (chosen by this project).
 use Rattle.std.specs.Prelude.{ℕ, Bool, true, nat_lt}
 use Rattle.chip_lang.specs.declared.form.Special.{Special as Special_word}
 use Rattle.chip_lang.specs.declared.form.Operand.{Operand as Operand_value}
@@ -16,7 +16,7 @@ operand_of (Register x) = register x
 operand_of (Special s) = special s
 operand_of (Value e) = expression (tree_of e)
 
--- an operand whose register, if it is one, is V0 to VF
+-- true unless an operand is a register other than V0 to VF
 abbrev pub is_of_machine : Operand → Bool
 is_of_machine (register x) = nat_lt x 16
 is_of_machine o = true

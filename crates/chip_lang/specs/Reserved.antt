@@ -6,11 +6,11 @@ use Rattle.std.specs.Str.{bytes_eq}
 use Rattle.chip_lang.specs.Table.{forms}
 use Rattle.chip_lang.specs.Keyword.{directive_of, special_of, register_of}
 
--- the name of an instruction: some source form has it
+-- true for the name of an instruction, that is, for the name of some source form
 abbrev pub is_mnemonic : List ℕ → Bool
 is_mnemonic w = list_any (λ r. bytes_eq r.name w) forms
 
--- a word that can't be a name
+-- true for a word that can't be a name
 unfoldable pub is_reserved : List ℕ → Bool
 is_reserved w =
     is_mnemonic w || is_some (directive_of w) || is_some (special_of w) || is_some (register_of w)

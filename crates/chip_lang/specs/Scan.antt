@@ -1,15 +1,15 @@
--- The token list of a line, as a relation: each token stands where only blanks come before it, and
--- is what stands there (Chipper manual for the tokens; own).
+-- The list of a line's tokens, as a relation: only blanks come before each token, and the line has
+-- that token at that place (Chipper manual for the tokens; the rest is chosen by this project).
 use Rattle.std.specs.Prelude.{ℕ, ◌≡◌, ◌+◌, ◌<◌, ◌≤◌, ◌==◌, true, false, List, [], ◌∷◌, length, slice_index, drop}
 use Rattle.chip_lang.specs.declared.token.Token.{Token}
 use Rattle.chip_lang.specs.Token.{is_blank, token_at}
 
--- only blanks stand from one place up to another
+-- all bytes from one place up to another are blanks
 abbrev pub AllBlank : List ℕ → (from to : ℕ) → Type 0
 AllBlank line from to = (k : ℕ) → from ≤ k → k < to → is_blank (slice_index line k) ≡ true
 
--- A token stands at its place, which is not a blank and begins no comment: the first kind that
--- fits, with the longest run.
+-- A token begins at its place, which is not a blank and begins no comment. Its kind is the first
+-- that fits, with the longest run of bytes.
 pub record IsToken (line : List ℕ) (t : Token) : Type 0 where
   pub inside : t.start < length line
   pub no_blank : is_blank (slice_index line t.start) ≡ false
@@ -17,7 +17,7 @@ pub record IsToken (line : List ℕ) (t : Token) : Type 0 where
   pub kind : t.kind ≡ (token_at (slice_index line t.start) (drop (t.start + 1) line)).0
   pub end : t.end ≡ t.start + (token_at (slice_index line t.start) (drop (t.start + 1) line)).1
 
--- only blanks follow, up to the end or a comment
+-- only blanks follow, up to the end of the line or a comment
 pub record IsOver (line : List ℕ) (place : ℕ) : Type 0 where
   pub stop : ℕ
   pub after : place ≤ stop
@@ -25,7 +25,7 @@ pub record IsOver (line : List ℕ) (place : ℕ) : Type 0 where
   pub blank : AllBlank line place stop
   pub comment : stop < length line → slice_index line stop ≡ 59
 
--- these are the tokens from a place on
+-- the list has all tokens from a place on
 abbrev pub AreTokens : List ℕ → (place : ℕ) → List Token → Type 0
 AreTokens line place [] = IsOver line place
 AreTokens line place (t ∷ ts) =

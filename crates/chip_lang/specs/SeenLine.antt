@@ -1,4 +1,4 @@
--- A line without where its parts lie in memory (own).
+-- A line as contracts see it, without the places of its parts in memory (chosen by this project).
 use Rattle.std.specs.Prelude.{map, Option, option_map}
 use Rattle.chip_lang.specs.declared.line.Body.{Body as Line_body}
 use Rattle.chip_lang.specs.declared.line.Body.TheVariants.{Empty, Equ, Org, Ds, Db, Dw, Da, Code, Define, Ifdef, Ifund, Else, Endif, End, Align, Options, Used, Xref}
@@ -35,6 +35,6 @@ abbrev pub seen_line : Line → Reading
 seen_line (Bad fault) = bad fault
 seen_line (Read label body) = read label (seen_body body)
 
--- what a value of the program says, if it says something
+-- the statement that an optional value of the program stands for, if there is one
 abbrev pub seen_statement : Option Line_body → Option Body
 seen_statement body = option_map seen_body body

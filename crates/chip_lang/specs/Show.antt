@@ -1,5 +1,5 @@
--- The source text of a word, in the form of its entry in the table
--- (Chipper manual; own for how numbers are written, and for DW).
+-- The source text of a word, in the form of its entry in the table (Chipper manual; the way numbers
+-- are written, and DW, are chosen by this project).
 use Rattle.std.specs.Prelude.{ℕ, ◌+◌, ◌-◌, ◌/◌, ◌%◌, nat_lt, if◌then◌else◌, List, [], ◌∷◌, ◌++◌, codes, pos, Option, Some, None, option_map}
 use Rattle.chip_lang.specs.declared.form.Pattern.{Pattern}
 use Rattle.chip_lang.specs.declared.form.Pattern.TheVariants.{Vx, Vy, V0, Index, DelayTimer, SoundTimer, Key, SmallDigit, BigDigit, Decimal, Flags, AtIndex, Nibble, Byte, Address}
@@ -11,11 +11,11 @@ use Rattle.chip_lang.specs.Tree.{number}
 
 -- ---- numbers
 
--- a digit below 16, in lower case
+-- the hexadecimal digit of a number below 16, in lower case
 abbrev pub hex_digit : ℕ → ℕ
 hex_digit d = if nat_lt d 10 then 48 + d else 87 + d
 
--- the last two, three and four digits to the base 16
+-- the last two, three and four hexadecimal digits of a number
 abbrev pub two_hex_digits : ℕ → List ℕ
 two_hex_digits n = hex_digit (n / 16 % 16) ∷ hex_digit (n % 16) ∷ []
 
@@ -25,25 +25,25 @@ three_hex_digits n = hex_digit (n / 256 % 16) ∷ two_hex_digits n
 abbrev pub four_hex_digits : ℕ → List ℕ
 four_hex_digits n = hex_digit (n / 4096 % 16) ∷ three_hex_digits n
 
--- a number below 16, in decimal
+-- a number below 16 in decimal
 abbrev pub small_decimal : ℕ → List ℕ
 small_decimal n = if nat_lt n 10 then (48 + n) ∷ [] else 49 ∷ (48 + (n - 10)) ∷ []
 
--- a digit below 16, in upper case
+-- the hexadecimal digit of a number below 16, in upper case
 abbrev pub register_digit : ℕ → ℕ
 register_digit x = if nat_lt x 10 then 48 + x else 55 + x
 
--- V0 to VF
+-- the name of a register: V0 to VF
 abbrev pub register_text : ℕ → List ℕ
 register_text x = 86 ∷ register_digit x ∷ []
 
 -- ---- the form of a word
 
--- the form in which a word is shown: that of its entry in the table
+-- the form in which a word is shown: the form of the word's entry in the table
 abbrev pub form_shown : ℕ → Option Row
 form_shown w = option_map (λ e. e.form) (entry_of w)
 
--- the operand that stands in a word in an operand's place
+-- the operand that a word holds for a pattern
 abbrev pub operand_in : ℕ → Pattern → Operand
 operand_in w Vx = register (field_in Vx w)
 operand_in w Vy = register (field_in Vy w)
@@ -61,7 +61,7 @@ operand_in w Nibble = expression (number (pos (field_in Nibble w)))
 operand_in w Byte = expression (number (pos (field_in Byte w)))
 operand_in w Address = expression (number (pos (field_in Address w)))
 
--- ---- its text
+-- ---- the text of a word
 
 abbrev pub operand_text : Pattern → ℕ → List ℕ
 operand_text Vx w = register_text (field_in Vx w)
@@ -80,7 +80,8 @@ operand_text Nibble w = small_decimal (field_in Nibble w)
 operand_text Byte w = codes "#" ++ two_hex_digits (field_in Byte w)
 operand_text Address w = codes "#" ++ three_hex_digits (field_in Address w)
 
--- operands, a comma and a space before each, but what is given before the first
+-- the texts of operands, with a comma and a space before each one except the first, which has the
+-- text `before` before it
 abbrev pub operands_text : List ℕ → List Pattern → ℕ → List ℕ
 operands_text before [] w = []
 operands_text before (p ∷ ps) w = before ++ operand_text p w ++ operands_text (codes ", ") ps w

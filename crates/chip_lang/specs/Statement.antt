@@ -10,17 +10,18 @@ use Rattle.chip_lang.specs.Encoding.{word_of_form}
 use Rattle.chip_lang.specs.Decoding.{entry_of, decode_of}
 use Rattle.chip_lang.specs.Show.{form_shown}
 
--- A statement has a form and a word: the form is that of its name and operands, whose registers are
--- V0 to VF, and the word is theirs.
+-- A statement has a form and a word. The form has the statement's name, and the statement's
+-- operands fit it; their registers are V0 to VF. The word is the word of that form and those
+-- operands.
 pub record HasWord (name : List ℕ) (operands : List Operand) (symbols : Symbols) (form : Row)
     (w : ℕ) : Type 0 where
   pub fits : form_of name operands ≡ Some form
   pub registers : list_all is_of_machine operands ≡ true
   pub word : word_of_form form operands symbols ≡ Ok w
 
--- A word decodes to an instruction of a form, and is shown as such: by an entry whose form has the
--- same name, and the same word without operands. So that is the same form, or the shorter one of a
--- shift.
+-- A word decodes to an instruction of a form and is shown as such: the form of the word's entry in
+-- the table has the same name and the same word without operands. The entry's form is therefore
+-- this form or, for a shift, the shorter form of that shift.
 pub record DecodesTo (form : Row) (w : ℕ) : Type 0 where
   pub entry : Entry
   pub found : entry_of w ≡ Some entry

@@ -1,78 +1,78 @@
--- What stands at a place of a line: the kind and the length of the token there (Chipper manual; own
--- for what is not a token).
+-- The kind and the length of the token at a place of a line (Chipper manual; what is not a token is
+-- chosen by this project).
 use Rattle.std.specs.Prelude.{ℕ, ◌+◌, ◌*◌, ◌-◌, ◌==◌, ◌||◌, ◌&&◌, not, Bool, if◌then◌else◌, nat_le, nat_lt, List, [], ◌∷◌, length, fold, take, pos}
 use Rattle.std.specs.List.{list_all, prefix_len}
 use Rattle.chip_lang.specs.declared.fault.Fault.TheVariants.{BadCharacter, UnfinishedString, NumberTooLarge}
 use Rattle.chip_lang.specs.declared.token.Kind.{Kind}
 use Rattle.chip_lang.specs.declared.token.Kind.TheVariants.{Word, Number, Text, Sign, Bad}
 
--- space, tab, form feed, carriage return and 26
+-- true for the bytes space, tab, form feed, carriage return and 26
 abbrev pub is_blank : ℕ → Bool
 is_blank b = b == 32 || b == 9 || b == 12 || b == 13 || b == 26
 
 abbrev pub is_between : ℕ → ℕ → ℕ → Bool
 is_between low high b = nat_le low b && nat_le b high
 
--- 0 to 9
+-- true for 0 to 9
 abbrev pub is_digit : ℕ → Bool
 is_digit b = is_between 48 57 b
 
--- 0 to 7
+-- true for 0 to 7
 abbrev pub is_octal : ℕ → Bool
 is_octal b = is_between 48 55 b
 
--- 0, 1 and the full stop
+-- true for 0, 1 and the full stop
 abbrev pub is_binary : ℕ → Bool
 is_binary b = b == 48 || b == 49 || b == 46
 
--- 0 to 9, A to F in either case
+-- true for 0 to 9, and for A to F in either case
 abbrev pub is_hexadecimal : ℕ → Bool
 is_hexadecimal b = is_digit b || is_between 65 70 b || is_between 97 102 b
 
--- a letter or _
+-- true for a letter or _
 abbrev pub is_name_start : ℕ → Bool
 is_name_start b = is_between 65 90 b || is_between 97 122 b || b == 95
 
--- a letter, _ or a digit
+-- true for a letter, _ or a digit
 abbrev pub is_name_byte : ℕ → Bool
 is_name_byte b = is_name_start b || is_digit b
 
--- a name byte or the full stop
+-- true for a name byte or the full stop
 abbrev pub is_run_byte : ℕ → Bool
 is_run_byte b = is_name_byte b || b == 46
 
--- one of , : = [ ] ( ) + - * / & | ^ ~ < > \
+-- true for one of , : = [ ] ( ) + - * / & | ^ ~ < > \
 abbrev pub is_sign : ℕ → Bool
 is_sign b =
     b == 44 || b == 58 || b == 61 || b == 91 || b == 93 || b == 40 || b == 41 || b == 43 || b == 45
     || b == 42
     || b == 47 || b == 38 || b == 124 || b == 94 || b == 126 || b == 60 || b == 62 || b == 92
 
--- the value of a digit; that of a full stop is 0
+-- the value of a digit; 0 for a full stop
 unfoldable pub digit_value : ℕ → ℕ
 digit_value b =
     if nat_lt b 48 then 0
     else (if nat_le b 57 then b - 48 else (if nat_le b 90 then b - 55 else b - 87))
 
--- a digit of numbers to the base 2, 8, 10 or 16
+-- true for a digit of numbers in base 2, 8, 10 or 16
 abbrev pub is_digit_of : ℕ → ℕ → Bool
 is_digit_of base b =
     if base == 2 then is_binary b
     else (if base == 8 then is_octal b else (if base == 10 then is_digit b else is_hexadecimal b))
 
--- the number before one more digit, and with it
+-- the number that one more digit makes of a number
 abbrev pub with_digit : ℕ → ℕ → ℕ → ℕ
 with_digit base n digit = base * n + digit_value digit
 
--- the number of some digits to a base
+-- the number that some digits are in a base
 abbrev pub number_of : ℕ → List ℕ → ℕ
 number_of base digits = fold (with_digit base) 0 digits
 
--- a number of at most 31 bits
+-- a number of at most 31 bits, or else a fault
 abbrev pub kind_of_number : ℕ → Kind
 kind_of_number n = if nat_le n 2147483647 then Number (pos n) else Bad NumberTooLarge
 
--- digits to a base, of which there is one at least, and which are all digits of that base
+-- the number of at least one digit, if all are digits of the base; otherwise a fault
 unfoldable pub kind_of_digits : ℕ → List ℕ → Kind
 kind_of_digits base [] = Bad BadCharacter
 kind_of_digits base (d ∷ ds) =
@@ -80,14 +80,15 @@ kind_of_digits base (d ∷ ds) =
     then kind_of_number (number_of base (d ∷ ds))
     else Bad BadCharacter
 
--- a text that a quote begins: it goes up to the next such quote
+-- the kind and the length of a text that begins with a quote, given the bytes after that quote: the
+-- text goes up to the next quote of the same kind
 unfoldable pub text_at : ℕ → List ℕ → Kind × ℕ
 text_at quote bytes =
     let inside = prefix_len (λ b. not (b == quote)) bytes in
     if nat_lt inside (length bytes) then (Text, inside + 2) else (Bad UnfinishedString, inside + 1)
 
--- The kind and the length of the token that begins with a byte, by the bytes after it: the first
--- row that fits.
+-- The kind and the length of the token that begins with a byte, given the bytes after it: those of
+-- the first row that fits.
 unfoldable pub token_at : ℕ → List ℕ → Kind × ℕ
 token_at b bytes =
     let name = prefix_len is_name_byte bytes in

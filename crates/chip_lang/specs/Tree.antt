@@ -1,4 +1,4 @@
--- Expressions without where they lie in memory (own).
+-- Expressions as contracts see them, without their places in memory (chosen by this project).
 use Rattle.chip_lang.specs.declared.expr.Expr.{Expr}
 use Rattle.chip_lang.specs.declared.expr.Expr.TheVariants.{Number, Name, Compound}
 pub use Rattle.chip_lang.specs.Expression.{Tree, number, name, unary, binary}

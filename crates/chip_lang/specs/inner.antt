@@ -1,5 +1,5 @@
--- What the functions inside say of digits, rows of words, forms of a name, values and expressions in
--- postfix order; no public clause cites these files.
+-- Definitions for private functions: digits, rows of words, the forms of a name, values, and
+-- expressions in postfix order. No public clause cites these files.
 pub mod Atom
 pub mod ByDigits
 pub mod LastValue

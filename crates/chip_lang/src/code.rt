@@ -1,4 +1,4 @@
-//! The word of an instruction in source.
+//! The code of a line: its bytes, and the word of an instruction with its operands.
 
 ghost use Rattle.std.specs.Prelude.{map, ◌≡◌, ◌<◌, ◌≤◌, ◌+◌, ◌*◌, ◌++◌, ℕ, take, drop, length, slice_index};
 ghost use Rattle.chip_lang.specs.Operand.{operand_of};
@@ -21,17 +21,18 @@ use crate::short_bytes::ShortBytes;
 use crate::value::eval;
 use std::alloc::{AllocError, Global};
 
-/// What encoding a line gives.
+/// The result of encoding a line.
 #[derive(Drop)]
 pub enum Coded {
-    /// The line's own bytes, without padding: of an instruction, DB, DW or DA, and none of any
-    /// other line.
+    /// The line's own bytes, without padding: those of an instruction, DB, DW or DA. Any other line
+    /// has none.
     Bytes(ShortBytes),
     /// The line's fault in the second pass, or its reading fault.
     Faulty(Fault),
 }
 
-/// Encodes a line under a table of names. Adds 1 to `encoded`, also where memory runs out.
+/// Encodes a line under a table of names. Adds 1 to `encoded`. Fails only if memory runs out, and
+/// counts the line even then.
 pub fn encode<N: Names>(
     alloc: Global,
     meter: &mut Meter,
@@ -51,8 +52,8 @@ pub fn encode<N: Names>(
     }
 }
 
-/// Encodes a line under a table of names in its place: its own bytes, with zeros behind them, or
-/// zeros alone where it has a fault, which is answered. Adds 1 to `encoded`.
+/// Encodes a line under a table of names into `bytes`: the line's own bytes, and zeros after them.
+/// If the line has a fault, all bytes become zeros, and the fault is returned. Adds 1 to `encoded`.
 pub fn encode_into<N: Names>(
     meter: &mut Meter,
     line: &Line,
@@ -79,7 +80,8 @@ pub fn encode_into<N: Names>(
     }
 }
 
-/// How many bytes of its own a line has.
+/// The number of bytes that a line has of its own, without padding; 0 for a line with a reading
+/// fault.
 fn code_length(line: &Line) -> usize
     ensures { result ≡ code_length (seen_line line.now) }
 {
@@ -95,8 +97,9 @@ fn code_length(line: &Line) -> usize
     }
 }
 
-/// Writes the code of a line, and answers how many bytes that is, or the line's fault. Bytes
-/// behind the code, and all of them where there is a fault, may be left as anything.
+/// Writes the code of a line to the start of `bytes` and returns the number of its bytes, or
+/// returns the line's fault. The contents of the bytes after the code have no meaning, and with a
+/// fault no byte has.
 fn write_line<N: Names>(line: &Line, names: &N, bytes: &mut [u8]) -> Result<usize, Fault>
     requires room { code_length (seen_line line.now) ≤ length bytes.old }
     ensures code { coded (written bytes.new result)
@@ -109,7 +112,8 @@ fn write_line<N: Names>(line: &Line, names: &N, bytes: &mut [u8]) -> Result<usiz
     }
 }
 
-/// Writes the code of a statement, and answers how many bytes that is, or its fault.
+/// Writes the code of a statement and returns the number of its bytes, or returns the statement's
+/// fault.
 #[tactic(auto, unfolding(crate::specs::Code::own_bytes))]
 fn write_body<N: Names>(body: &Body, names: &N, bytes: &mut [u8]) -> Result<usize, Fault>
     requires room { own_length (seen_body body.now) ≤ length bytes.old }
@@ -134,7 +138,7 @@ fn write_body<N: Names>(body: &Body, names: &N, bytes: &mut [u8]) -> Result<usiz
     }
 }
 
-/// Writes a word at a place, the high byte first.
+/// Writes a word at an index, with the high byte first.
 fn write_word(word: u16, bytes: &mut [u8], place: usize)
     requires { place + 2 ≤ length bytes.old }
     ensures { bytes.new ≡ take place bytes.old ++ word_bytes word ++ drop (place + 2) bytes.old }
@@ -143,8 +147,8 @@ fn write_word(word: u16, bytes: &mut [u8], place: usize)
     bytes[place + 1] = (word % 256) as u8;
 }
 
-/// Writes a byte for each value of DB, and answers how many that are, or the first fault from the
-/// left.
+/// Writes one byte for each value of DB and returns the number of bytes, or returns the first fault
+/// from the left.
 #[tactic(auto, using(crate::proofs::Data::data_steps))]
 fn write_bytes<N: Names>(exprs: &[Expr], names: &N, bytes: &mut [u8]) -> Result<usize, Fault>
     requires room { length exprs.now ≤ length bytes.old }
@@ -158,8 +162,8 @@ fn write_bytes<N: Names>(exprs: &[Expr], names: &N, bytes: &mut [u8]) -> Result<
     Ok(exprs.len())
 }
 
-/// Writes a word for each value of DW, and answers how many bytes that are, or the first fault from
-/// the left.
+/// Writes one word for each value of DW and returns the number of bytes, or returns the first fault
+/// from the left.
 #[tactic(auto, using(crate::proofs::Data::data_steps))]
 fn write_words<N: Names>(exprs: &[Expr], names: &N, bytes: &mut [u8]) -> Result<usize, Fault>
     requires room { 2 * length exprs.now ≤ length bytes.old }
@@ -174,7 +178,8 @@ fn write_words<N: Names>(exprs: &[Expr], names: &N, bytes: &mut [u8]) -> Result<
     Ok(2 * exprs.len())
 }
 
-/// A value of DB or DW, a negative one modulo the limit.
+/// The value of an expression in DB or DW. A negative value is taken modulo the limit, and a value
+/// that is out of range is a fault.
 fn datum<N: Names>(limit: u32, expr: &Expr, names: &N) -> Result<u16, Fault>
     requires low { 0 < limit }
     requires high { limit ≤ 65536 }
@@ -184,8 +189,8 @@ fn datum<N: Names>(limit: u32, expr: &Expr, names: &N) -> Result<u16, Fault>
     signed_below(limit, eval(expr, names)?)
 }
 
-/// The word of a form and its operands, or the first fault from the left; an operand too few or too
-/// many is one.
+/// The word of a form and its operands, or the first fault from the left. Too few or too many
+/// operands are a fault.
 fn word_of_form<N: Names>(form: &Form, operands: &[Operand], names: &N) -> Result<u16, Fault>
     ensures { result
         ≡ word_of_form (row_of_form form.now) (map operand_of operands.now) (N.symbols names.now) }
@@ -201,7 +206,7 @@ fn word_of_form<N: Names>(form: &Form, operands: &[Operand], names: &N) -> Resul
     }
 }
 
-/// What an operand puts into the word. One that doesn't fit its pattern is a fault.
+/// The bits that an operand puts into the word. An operand that doesn't fit its pattern is a fault.
 #[tactic(auto, unfolding(crate::specs::Encoding::field_of, crate::specs::Form::matches))]
 fn field_of<N: Names>(pattern: Pattern, operand: &Operand, names: &N) -> Result<u16, Fault>
     ensures { result ≡ field_of pattern (operand_of operand.now) (N.symbols names.now) }
@@ -238,7 +243,8 @@ fn number_below(limit: u16, value: i32) -> Result<u16, Fault>
     }
 }
 
-/// A value of a byte or a word, a negative one modulo the limit.
+/// A value from -`limit` / 2 to `limit` - 1 as a byte or a word, a negative one modulo the limit.
+/// Any other value is a fault.
 fn signed_below(limit: u32, value: i32) -> Result<u16, Fault>
     requires low { 0 < limit }
     requires high { limit ≤ 65536 }

@@ -1,4 +1,4 @@
-//! Expressions and their values.
+//! Expressions and their signs.
 
 use crate::bytes::Bytes;
 use crate::postfix::Postfix;
@@ -10,20 +10,20 @@ pub enum Prefix {
     Plus,
     /// `-`.
     Minus,
-    /// `~`: each bit turned.
+    /// `~`: inverts each bit.
     Not,
 }
 
 /// A sign between two operands.
 #[derive(Clone, Copy, PartialEq, Eq)]
 pub enum Operator {
-    /// `<`: times a power of two.
+    /// `<`: multiplies by a power of two.
     ShiftLeft,
-    /// `>`: divided by a power of two, rounded down.
+    /// `>`: divides by a power of two and rounds down.
     ShiftRight,
     /// `*`.
     Multiply,
-    /// `/`: rounded towards zero.
+    /// `/`: divides and rounds towards zero.
     Divide,
     /// `+`.
     Add,

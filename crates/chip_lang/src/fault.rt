@@ -6,10 +6,10 @@ ghost use Rattle.chip_lang.specs.FaultNumber.{number_of_fault};
 use crate::limits::{MEMORY_BYTES, NAME_BYTES, OPEN_PARENTHESES};
 use thiserror::Error;
 
-/// What is wrong with a line.
+/// A fault: what is wrong with a line.
 #[derive(Clone, Copy, Debug, PartialEq, Eq, Error)]
 pub enum Fault {
-    /// F1: a byte that begins no token, or digits that are not a number.
+    /// F1: a byte that no token begins with, or digits that are not a number.
     #[error("bad character")]
     BadCharacter,
     /// F2: a text without its second quote.
@@ -36,19 +36,19 @@ pub enum Fault {
     /// F9: a name without a value.
     #[error("undefined name")]
     UndefinedName,
-    /// F10: a value that its field doesn't hold.
+    /// F10: a value that doesn't fit its field.
     #[error("value out of range")]
     OutOfRange,
     /// F11: a zero divisor.
     #[error("division by zero")]
     DivisionByZero,
-    /// F12: a result that 32 bits with a sign don't hold, or a shift outside 0 to 31.
+    /// F12: a result that doesn't fit in 32 bits with a sign, or a shift outside 0 to 31.
     #[error("overflow, or a shift outside 0 to 31")]
     Overflow,
     /// F13: ORG below the address of its line.
     #[error("ORG below the line's address")]
     OrgBelowHere,
-    /// F14: the line would end past the memory, of `MEMORY_BYTES` bytes.
+    /// F14: the line would end past the end of the memory, which has `MEMORY_BYTES` bytes.
     #[error("past address {end}", end = MEMORY_BYTES)]
     PastMemory,
     /// F15: ELSE or ENDIF without IF, or a second ELSE.
@@ -63,7 +63,7 @@ pub enum Fault {
 }
 
 impl Fault {
-    /// The number that a fault has in listings: 1 to 17.
+    /// The number of a fault in listings: 1 to 17.
     pub fn number(self) -> u8
         ensures { result ≡ number_of_fault self }
     {

@@ -1,4 +1,4 @@
-//! The place of a line's fault.
+//! The place of a fault in its line, and the mnemonic and names of a line.
 
 ghost use Rattle.std.specs.Prelude.{◌≡◌, ◌+◌, ◌≤◌, ◌<◌, ◌^◌, true, false, not, IfOk, length, slice_get, is_some};
 ghost use Rattle.std.specs.List.{prefix_len};
@@ -25,14 +25,14 @@ use std::alloc::{AllocError, Global};
 /// A part of a line: the bytes from `start` up to `end`.
 #[derive(Clone, Copy)]
 pub struct Span {
-    /// The place of its first byte in the line.
+    /// The index of its first byte in the line.
     pub start: usize,
-    /// The place after its last byte.
+    /// The index after its last byte.
     pub end: usize,
 }
 
-/// The tokens at which a fault lies: the one of the index `first`, or that one and all after it. An
-/// index past the last token is the place after that one.
+/// The tokens at which a fault lies: the token with the index `first`, or, if `wide`, that token
+/// and all after it. An index past the last token means the place after that token.
 #[derive(Clone, Copy)]
 pub(crate) struct Place {
     first: usize,
@@ -53,9 +53,9 @@ impl Place {
     }
 }
 
-/// Where in a line a fault of it lies: the tokens of the table `place_of_fault`, by their bytes.
-/// Where none is at fault, as where an operand is missing, it is the empty part after the last
-/// token.
+/// Returns the part of a line at which a fault lies: the bytes of the tokens that the table
+/// `place_of_fault` gives. If no token is at fault, for example because an operand is missing,
+/// returns the empty part after the last token.
 ///
 /// # Errors
 ///
@@ -72,7 +72,8 @@ pub fn fault_span(alloc: Global, line: &[u8], fault: Fault) -> Result<Span, Allo
     Ok(span_of_place(line, &tokens, place))
 }
 
-/// The mnemonic with which the statement of a line begins, in upper case.
+/// Returns the mnemonic that the statement of a line begins with, in upper case; none if it begins
+/// with no mnemonic.
 ///
 /// # Errors
 ///
@@ -99,7 +100,7 @@ fn mnemonic_at(alloc: Global, tokens: &[Lexeme]) -> Result<Option<Bytes>, AllocE
     }
 }
 
-/// The bytes of the tokens of a place in their line.
+/// The part of a line that the tokens of a place cover.
 #[tactic(auto, using(crate::proofs::FaultSpan::span_steps))]
 fn span_of_place(line: &[u8], tokens: &[Token], place: Place) -> Span
     requires { AreTokens line.now 0 tokens.now }
@@ -139,7 +140,7 @@ fn end_of(token: Option<&Token>) -> usize
     }
 }
 
-/// The table: at which tokens each fault lies.
+/// The tokens at which a fault lies, as the table in `specs/FaultPlace.antt` says.
 fn place_of_fault(alloc: Global, fault: Fault, tokens: &[Lexeme]) -> Result<Place, AllocError>
     ensures { IfOk result (λ place. place ≡ place_of_fault fault tokens.now) }
 {
@@ -172,7 +173,7 @@ fn is_bad(token: &Lexeme) -> bool
     matches!(token, Lexeme::Bad(_))
 }
 
-/// How many tokens stand before the leftmost bad one.
+/// The index of the leftmost bad token; the number of tokens if none is bad.
 fn leftmost_bad(tokens: &[Lexeme]) -> usize
     ensures { result ≡ leftmost_bad tokens.now }
 {
@@ -184,8 +185,8 @@ fn leftmost_bad(tokens: &[Lexeme]) -> usize
     tokens.len()
 }
 
-/// How many tokens stand before the parenthesis with which those opened and not closed go beyond
-/// `OPEN_PARENTHESES`.
+/// The index of the parenthesis that makes more than `OPEN_PARENTHESES` open at once; the number of
+/// tokens if none does.
 fn deepest(tokens: &[Lexeme]) -> usize
     ensures { result ≡ deepest 0 0 tokens.now }
 {
@@ -318,7 +319,8 @@ fn takes_values(directive: Directive) -> bool
     )
 }
 
-/// The first operand that doesn't fit, or all of them, where the first one begins at an index.
+/// The place of the first operand that doesn't fit, or of all operands if each fits by itself.
+/// `first` is the index of the first operand's first token.
 fn misfit(
     alloc: Global,
     values: bool,
@@ -343,8 +345,8 @@ fn misfit_from(first: usize, count: usize, before: usize) -> Place
     }
 }
 
-/// How many tokens stand before the first operand that doesn't fit, with a comma after each
-/// operand.
+/// The number of tokens before the first operand that doesn't fit, counting a comma after each
+/// operand. More than the number of all tokens if each operand fits.
 #[tactic(auto, using(crate::proofs::Misfit::joined_pieces))]
 fn before_misfit(alloc: Global, values: bool, operands: &[Lexeme]) -> Result<usize, AllocError>
     ensures value { IfOk result (λ before. before ≡ before_misfit values (pieces operands.now)) }
@@ -363,7 +365,7 @@ fn before_misfit(alloc: Global, values: bool, operands: &[Lexeme]) -> Result<usi
     Ok(before)
 }
 
-/// Whether some tokens are an operand, or an expression where values are wanted.
+/// Whether the tokens are an expression, if `values`, or else an operand.
 fn is_fit(alloc: Global, values: bool, piece: &[Lexeme]) -> Result<bool, AllocError>
     ensures { IfOk result (λ fit. fit ≡ is_fit values piece.now) }
 {
@@ -374,8 +376,8 @@ fn is_fit(alloc: Global, values: bool, piece: &[Lexeme]) -> Result<bool, AllocEr
     }
 }
 
-/// The name that a token of a line is, in upper case. None where it is another token, or a reserved
-/// word.
+/// Returns the name that a token of a line is, in upper case; none if the token isn't a word or is
+/// a reserved one.
 ///
 /// # Errors
 ///

@@ -1,4 +1,4 @@
-//! The forms of instructions in source.
+//! The source forms of instructions.
 
 ghost use Rattle.std.specs.Prelude.{◌≡◌, map, Option, ◌<◌, ◌≤◌, ◌+◌, ◌^◌, length};
 ghost use Rattle.chip_lang.specs.Operand.{operand_of};
@@ -12,15 +12,15 @@ ghost use Rattle.chip_lang.specs.Form.{row_of_form, option_row, is_special, matc
 use crate::expr::Expr;
 use crate::number::Reg;
 
-/// What stands in an operand's place in a form: a register by its part of the word, a word, or a
-/// value by its field.
+/// The kind of operand that a form takes at one place: a register, with the digit of the word that
+/// holds it; a word for a part of the machine; or a value, with its field.
 #[derive(Clone, Copy, PartialEq, Eq)]
 pub enum Pattern {
     /// A register, the second digit of the word.
     Vx,
     /// A register, the third digit of the word.
     Vy,
-    /// `V0` itself.
+    /// `V0` and no other register.
     V0,
     /// `I`.
     Index,
@@ -42,7 +42,7 @@ pub enum Pattern {
     AtIndex,
     /// A value from 0 to 15, the last digit of the word.
     Nibble,
-    /// A value from -128 to 255, the last byte of the word, a negative one modulo 256.
+    /// A value from -128 to 255, the last byte of the word. A negative value is taken modulo 256.
     Byte,
     /// A value from 0 to 4095, the last three digits of the word.
     Address,
@@ -82,18 +82,18 @@ pub enum Operand {
     Value(Expr),
 }
 
-/// A form of an instruction: its name, its operands, and its word without them.
+/// A form of an instruction: its name, the kinds of its operands, and its word without them.
 #[derive(Clone, Copy)]
 pub struct Form {
     /// The name of the instruction, in upper case.
     pub name: &'static str,
-    /// What its operands are.
+    /// The kinds of its operands, in order.
     pub patterns: &'static [Pattern],
-    /// Its word with zeros in the operands' places.
+    /// The word with zeros in the places of the operands.
     pub base: u16,
 }
 
-/// A form by its name, the patterns of its operands, and its word without them.
+/// Builds a form from its name, the patterns of its operands, and its word without them.
 macro_rules! form {
     ($name:literal, [$($pattern:ident),*], $base:literal) => {
         Form {
@@ -186,7 +186,7 @@ pub(crate) const SKNP: &[Form] = &[form!("SKNP", [Vx], 0xE0A1)];
 
 pub(crate) const SYS: &[Form] = &[form!("SYS", [Address], 0x0000)];
 
-/// The form that operands are, where the forms of the instruction are known.
+/// The form that the operands fit, given the forms of the instruction; none if they fit no form.
 #[tactic(auto, using(crate::proofs::NamedForms::form_among))]
 pub(crate) fn find_form<'a>(
     forms: &'a [Form],
@@ -199,7 +199,7 @@ pub(crate) fn find_form<'a>(
     find_in(forms, operands)
 }
 
-/// The first form of some that operands fit.
+/// The first of the forms that the operands fit; none if they fit no form.
 fn find_in<'a>(forms: &'a [Form], operands: &[Operand]) -> Option<&'a Form>
     ensures { option_row (option_copied result)
         ≡ first_fit (map row_of_form forms.now) (map operand_of operands.now) }

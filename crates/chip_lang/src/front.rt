@@ -1,4 +1,4 @@
-//! What stands in front of tokens.
+//! Tests of the first token of a list, and of reserved words.
 
 ghost use Rattle.std.specs.Prelude.{◌≡◌, ◌<◌, ◌≤◌, ◌+◌, List, length, IfSome, IfOk, true, is_some, option_map, if◌then◌else◌};
 ghost use Rattle.chip_lang.specs.Grammar.{prefix_of, operator_of, level_of};
@@ -44,7 +44,7 @@ fn operator_of(sign: u8) -> Option<Operator>
     }
 }
 
-// Above the level of each operator.
+// A level above that of each operator.
 const NO_LEVEL: u32 = 8;
 
 #[inline(always)]
@@ -61,7 +61,7 @@ fn level_of(operator: Operator) -> u32
     }
 }
 
-/// The sign before an operand in front.
+/// The first token as a sign before an operand, if it is one.
 pub fn prefix_in_front(tokens: &[Lexeme]) -> Option<Prefix>
     ensures value { result ≡ front_prefix tokens.now }
     ensures some { IfSome result (λ _. 0 < length tokens.now) }
@@ -72,7 +72,7 @@ pub fn prefix_in_front(tokens: &[Lexeme]) -> Option<Prefix>
     }
 }
 
-/// The operator in front, if it has this level.
+/// The first token as an operator, if it is an operator of this level.
 pub fn operator_in_front(tokens: &[Lexeme], level: u32) -> Option<Operator>
     ensures value { result ≡ front_operator tokens.now level }
     ensures some { IfSome result (λ _. 0 < length tokens.now) }
@@ -86,7 +86,7 @@ pub fn operator_in_front(tokens: &[Lexeme], level: u32) -> Option<Operator>
     }
 }
 
-/// The level of the operator in front, and 8 where there is none.
+/// The level of the operator that is the first token; 8 if the first token isn't an operator.
 pub fn level_in_front(tokens: &[Lexeme]) -> u32
     ensures { result ≡ front_level tokens.now }
 {
@@ -99,7 +99,7 @@ pub fn level_in_front(tokens: &[Lexeme]) -> u32
     }
 }
 
-/// The tokens after a closing parenthesis in front.
+/// The tokens after the first one, if the first one is a closing parenthesis.
 pub fn closed(tokens: &[Lexeme]) -> Option<&[Lexeme]>
     ensures value { (inside : Tree) → seen inside result ≡ closed inside tokens.now }
     ensures shorter { IfSome result (λ rest. length rest.now < length tokens.now) }
@@ -110,7 +110,7 @@ pub fn closed(tokens: &[Lexeme]) -> Option<&[Lexeme]>
     }
 }
 
-/// The number of a text of one byte.
+/// The number of a text of one byte, which is that byte; none for any other text.
 pub fn text_number(text: &[u8]) -> Option<i32>
     ensures { (rest : List Lexeme)
         → option_map (λ value. (number value, rest)) result ≡ one_byte text.now rest }
@@ -121,7 +121,7 @@ pub fn text_number(text: &[u8]) -> Option<i32>
     }
 }
 
-/// A copy of a word in upper case, if it isn't reserved.
+/// A copy of a word, given in upper case, if it isn't reserved. Fails only if memory runs out.
 pub fn free_name(alloc: Global, word: &[u8]) -> Result<Option<Bytes>, AllocError>
     ensures { IfOk result (λ name. name ≡ (if is_reserved word.now then None else Some word.now)) }
 {

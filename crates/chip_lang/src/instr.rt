@@ -1,4 +1,4 @@
-//! Instructions and their words.
+//! Instructions and the words that encode them.
 
 ghost use Rattle.std.specs.Prelude.{◌≡◌, ◌<◌, ◌+◌, ◌*◌, ◌/◌, ◌%◌, Some};
 ghost use Rattle.chip_lang.specs.Decoding.{decode_of};
@@ -8,7 +8,7 @@ ghost use Rattle.chip_lang.specs.declared.instr.Instr.{Instr};
 
 use crate::number::{Addr, Nibble, Reg};
 
-/// An instruction, one variant per row of the table.
+/// An instruction, with one variant for each row of the table.
 #[derive(Clone, Copy)]
 pub enum Instr {
     /// `SCD n`: scroll down.
@@ -99,7 +99,7 @@ pub enum Instr {
     LoadFlags(Reg),
 }
 
-/// The word of an instruction: the one that decodes to it.
+/// The word of an instruction, which is the only word that decodes to it.
 #[tactic(auto, using(crate::proofs::Decoding::scroll_at), unfolding(crate::specs::inner::ByDigits::instr_with))]
 pub fn word(instr: Instr) -> u16
     ensures { decode_of result ≡ Some instr }
@@ -159,7 +159,7 @@ fn of_system(byte: u8) -> u16
     u16::from(byte)
 }
 
-/// The word of a first digit and an address.
+/// The word with this first digit and this address.
 #[tactic(auto, using(crate::proofs::Decoding::of_address))]
 fn with_address(top: u16, a: Addr) -> u16
     requires { top < 16 }
@@ -169,7 +169,7 @@ fn with_address(top: u16, a: Addr) -> u16
     top * 4096 + a.number()
 }
 
-/// The word of a first digit, a register and a byte.
+/// The word with this first digit, this register and this byte.
 #[tactic(auto, using(crate::proofs::Decoding::of_byte))]
 fn with_byte(top: u16, x: Reg, byte: u8) -> u16
     requires { top < 16 }
@@ -179,7 +179,7 @@ fn with_byte(top: u16, x: Reg, byte: u8) -> u16
     top * 4096 + u16::from(x.number()) * 256 + u16::from(byte)
 }
 
-/// The word of a first digit, two registers and a last digit.
+/// The word with this first digit, these registers and this last digit.
 #[tactic(auto, using(crate::proofs::Decoding::of_registers))]
 fn with_registers(top: u16, x: Reg, y: Reg, n: u8) -> u16
     requires top { top < 16 }
@@ -190,7 +190,7 @@ fn with_registers(top: u16, x: Reg, y: Reg, n: u8) -> u16
     top * 4096 + u16::from(x.number()) * 256 + u16::from(y.number()) * 16 + u16::from(n)
 }
 
-/// The instruction of a word, if it is the word of one.
+/// The instruction that a word decodes to; none if it decodes to no instruction.
 #[inline(always)]
 #[tactic(auto, using(crate::proofs::Decoding::decode_by_digits))]
 pub fn decode(w: u16) -> Option<Instr>

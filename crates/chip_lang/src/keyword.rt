@@ -1,4 +1,4 @@
-//! Words with a meaning of their own: directives, parts of the machine, registers.
+//! Words with a fixed meaning: directives, parts of the machine and registers.
 
 ghost use Rattle.std.specs.Prelude.{◌≡◌, map, option_map};
 ghost use Rattle.chip_lang.specs.Named.{find_word};
@@ -15,7 +15,7 @@ use crate::form::{
 };
 use crate::number::Reg;
 
-/// What a reserved word means that isn't a register.
+/// The meaning of a reserved word that isn't a register.
 #[derive(Clone, Copy)]
 pub(crate) enum Keyword {
     /// An instruction, by its forms.
@@ -26,11 +26,11 @@ pub(crate) enum Keyword {
     Special(Special),
 }
 
-/// A word in upper case and what it means.
+/// A word in upper case and its meaning.
 #[derive(Clone, Copy)]
 pub(crate) struct Named(pub(crate) &'static [u8], pub(crate) Keyword);
 
-// All words by their last letters, from A to W: no other byte ends one.
+// All words, grouped by their last letters from A to W. No word ends in any other byte.
 const WORDS: &[&[Named]] = &[
     &[Named(b"DA", Keyword::Directive(Directive::Da))],
     &[
@@ -114,8 +114,8 @@ const WORDS: &[&[Named]] = &[
     ],
 ];
 
-/// The words that end in a byte, where `words` has all by their last letters from A on. A byte below
-/// `A`, which ends none, is taken for `A`.
+/// The words that end in a byte. `words` has a group for each last letter from A on. A byte below
+/// `A`, in which no word ends, is taken for `A`.
 #[tactic(auto, using(crate::proofs::Keywords::rows_at))]
 fn words_ending_in(last: u8, words: &[&'static [Named]]) -> &'static [Named]
     ensures { map row_of result.now
@@ -127,7 +127,7 @@ fn words_ending_in(last: u8, words: &[&'static [Named]]) -> &'static [Named]
     }
 }
 
-/// What a word means by some rows, if it stands there.
+/// The meaning that the rows give a word, if the word is among them.
 fn find_in(rows: &[Named], word: &[u8]) -> Option<Keyword>
     ensures { option_map meaning_of result ≡ find_word (map row_of rows.now) word.now }
 {
@@ -139,7 +139,7 @@ fn find_in(rows: &[Named], word: &[u8]) -> Option<Keyword>
     None
 }
 
-/// What a word in upper case means, if it is reserved and isn't a register.
+/// The meaning of a word in upper case, if it is reserved and isn't a register.
 pub(crate) fn keyword_of(word: &[u8]) -> Option<Keyword>
     ensures { meaning_in result ≡ meaning word.now }
 {
@@ -159,7 +159,8 @@ pub fn directive_of(word: &[u8]) -> Option<Directive>
     }
 }
 
-/// The directive that a word in upper case names, and the forms of the instruction.
+/// The directive that a word in upper case names, if any, and the forms of the instruction that it
+/// names. A word that names no instruction has no forms.
 pub(crate) fn front_named(word: &[u8]) -> (Option<Directive>, &'static [Form])
     ensures directive { result.0 ≡ directive_of word.now }
     ensures forms { map row_of_form result.1.now ≡ forms_of word.now }
@@ -182,7 +183,7 @@ pub fn special_of(word: &[u8]) -> Option<Special>
     }
 }
 
-/// Whether some form has this name, given in upper case.
+/// Whether some form has this name, which is in upper case.
 pub(crate) fn is_mnemonic(word: &[u8]) -> bool
     ensures { result ≡ is_mnemonic word.now }
 {

@@ -1,4 +1,4 @@
-//! Laws of the grammar.
+//! Laws of the language: tokens, expressions, forms and code.
 
 ghost use Rattle.std.specs.Prelude.{◌≡◌, List, ◌↔◌, Some};
 ghost use Rattle.chip_lang.specs.declared.lexeme.Lexeme.{Lexeme};
@@ -25,7 +25,7 @@ ghost use Rattle.chip_lang.specs.Value.{Symbols, value, value_of_name};
 ghost use Rattle.chip_lang.specs.Code.{code_of};
 ghost use Rattle.chip_lang.specs.Uses.{names_in, names_used, has_same_value, agree_on};
 
-/// Tokens are at most one expression, and it is computed.
+/// A list of tokens is at most one expression, and `expression_of` computes it.
 #[tactic(auto, using(crate::proofs::Complete::expression_laws))]
 pub fn one_expression()
     ensures one { (ts : List Lexeme) (a b : Tree) → IsExpression ts a → IsExpression ts b → a ≡ b }
@@ -38,21 +38,21 @@ pub fn worked_examples()
     ensures { Examples }
 {}
 
-/// Each line has one token list, and it is computed.
+/// Each line has exactly one list of tokens, and `tokens_of` computes it.
 #[tactic(auto, using(crate::proofs::TokenList::token_laws))]
 pub fn one_token_list()
     ensures is { (line : List ℕ) → AreTokens line 0 (tokens_of line) }
     ensures only { (line : List ℕ) (ts : List Token) → AreTokens line 0 ts → ts ≡ tokens_of line }
 {}
 
-/// Each token has a byte at least, and lies in its line.
+/// Each token has at least one byte and lies within its line.
 pub fn tokens_lie_in_line()
     ensures { (line : List ℕ)
         → All (λ token. (token.start < token.end) × (token.end ≤ length line)) (tokens_of line) }
 {}
 
-/// Where two tables agree on the names of an expression, it has one value under both; where they
-/// agree on the names that a line uses, it has one code.
+/// If two tables agree on the names of an expression, it has the same value or fault under both. If
+/// they agree on the names that a line uses, the line has the same code under both.
 #[tactic(auto, using(crate::proofs::SameCode::same_laws))]
 pub fn same_code()
     ensures value { (e : Tree) (S T : Symbols) → list_all (has_same_value S T) (names_in e) ≡ true
@@ -61,7 +61,7 @@ pub fn same_code()
         → code_of r S ≡ code_of r T }
 {}
 
-/// Where an expression has a value, it keeps it when names are added to the table: where each name
+/// An expression that has a value keeps it when names are added to the table, that is, if each name
 /// with a value keeps that value.
 #[tactic(auto, using(crate::proofs::KeptValue::kept_value))]
 pub fn kept_value()
@@ -70,8 +70,8 @@ pub fn kept_value()
         → value e S ≡ Ok v → value e T ≡ Ok v }
 {}
 
-/// The names that a line uses, repeated ones counted again, are at most half its bytes: a line of
-/// 200 bytes uses at most 100.
+/// A line uses at most half as many names as it has bytes, counting repeated names each time: a
+/// line of 200 bytes uses at most 100.
 #[tactic(auto, using(crate::proofs::NamesBound::names_bound))]
 pub fn names_bound()
     ensures { (line : List ℕ) → 2 * length (names_used (reading_of line)) ≤ length line }
@@ -84,8 +84,8 @@ pub fn one_form()
         → length (filter (λ form. fits form name operands) forms) ≤ 1 }
 {}
 
-/// The form in which a word is shown, with the operands that stand in the word, fits them and has
-/// that word under any names.
+/// If a word is shown in a form, that form with the operands in the word has this word under any
+/// names. The operands that a form's patterns take from any word fit that form.
 pub fn shown_form()
     ensures word { (w : ℕ) (form : Row) (symbols : Symbols) → form_shown w ≡ Some form
         → word_of_form form (map (operand_in w) form.patterns) symbols ≡ Ok w }
@@ -100,9 +100,9 @@ pub fn one_word()
         → v ≡ w }
 {}
 
-/// The source forms and `decode` agree: a word is shown in a form just where it decodes; and the
-/// word of a statement with a form but SYS decodes to an instruction of that form, so that of an
-/// instruction's line.
+/// The source forms and `decode` agree: a word is shown in a form if and only if it decodes. The
+/// word of a statement whose form isn't SYS decodes to an instruction of that form, and so does the
+/// word of a line with such an instruction.
 #[tactic(auto, using(crate::proofs::FormedLine::form_laws))]
 pub fn forms_and_decode()
     ensures shown { (w : ℕ) → is_some (form_shown w) ≡ is_some (decode_of w) }

@@ -1,4 +1,4 @@
-//! Tokens with what they hold.
+//! Tokens with their contents.
 
 ghost use Rattle.std.specs.Prelude.{◌≡◌, IfOk, length, ◌-◌, ◌≤◌, slice_range};
 ghost use Rattle.chip_lang.specs.Line.{lexeme_of, lexemes_of, is_the, is_sign_of};
@@ -18,11 +18,12 @@ pub enum Lexeme {
     Text(ShortBytes),
     /// A sign, by its byte.
     Sign(u8),
-    /// No token, with its fault.
+    /// Not a token, with its fault.
     Bad(Fault),
 }
 
-// It goes by one call, and not part by part in each function that lets one go.
+// Dropping is one call. A derived `Drop` would be expanded, and proved, in every function that
+// drops a value.
 impl Drop for Lexeme {
     fn drop(self) {
         match self {
@@ -32,11 +33,11 @@ impl Drop for Lexeme {
     }
 }
 
-// The tokens of a line of this many bytes and more begin with room for as many.
+// The list of tokens of a line with at least this many bytes starts with room for as many tokens.
 const LONG_LINE_BYTES: usize = 64;
 
-/// Room for the tokens of most lines of so many bytes: a line that is longer than most may hold a long
-/// expression.
+/// The number of tokens to take room for in a line of so many bytes, enough for most lines. A line
+/// that is longer than most may hold a long expression.
 fn usual_tokens(bytes: usize) -> usize {
     if bytes < LONG_LINE_BYTES {
         USUAL_TOKENS
@@ -45,7 +46,7 @@ fn usual_tokens(bytes: usize) -> usize {
     }
 }
 
-/// The tokens of a line with what they hold.
+/// The tokens of a line with their contents. Fails only if memory runs out.
 #[inline(always)]
 pub fn lexemes(alloc: Global, line: &[u8]) -> Result<Vec<Lexeme>, AllocError>
     ensures { IfOk result (λ lexemes. lexemes.items ≡ lexemes_of line.now) }
@@ -60,7 +61,7 @@ pub fn lexemes(alloc: Global, line: &[u8]) -> Result<Vec<Lexeme>, AllocError>
     Ok(lexemes)
 }
 
-/// What a token of a line holds.
+/// The contents of a token of a line. Fails only if memory runs out.
 #[inline(always)]
 pub(crate) fn lexeme_of(alloc: Global, line: &[u8], token: Token) -> Result<Lexeme, AllocError>
     requires rises { token.start ≤ token.end }
@@ -90,7 +91,7 @@ fn between_quotes(bytes: &[u8]) -> &[u8]
     }
 }
 
-/// Whether a token is this word, given in upper case.
+/// Whether a token is this word, which is in upper case.
 pub fn is_the(word: &[u8], token: &Lexeme) -> bool
     ensures { result ≡ is_the word.now token.now }
 {

@@ -1,9 +1,10 @@
 //! The language of the Chipper assembler: words of instructions, tokens, expressions, the reading
 //! of a line, and its code.
 //!
-//! [`read_line`] gives the one reading of a text, and [`encode`] the code of a reading under a
-//! table of [`Names`], which [`encode_into`] writes in its place. [`word`], [`decode`] and [`show`]
-//! go between instructions, words and source text. What each of them gives is defined in `specs/`.
+//! [`read_line`] returns the reading of a text, of which there is exactly one. [`encode`] returns
+//! the code of a reading under a table of [`Names`], and [`encode_into`] writes that code into a
+//! buffer. [`word`], [`decode`] and [`show`] convert between instructions, words and source text.
+//! The files in `specs/` define the result of each function.
 #![tactic(auto)]
 
 pub mod bytes;

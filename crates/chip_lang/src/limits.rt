@@ -1,16 +1,16 @@
-//! The limits of the language and of the memory that its code fills, each under one name.
+//! The limits of the language and of the memory that its code fills.
 
-/// How many bytes a name that a line defines has at most.
+/// The greatest number of bytes of a name that a line defines.
 pub const NAME_BYTES: usize = 64;
 
-/// How many parentheses can be open at once.
+/// The greatest number of parentheses that can be open at once.
 pub const OPEN_PARENTHESES: usize = 16;
 
-/// How many bytes the memory of the machine has.
+/// The number of bytes of the machine's memory.
 pub const MEMORY_BYTES: usize = 4096;
 
-/// Where the image stands in the memory, and the first instruction.
+/// The address where the image and the first instruction begin.
 pub const IMAGE_START: usize = 512;
 
-/// How many bytes an image has at most: it ends with the memory.
+/// The greatest number of bytes of an image, which ends where the memory ends.
 pub const IMAGE_BYTES: usize = MEMORY_BYTES - IMAGE_START;

@@ -23,7 +23,7 @@ use crate::short_bytes::ShortBytes;
 use crate::statement::{body_of_shape, is_outside, is_skipped};
 use std::alloc::{AllocError, Global};
 
-/// What the statement of a line says. Names are in upper case.
+/// The meaning of a line's statement. Names are in upper case.
 #[derive(Drop)]
 pub enum Body {
     /// No statement.
@@ -34,9 +34,9 @@ pub enum Body {
     Org(Expr),
     /// `DS e`.
     Ds(Expr),
-    /// `DB e, ..`, at least one.
+    /// `DB e, ..` with at least one expression.
     Db(Vec<Expr>),
-    /// `DW e, ..`, at least one.
+    /// `DW e, ..` with at least one expression.
     Dw(Vec<Expr>),
     /// `DA 'text'`: the bytes between the quotes.
     Da(Bytes),
@@ -64,7 +64,7 @@ pub enum Body {
     Xref,
 }
 
-/// The reading of a line: a label or defined name, if any, and a statement; or the line's reading
+/// The reading of a line: its label or defined name, if any, and its statement; or its reading
 /// fault.
 pub enum Line {
     /// The first fault of the reading.
@@ -78,7 +78,8 @@ pub enum Line {
     },
 }
 
-// It goes by one call, and not part by part in each function that lets one go.
+// Dropping is one call. A derived `Drop` would be expanded, and proved, in every function that
+// drops a value.
 impl Drop for Line {
     fn drop(self) {
         match self {
@@ -87,8 +88,9 @@ impl Drop for Line {
     }
 }
 
-/// Reads the text of a line, any bytes at all. Each text has one reading, which uses at most half
-/// as many names as the text has bytes. Adds 1 to `parsed`, also where memory runs out.
+/// Reads the text of a line, which may be any bytes. Each text has exactly one reading, which uses
+/// at most half as many names as the text has bytes. Adds 1 to `parsed`. Fails only if memory runs
+/// out, and counts the line even then.
 #[tactic(auto, unfolding(crate::specs::Line::reading_of), using(crate::proofs::NamesBound::names_bound_of))]
 #[inline]
 pub fn read_line(alloc: Global, meter: &mut Meter, text: &[u8]) -> Result<Line, AllocError>
@@ -107,8 +109,8 @@ pub fn read_line(alloc: Global, meter: &mut Meter, text: &[u8]) -> Result<Line, 
     reading_of_text(alloc, text)
 }
 
-/// Reads a line that is blank or only a comment, as its first byte shows, and adds 1 to `parsed`.
-/// Any other line isn't read, and nothing changes.
+/// Reads a line that is empty or begins with `;`: adds 1 to `parsed` and returns true, because such
+/// a line says nothing. For any other line, returns false and changes nothing.
 #[tactic(auto, unfolding(crate::specs::Line::reading_of))]
 #[inline]
 pub fn read_nothing(meter: &mut Meter, text: &[u8]) -> bool
@@ -125,14 +127,14 @@ pub fn read_nothing(meter: &mut Meter, text: &[u8]) -> bool
     true
 }
 
-/// Notes that a line was read.
+/// Counts a line as read.
 fn count_reading(meter: &mut Meter)
     ensures { meter.new ≡ record meter.old { parsed = one_more meter.old.parsed } }
 {
     meter.parsed = meter.parsed.saturating_add(1);
 }
 
-/// Whether a line has no tokens, as its first byte shows.
+/// Whether a line is empty or begins with `;`. Such a line has no tokens.
 fn is_plainly_empty(text: &[u8]) -> bool
     ensures shown { result ≡ shows_nothing text.now }
     ensures empty { result ≡ true → lexemes_of text.now ≡ [] }
@@ -140,7 +142,7 @@ fn is_plainly_empty(text: &[u8]) -> bool
     matches!(text, [] | [b';', ..])
 }
 
-/// The reading of a line with tokens, or of any other.
+/// The reading of a line, with tokens or without. Fails only if memory runs out.
 #[inline(never)]
 fn reading_of_text(alloc: Global, text: &[u8]) -> Result<Line, AllocError>
     ensures { IfOk result (λ line. seen_line line ≡ reading_of_tokens (lexemes_of text.now)) }
@@ -149,7 +151,7 @@ fn reading_of_text(alloc: Global, text: &[u8]) -> Result<Line, AllocError>
     reading_of_tokens(alloc, &tokens)
 }
 
-/// The reading of a line's tokens.
+/// The reading of a line's tokens. Fails only if memory runs out.
 fn reading_of_tokens(alloc: Global, tokens: &[Lexeme]) -> Result<Line, AllocError>
     ensures { IfOk result (λ line. seen_line line ≡ reading_of_tokens tokens.now) }
 {
@@ -165,8 +167,8 @@ fn reading_of_tokens(alloc: Global, tokens: &[Lexeme]) -> Result<Line, AllocErro
     }
 }
 
-/// The first fault of a reading, but for one of operands that fit nothing. `front` is the directive
-/// at the front of the statement, and `forms` has those of an instruction there.
+/// The first fault of a reading, except the fault of a statement that fits nothing. `front` is the
+/// directive at the front of the statement, and `forms` has the forms of an instruction there.
 fn first_fault(
     tokens: &[Lexeme],
     shape: &Shape,
@@ -206,8 +208,8 @@ fn begins_with_no_word(statement: &[Lexeme]) -> bool
     !matches!(statement, [] | [Lexeme::Word(..), ..])
 }
 
-/// Whether a statement begins with a word that is not a directive, of which `front` tells, nor an
-/// instruction, whose forms there would be.
+/// Whether a statement begins with a word that is neither a directive nor an instruction. `front`
+/// is the directive there, and `forms` has the forms of an instruction there.
 #[tactic(auto, using(crate::proofs::NamedForms::unknown_word))]
 fn begins_with_unknown_word(front: Option<Directive>, forms: &[Form], statement: &[Lexeme]) -> bool
     requires word { begins_with_no_word statement.now ≡ false }
@@ -242,8 +244,8 @@ fn bad_token(tokens: &[Lexeme]) -> Option<Fault>
     None
 }
 
-/// Whether at some token the parentheses opened so far are over `OPEN_PARENTHESES` more than those
-/// closed.
+/// Whether at some token the number of parentheses opened so far exceeds the number closed by more
+/// than `OPEN_PARENTHESES`.
 #[tactic(auto, using(crate::proofs::FewTokens::not_deep))]
 fn is_too_deep(tokens: &[Lexeme]) -> bool
     ensures { result ≡ too_deep 0 0 tokens.now }

@@ -1,4 +1,4 @@
-//! Which names a line uses and defines.
+//! The names that a line uses and defines.
 
 ghost use Rattle.std.specs.Prelude.{◌≡◌, ◌∷◌, [], ◌++◌, map, drop, slice_get, MatchOption};
 ghost use Rattle.std.specs.List.{flat_map};
@@ -29,8 +29,8 @@ pub fn defines(line: &Line) -> Option<&[u8]>
     }
 }
 
-/// The names in the expressions of a line, left to right. A name that stands there twice comes
-/// twice. All of them take time linear in the length of the line.
+/// The names in the expressions of a line, left to right. A name that occurs twice is returned
+/// twice. Going through all of them takes time linear in the length of the line.
 pub fn used_names(line: &Line) -> UsedNames<'_>
     ensures { result ≡ names_used (seen_line line.now) }
 {
@@ -51,8 +51,8 @@ pub fn used_names(line: &Line) -> UsedNames<'_>
     }
 }
 
-/// The name at a place, from 0 on, in the list of the names in the expressions of a line, left to
-/// right. A name that stands there twice is two places. None past the last.
+/// The name at an index, counted from 0, among the names in the expressions of a line, left to
+/// right. A name that occurs twice has two indexes. None if the index is past the last name.
 #[tactic(auto, using(crate::proofs::NamesUsed::names_left))]
 pub fn uses(line: &Line, place: usize) -> Option<&[u8]>
     ensures { option_copied result ≡ slice_get (names_used (seen_line line.now)) place }
@@ -64,7 +64,7 @@ pub fn uses(line: &Line, place: usize) -> Option<&[u8]>
     names.next()
 }
 
-/// Names that are left of those in the expressions of a line, left to right.
+/// The names in the expressions of a line that are still left, left to right.
 #[derive(Drop)]
 pub struct UsedNames<'a> {
     names: &'a [ShortBytes],
@@ -97,7 +97,7 @@ impl<'a> UsedNames<'a> {
         }
     }
 
-    /// The next name, which is then no longer left; none where none is left.
+    /// Returns the next name, which is then no longer left; none if no name is left.
     #[tactic(auto, using(crate::proofs::NamesUsed::names_left))]
     pub fn next(&mut self) -> Option<&'a [u8]>
         ensures next { option_copied result ≡ slice_get self.old 0 }
@@ -120,7 +120,8 @@ impl<'a> UsedNames<'a> {
     }
 }
 
-/// The first name in expressions, those after it in the same one, and the expressions after that.
+/// The first name in a list of expressions, the names after it in the same expression, and the
+/// expressions after that one. None if there is no name.
 #[tactic(auto, using(crate::proofs::NamesUsed::names_left))]
 fn name_in_each(exprs: &[Expr]) -> Option<(&[u8], &[ShortBytes], &[Expr])>
     ensures { MatchOption result (flat_map names_in (map tree_of exprs.now) ≡ [])
@@ -137,7 +138,8 @@ fn name_in_each(exprs: &[Expr]) -> Option<(&[u8], &[ShortBytes], &[Expr])>
     None
 }
 
-/// The first name in operands, those after it in the same one, and the operands after that.
+/// The first name in a list of operands, the names after it in the same operand, and the operands
+/// after that one. None if there is no name.
 #[tactic(auto, using(crate::proofs::NamesUsed::names_left))]
 fn name_in_operands(operands: &[Operand]) -> Option<(&[u8], &[ShortBytes], &[Operand])>
     ensures { MatchOption result
@@ -158,7 +160,7 @@ fn name_in_operands(operands: &[Operand]) -> Option<(&[u8], &[ShortBytes], &[Ope
     None
 }
 
-/// The first name in an expression, and those after it.
+/// The first name in an expression, and the names after it. None if there is no name.
 fn name_in(expr: &Expr) -> Option<(&[u8], &[ShortBytes])>
     ensures { MatchOption result (names_in (tree_of expr.now) ≡ [])
         (λ found. names_in (tree_of expr.now) ≡ found.0.now ∷ found.1.now) }

@@ -2,13 +2,13 @@
 
 ghost use Rattle.std.specs.Prelude.{◌≡◌};
 
-/// How many texts of lines were read and how many lines were encoded. A count stays at its greatest
-/// value.
+/// The numbers of lines read and of lines encoded. A count that has reached its greatest value
+/// stays there.
 #[derive(Clone, Copy, PartialEq, Eq)]
 pub struct Meter {
-    /// The lines that were read.
+    /// The number of lines that were read.
     pub parsed: u64,
-    /// The lines that were encoded.
+    /// The number of lines that were encoded.
     pub encoded: u64,
 }
 

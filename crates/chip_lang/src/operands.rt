@@ -1,4 +1,4 @@
-//! Operands between commas.
+//! Operands, which commas separate.
 
 ghost use Rattle.std.specs.Prelude.{◌≡◌, ◌<◌, ◌≤◌, ◌∷◌, ◌&&◌, IfOk, length, map, not, option_map};
 ghost use Rattle.std.specs.List.{prefix_len};
@@ -15,7 +15,7 @@ use crate::lexeme::{Lexeme, is_sign_of, is_the};
 use crate::parse::parse_expression;
 use std::alloc::{AllocError, Global};
 
-/// How many tokens stand before the first comma.
+/// The number of tokens before the first comma; of all tokens if there is no comma.
 fn piece_length(tokens: &[Lexeme]) -> usize
     ensures value { result ≡ prefix_len (λ t. not (is_sign_of 44 t)) tokens.now }
     ensures within { result ≤ length tokens.now }
@@ -28,7 +28,7 @@ fn piece_length(tokens: &[Lexeme]) -> usize
     tokens.len()
 }
 
-/// How many pieces a first one and the tokens after its comma are.
+/// The number of pieces, given the tokens after the comma of the first piece, if it has one.
 fn piece_count(more: Option<&[Lexeme]>) -> usize {
     match more {
         Some(tokens) => tokens
@@ -40,10 +40,11 @@ fn piece_count(more: Option<&[Lexeme]>) -> usize {
     }
 }
 
-// No instruction takes more operands, so that most lines need no more room.
+// No instruction takes more operands than this, so most lines need no more room.
 const USUAL_OPERANDS: usize = 3;
 
-/// Room for the operands that so many tokens are: each but the last has a comma after it.
+/// The number of operands in that many tokens, given a comma between each two, but at most
+/// `USUAL_OPERANDS`.
 fn usual_room(tokens: usize) -> usize {
     (tokens / 2).saturating_add(1).min(USUAL_OPERANDS)
 }
@@ -61,7 +62,8 @@ pub(crate) fn first_piece(tokens: &[Lexeme]) -> (&[Lexeme], Option<&[Lexeme]>)
     }
 }
 
-/// The expressions between commas, if each of them is one.
+/// The expressions between commas; none if some piece isn't an expression. Fails only if memory
+/// runs out.
 #[tactic(auto, using(crate::proofs::Pieces::value_steps))]
 pub(crate) fn values_of(alloc: Global, tokens: &[Lexeme]) -> Result<Option<Vec<Expr>>, AllocError>
     ensures { IfOk result (λ found. option_map (λ values. map tree_of values.items) found
@@ -83,7 +85,8 @@ pub(crate) fn values_of(alloc: Global, tokens: &[Lexeme]) -> Result<Option<Vec<E
     Ok(Some(values))
 }
 
-/// The operands between commas, if each of them is one. Without tokens there are none.
+/// The operands between commas; none if some piece isn't an operand. An empty list of tokens is an
+/// empty list of operands. Fails only if memory runs out.
 #[tactic(auto, using(crate::proofs::Pieces::value_steps))]
 pub(crate) fn operands_of(
     alloc: Global,
@@ -108,7 +111,7 @@ pub(crate) fn operands_of(
     Ok(Some(operands))
 }
 
-/// The operand that some tokens are, if they are one.
+/// The operand that the tokens are; none if they aren't an operand. Fails only if memory runs out.
 #[inline(always)]
 pub(crate) fn operand_of(alloc: Global, tokens: &[Lexeme]) -> Result<Option<Operand>, AllocError>
     ensures { IfOk result (λ found. option_map operand_of found ≡ operand_of_tokens tokens.now) }
@@ -122,7 +125,8 @@ pub(crate) fn operand_of(alloc: Global, tokens: &[Lexeme]) -> Result<Option<Oper
     }
 }
 
-/// A register, a word for a part of the machine, or `[I]`.
+/// The register, word for a part of the machine, or `[I]` that the tokens are; none for other
+/// tokens.
 #[inline(always)]
 fn part_of_machine(tokens: &[Lexeme]) -> Option<Operand>
     ensures { option_map operand_of result ≡ part_of_machine tokens.now }
@@ -134,7 +138,7 @@ fn part_of_machine(tokens: &[Lexeme]) -> Option<Operand>
     }
 }
 
-/// A register, or a word for a part of the machine.
+/// The register or part of the machine that a word in upper case names; none for any other word.
 fn named(word: &[u8]) -> Option<Operand>
     ensures { option_map operand_of result ≡ named (register_of word.now) (special_of word.now) }
 {
@@ -147,7 +151,7 @@ fn named(word: &[u8]) -> Option<Operand>
     }
 }
 
-/// Whether some tokens are `[I]`.
+/// Whether the tokens are `[I]`.
 fn is_at_index(tokens: &[Lexeme]) -> bool
     ensures { result ≡ is_at_index tokens.now }
 {

@@ -16,11 +16,12 @@ use crate::lexeme::Lexeme;
 use crate::postfix::Builder;
 use std::alloc::{AllocError, Global};
 
-/// The tokens after an expression, which a builder then has on top; none where there is no
-/// expression, and what the builder has then means nothing.
+/// The tokens after an expression, which the builder then has on top. None if there is no
+/// expression; the contents of the builder then have no meaning.
 type Found<'a> = Option<&'a [Lexeme]>;
 
-/// The expression that tokens are, if they are one.
+/// The expression that the tokens are; none if they aren't an expression. Fails only if memory runs
+/// out.
 pub fn parse_expression(alloc: Global, tokens: &[Lexeme]) -> Result<Option<Expr>, AllocError>
     ensures value { IfOk result (λ found. seen_whole found ≡ expression_of tokens.now) }
     ensures found { IfOk result (λ found. IfSome found (λ e. IsExpression tokens.now (tree_of e))) }
@@ -41,13 +42,14 @@ pub fn parse_expression(alloc: Global, tokens: &[Lexeme]) -> Result<Option<Expr>
     }
 }
 
-/// How many items most expressions of so many tokens have: one for each operand, where a sign stands
+/// The number of items in most expressions of so many tokens: one for each operand, given a sign
 /// between every two.
 fn usual_items(tokens: usize) -> usize {
     (tokens / 2).saturating_add(1)
 }
 
-/// The expression that one token is, if it is one: most expressions have no more.
+/// The expression that one token is; none if it isn't an expression. Most expressions are one
+/// token.
 #[tactic(auto, using(crate::proofs::OneToken::expression_of_one))]
 fn expression_of_token(alloc: Global, token: &Lexeme) -> Result<Option<Expr>, AllocError>
     ensures { IfOk result (λ found. seen_whole found ≡ expression_of (token.now ∷ [])) }
@@ -60,7 +62,8 @@ fn expression_of_token(alloc: Global, token: &Lexeme) -> Result<Option<Expr>, Al
     }
 }
 
-/// An expression of a level. The levels of which no operator stands in front are passed over.
+/// Parses an expression of a level, and skips each level that has no operator at the front of the
+/// tokens.
 #[cycle(parser)]
 fn parse_level<'a>(
     builder: &mut Builder,
@@ -95,7 +98,7 @@ fn parse_level<'a>(
     Ok(Some(rest))
 }
 
-/// An operand with the signs before it.
+/// Parses an operand with the signs before it.
 #[cycle(parser)]
 fn parse_prefixed<'a>(builder: &mut Builder, tokens: &'a [Lexeme]) -> Result<Found<'a>, AllocError>
     ensures value { IfOk result (λ found. (n : ℕ) → 9 * length tokens.now + 1 < n
@@ -140,8 +143,8 @@ fn parse_atom<'a>(builder: &mut Builder, tokens: &'a [Lexeme]) -> Result<Found<'
     }
 }
 
-/// Appends the expression that one token is, if it is one. Otherwise what the builder has then means
-/// nothing.
+/// Appends the expression that one token is and returns true. Returns false if the token isn't an
+/// expression; the contents of the builder then have no meaning.
 fn push_operand(builder: &mut Builder, token: &Lexeme) -> Result<bool, AllocError>
     ensures value { IfOk result
         (λ found. (if found then Some (top builder.new) else None) ≡ atom_of token.now) }
@@ -166,7 +169,8 @@ fn push_operand(builder: &mut Builder, token: &Lexeme) -> Result<bool, AllocErro
     Ok(true)
 }
 
-/// The operators of a level and their right sides, after a left side that the builder has on top.
+/// Parses the operators of a level and their right sides, after a left side that the builder has on
+/// top.
 #[cycle(parser)]
 fn parse_further<'a>(
     builder: &mut Builder,

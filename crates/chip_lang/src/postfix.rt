@@ -10,24 +10,27 @@ use crate::short_bytes::ShortBytes;
 use std::alloc::{AllocError, Global};
 use std::marker::Model;
 
-/// A part of an expression. Its names stand beside the items, and an item has the number of one.
+/// A part of an expression. The names are kept in a list beside the items, and an item has the
+/// number of a name in that list.
 #[derive(Clone, Copy)]
 pub(crate) enum Item {
     /// A number.
     Number(i32),
-    /// A name.
+    /// A name, by its number.
     Name(usize),
-    /// The sign before an operand, with which the items before it end.
+    /// The sign before an operand. The items before this one end with that operand.
     Unary(Prefix),
-    /// The sign between two operands, with which the items before it end.
+    /// The sign between two operands. The items before this one end with both operands.
     Binary(Operator),
-    /// The sign between an operand, with which the items before it end, and a number.
+    /// The sign between an operand and this number. The items before this one end with that
+    /// operand.
     WithNumber(Operator, i32),
-    /// The sign between an operand, with which the items before it end, and a name.
+    /// The sign between an operand and the name of this number. The items before this one end with
+    /// that operand.
     WithName(Operator, usize),
 }
 
-/// Makes room for one more item.
+/// Makes room for one more item. Fails only if memory runs out.
 #[cold]
 #[inline(never)]
 fn grow(items: &mut Vec<Item>) -> Result<(), AllocError>
@@ -39,7 +42,7 @@ fn grow(items: &mut Vec<Item>) -> Result<(), AllocError>
     items.reserve(1)
 }
 
-/// Appends an item.
+/// Appends an item. Fails only if memory runs out.
 #[inline(always)]
 fn push_item(items: &mut Vec<Item>, item: Item) -> Result<(), AllocError>
     requires { vec_len items.old ≤ vec_capacity items.old }
@@ -54,7 +57,7 @@ fn push_item(items: &mut Vec<Item>, item: Item) -> Result<(), AllocError>
     Ok(())
 }
 
-/// Appends a name. Most expressions with a name have one alone, so the first takes exact room.
+/// Appends a name. Most expressions with a name have only one, so the first name takes exact room.
 fn add_name(names: &mut Vec<ShortBytes>, name: ShortBytes) -> Result<(), AllocError>
     ensures ok { OnOk result (names.new.items ≡ names.old.items ++ name ∷ []) }
     ensures err { OnErr result (names.new.items ≡ names.old.items) }
@@ -66,15 +69,16 @@ fn add_name(names: &mut Vec<ShortBytes>, name: ShortBytes) -> Result<(), AllocEr
     Ok(())
 }
 
-/// Items in postfix order, operands before their sign, and their names in upper case, left to right.
+/// Items in postfix order, with operands before their sign, and their names in upper case, left to
+/// right.
 #[derive(Drop)]
 pub(crate) struct Parts {
     items: Vec<Item>,
     names: Vec<ShortBytes>,
 }
 
-/// An expression of several tokens, which contracts see as a tree. Few expressions have more than one
-/// token, so its parts take no room in the others.
+/// An expression of several tokens, which contracts see as a tree. Few expressions have more than
+/// one token, so the parts are in a box and take no room in the others.
 #[derive(Drop)]
 pub struct Postfix {
     parts: Box<Parts>,
@@ -94,7 +98,7 @@ impl Model for Postfix {
 }
 
 impl Postfix {
-    /// The items, and the names, left to right.
+    /// The items, and the names from left to right.
     #[tactic(auto, using(crate::proofs::NamesUsed::names_whole))]
     pub(crate) fn parts(&self) -> (&[Item], &[ShortBytes])
         ensures tree { top (stack_of result.1.now result.0.now) ≡ self.now }
@@ -105,7 +109,8 @@ impl Postfix {
     }
 }
 
-/// The items of an expression that is read, which contracts see as the stack of trees that they leave.
+/// The items of an expression that is being read. Contracts see them as the stack of trees that
+/// they leave.
 #[derive(Drop)]
 pub(crate) struct Builder {
     alloc: Global,
@@ -129,7 +134,7 @@ impl Model for Builder {
 }
 
 impl Builder {
-    /// No items, and room for so many.
+    /// A builder without items, and with room for so many. Fails only if memory runs out.
     pub fn new(alloc: Global, room: usize) -> Result<Builder, AllocError>
         ensures { IfOk result (λ builder. builder ≡ []) }
     {
@@ -150,7 +155,7 @@ impl Builder {
         Ok(())
     }
 
-    /// Appends a name, given in upper case.
+    /// Appends a name, which is in upper case.
     #[tactic(auto, using(crate::proofs::Numbered::numbered_items, std::proofs::lemmas::List::Sums::fold_push))]
     pub fn push_name(&mut self, word: &[u8]) -> Result<(), AllocError>
         ensures { OnOk result (self.new ≡ name word.now ∷ self.old) }
@@ -172,7 +177,8 @@ impl Builder {
         Ok(())
     }
 
-    /// Appends the sign between two operands, in one item with the second where that is one token.
+    /// Appends the sign between two operands. If the second operand is a single token, the sign and
+    /// that token become one item.
     #[tactic(auto, using(crate::proofs::Numbered::numbered_items, std::proofs::lemmas::List::Sums::fold_push))]
     pub fn push_binary(&mut self, sign: Operator) -> Result<(), AllocError>
         ensures { OnOk result (self.new ≡ binary sign (top (popped self.old)) (top self.old)
@@ -190,7 +196,8 @@ impl Builder {
         Ok(())
     }
 
-    /// The expression that all items are, in no more room than they take.
+    /// The expression that all items form, in no more room than they take. Fails only if memory
+    /// runs out.
     pub fn finish(self) -> Result<Postfix, AllocError>
         requires { popped self ≡ [] }
         ensures { IfOk result (λ postfix. postfix ≡ top self) }

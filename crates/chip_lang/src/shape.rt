@@ -16,10 +16,10 @@ use crate::lexeme::{Lexeme, is_sign_of, is_the};
 use crate::limits::NAME_BYTES;
 use crate::short_bytes::ShortBytes;
 
-/// What a line is, by its tokens.
+/// The shape of a line, found from its tokens.
 #[derive(Drop)]
 pub(crate) enum Shape<'a> {
-    /// A definition: its name, and what follows EQU or `=`.
+    /// A definition: its name, and the tokens after EQU or `=`.
     Definition {
         name: &'a ShortBytes,
         value: &'a [Lexeme],
@@ -38,7 +38,7 @@ fn is_equ(token: &Lexeme) -> bool
     is_the(b"EQU", token) || is_sign_of(b'=', token)
 }
 
-/// The parts of a line.
+/// The shape of a line with these tokens.
 #[inline(always)]
 pub(crate) fn shape_of(tokens: &[Lexeme]) -> Shape<'_>
     ensures { seen_shape result ≡ shape_of tokens.now }
@@ -55,7 +55,7 @@ pub(crate) fn shape_of(tokens: &[Lexeme]) -> Shape<'_>
     }
 }
 
-/// What a word, a colon and these tokens are.
+/// The shape of a line that is a word, a colon and then these tokens.
 fn after_label<'a>(name: &'a ShortBytes, rest: &'a [Lexeme]) -> Shape<'a>
     ensures { seen_shape result ≡ after_label name.now rest.now }
 {
@@ -68,14 +68,15 @@ fn after_label<'a>(name: &'a ShortBytes, rest: &'a [Lexeme]) -> Shape<'a>
     }
 }
 
-/// Whether a word can't be defined.
+/// Whether a word can't be defined: it is reserved or longer than `NAME_BYTES` bytes.
 pub(crate) fn is_bad_name(word: &[u8]) -> bool
     ensures { result ≡ is_bad_name word.now }
 {
     is_reserved(word) || word.len() > NAME_BYTES
 }
 
-/// The directive at the front of a statement, and the forms of the instruction there.
+/// The directive at the front of a statement, if any, and the forms of the instruction there, if
+/// any.
 pub(crate) fn front_of(statement: &[Lexeme]) -> (Option<Directive>, &'static [Form])
     ensures directive { result.0 ≡ front_directive statement.now }
     ensures forms { map row_of_form result.1.now ≡ front_forms statement.now }
@@ -86,7 +87,7 @@ pub(crate) fn front_of(statement: &[Lexeme]) -> (Option<Directive>, &'static [Fo
     }
 }
 
-/// The tokens of a line's statement.
+/// The tokens of a line's statement; a definition has none.
 pub(crate) fn statement_of<'a>(shape: &Shape<'a>) -> &'a [Lexeme]
     ensures { result.now ≡ statement_of (seen_shape shape.now) }
 {
@@ -96,7 +97,7 @@ pub(crate) fn statement_of<'a>(shape: &Shape<'a>) -> &'a [Lexeme]
     }
 }
 
-/// The word after a DEFINE that begins a statement.
+/// The word after DEFINE, if DEFINE begins the statement and a word follows.
 fn name_after_define(front: Option<Directive>, tokens: &[Lexeme]) -> Option<&ShortBytes>
     ensures { option_to_list (option_copied result) ≡ by_define front tokens.now }
 {

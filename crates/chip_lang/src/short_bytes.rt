@@ -1,4 +1,4 @@
-//! Few bytes, as those of a word while its line is read, and those of a line's code.
+//! Short lists of bytes, such as a word while its line is read, or the code of a line.
 
 ghost use Rattle.std.specs.Borrow.{Array, Lends, sem, u8 as byte};
 ghost use Rattle.std.specs.Prelude.{◌≡◌, [], IfOk, length, map, replicate};
@@ -10,7 +10,7 @@ use smallvec::SmallVec;
 use std::alloc::{AllocError, Global};
 use std::marker::Model;
 
-/// A byte, in upper case where it is a letter.
+/// A byte, in upper case if it is a letter.
 pub fn upper(byte: u8) -> u8
     ensures { result ≡ upper byte }
 {
@@ -20,11 +20,11 @@ pub fn upper(byte: u8) -> u8
     }
 }
 
-// How many bytes stand in the value itself.
+// The number of bytes that are stored in the value itself.
 const INLINE_BYTES: usize = 16;
 
-/// Bytes, which contracts see as a list. Up to 16, as of most words and codes, stand in the value
-/// itself.
+/// Bytes, which contracts see as a list. Up to 16 bytes, enough for most words and codes, are
+/// stored in the value itself.
 #[derive(Drop)]
 pub struct ShortBytes {
     bytes: SmallVec<u8, INLINE_BYTES>,
@@ -39,7 +39,7 @@ impl Model for ShortBytes {
 }
 
 impl ShortBytes {
-    /// No bytes.
+    /// An empty list of bytes.
     pub fn empty(alloc: Global) -> ShortBytes
         ensures { result ≡ [] }
     {
@@ -48,7 +48,7 @@ impl ShortBytes {
         }
     }
 
-    /// A copy of these bytes.
+    /// A copy of these bytes. Fails only if memory runs out.
     pub fn from_slice(alloc: Global, slice: &[u8]) -> Result<ShortBytes, AllocError>
         ensures { IfOk result (λ bytes. bytes ≡ slice.now) }
     {
@@ -56,7 +56,7 @@ impl ShortBytes {
         Ok(ShortBytes { bytes })
     }
 
-    /// A copy of a word, in upper case.
+    /// A copy of a word, in upper case. Fails only if memory runs out.
     #[inline(always)]
     pub fn in_upper_case(alloc: Global, word: &[u8]) -> Result<ShortBytes, AllocError>
         ensures { IfOk result (λ bytes. bytes ≡ map upper word.now) }
@@ -83,7 +83,7 @@ impl ShortBytes {
         Ok(ShortBytes { bytes })
     }
 
-    /// So many zeros.
+    /// A list of `count` zeros. Fails only if memory runs out.
     pub fn zeros(alloc: Global, count: usize) -> Result<ShortBytes, AllocError>
         ensures { IfOk result (λ bytes. bytes ≡ replicate count 0) }
     {

@@ -8,13 +8,13 @@ ghost use Rattle.chip_lang.specs.inner.ByDigits.{form_with};
 
 use std::alloc::{AllocError, Global};
 
-// The longest source texts, as `DRW V0, V0, 10`, have so many bytes.
+// The longest source texts, such as `DRW V0, V0, 10`, have this many bytes.
 const LONGEST_TEXT: usize = 14;
 
-// The digit of each register's name.
+// The digit in each register's name.
 const REGISTER_DIGITS: [u8; 16] = *b"0123456789ABCDEF";
 
-// The two hexadecimal digits of each byte, at twice its place.
+// The two hexadecimal digits of each byte. Those of byte `b` begin at index 2 * `b`.
 const DIGIT_PAIRS: [u8; 512] = *b"000102030405060708090a0b0c0d0e0f\
     101112131415161718191a1b1c1d1e1f\
     202122232425262728292a2b2c2d2e2f\
@@ -32,9 +32,9 @@ const DIGIT_PAIRS: [u8; 512] = *b"000102030405060708090a0b0c0d0e0f\
     e0e1e2e3e4e5e6e7e8e9eaebecedeeef\
     f0f1f2f3f4f5f6f7f8f9fafbfcfdfeff";
 
-/// The source text of a word: registers `V0` to `VF`, a byte as `#kk`, an address as `#nnn`, a
-/// nibble in decimal. A word that is not an instruction is `DW #wwww`. Read as a line and encoded,
-/// the text gives the word.
+/// The source text of a word: registers as `V0` to `VF`, a byte as `#kk`, an address as `#nnn`, a
+/// nibble in decimal. The text of a word that isn't an instruction is `DW #wwww`. Reading the text
+/// as a line and encoding it gives the word. Fails only if memory runs out.
 pub fn show(alloc: Global, word: u16) -> Result<String, AllocError>
     ensures text { IfOk result (λ text. string_bytes text ≡ show_of word) }
 {
@@ -46,8 +46,8 @@ pub fn show(alloc: Global, word: u16) -> Result<String, AllocError>
     Ok(text)
 }
 
-/// Adds the source text of a word, as `show` gives it. Err where memory ran out; a part of the text
-/// may be added then.
+/// Appends the source text of a word, as `show` gives it. Fails only if memory runs out; a part of
+/// the text may have been appended then.
 #[tactic(auto, using(crate::proofs::ShownForm::text_by_digits), unfolding(crate::specs::inner::ByDigits::form_with))]
 pub fn push_shown(text: &mut Vec<u8>, word: u16) -> Result<(), AllocError>
     ensures text { OnOk result (text.new.items ≡ text.old.items ++ show_of word) }
@@ -76,7 +76,7 @@ pub fn push_shown(text: &mut Vec<u8>, word: u16) -> Result<(), AllocError>
     }
 }
 
-/// Adds the text of a word with the first digit 0.
+/// Appends the text of a word with the first digit 0.
 #[tactic(auto, unfolding(crate::specs::inner::ByDigits::form_with))]
 fn push_system(text: &mut Vec<u8>, word: u16) -> Result<(), AllocError>
     ensures { OnOk result (text.new.items
@@ -100,7 +100,7 @@ fn push_system(text: &mut Vec<u8>, word: u16) -> Result<(), AllocError>
     }
 }
 
-/// Adds the text of a word with the first digit 8.
+/// Appends the text of a word with the first digit 8.
 #[tactic(auto, unfolding(crate::specs::inner::ByDigits::form_with))]
 fn push_arithmetic(text: &mut Vec<u8>, word: u16) -> Result<(), AllocError>
     ensures { OnOk result (text.new.items
@@ -120,7 +120,7 @@ fn push_arithmetic(text: &mut Vec<u8>, word: u16) -> Result<(), AllocError>
     }
 }
 
-/// Adds the text of a word with the first digit 14.
+/// Appends the text of a word with the first digit 14 (`E`).
 #[tactic(auto, unfolding(crate::specs::inner::ByDigits::form_with))]
 fn push_key(text: &mut Vec<u8>, word: u16) -> Result<(), AllocError>
     ensures { OnOk result (text.new.items
@@ -133,7 +133,7 @@ fn push_key(text: &mut Vec<u8>, word: u16) -> Result<(), AllocError>
     }
 }
 
-/// Adds the text of a word with the first digit 15.
+/// Appends the text of a word with the first digit 15 (`F`).
 #[tactic(auto, unfolding(crate::specs::inner::ByDigits::form_with))]
 fn push_transfer(text: &mut Vec<u8>, word: u16) -> Result<(), AllocError>
     ensures { OnOk result (text.new.items
@@ -156,7 +156,7 @@ fn push_transfer(text: &mut Vec<u8>, word: u16) -> Result<(), AllocError>
     }
 }
 
-/// Adds a name and two registers, where the word's last digit is 0.
+/// Appends a name and two registers if the word's last digit is 0, or else `DW #wwww`.
 #[inline(always)]
 fn push_comparison(text: &mut Vec<u8>, name: &[u8], word: u16) -> Result<(), AllocError>
     ensures { OnOk result (text.new.items ≡ text.old.items
@@ -170,7 +170,7 @@ fn push_comparison(text: &mut Vec<u8>, name: &[u8], word: u16) -> Result<(), All
     }
 }
 
-/// Adds a name and one register, where the other is V0, or both.
+/// Appends a name and the register X of a word, and also the register Y unless that is V0.
 #[inline(always)]
 fn push_shift(text: &mut Vec<u8>, name: &[u8], word: u16) -> Result<(), AllocError>
     ensures { OnOk result (text.new.items ≡ text.old.items
@@ -184,7 +184,7 @@ fn push_shift(text: &mut Vec<u8>, name: &[u8], word: u16) -> Result<(), AllocErr
     }
 }
 
-/// Adds what stands before the register X of a word, the register, and what stands after it.
+/// Appends the text before a register, the register X of a word, and the text after it.
 #[inline(always)]
 fn push_with_register(
     text: &mut Vec<u8>,
@@ -200,7 +200,7 @@ fn push_with_register(
     text.extend_from_slice(after)
 }
 
-/// Adds a name and the registers X and Y of a word.
+/// Appends a name and the registers X and Y of a word.
 #[inline(always)]
 fn push_with_registers(text: &mut Vec<u8>, name: &[u8], word: u16) -> Result<(), AllocError>
     ensures { OnOk result (text.new.items
@@ -212,7 +212,7 @@ fn push_with_registers(text: &mut Vec<u8>, name: &[u8], word: u16) -> Result<(),
     text.extend_from_slice(&[b' ', b'V', x, b',', b' ', b'V', y])
 }
 
-/// Adds a name, and the register X and the byte of a word.
+/// Appends a name, and the register X and the byte of a word.
 #[inline(always)]
 fn push_with_byte(text: &mut Vec<u8>, name: &[u8], word: u16) -> Result<(), AllocError>
     ensures { OnOk result (text.new.items
@@ -224,7 +224,7 @@ fn push_with_byte(text: &mut Vec<u8>, name: &[u8], word: u16) -> Result<(), Allo
     text.extend_from_slice(&[b' ', b'V', x, b',', b' ', b'#', high, low])
 }
 
-/// Adds what stands before the address of a word, and the address.
+/// Appends the text before an address, and the address of a word.
 #[inline(always)]
 fn push_with_address(text: &mut Vec<u8>, before: &[u8], word: u16) -> Result<(), AllocError>
     ensures { OnOk result (text.new.items
@@ -235,7 +235,7 @@ fn push_with_address(text: &mut Vec<u8>, before: &[u8], word: u16) -> Result<(),
     text.extend_from_slice(&[b' ', b'#', a, b, c])
 }
 
-/// Adds what stands before a number below 16, and the number in decimal.
+/// Appends the text before a number, and the number, which is below 16, in decimal.
 #[inline(always)]
 fn push_small_decimal(text: &mut Vec<u8>, before: &[u8], number: u16) -> Result<(), AllocError>
     requires { number < 16 }
@@ -250,7 +250,7 @@ fn push_small_decimal(text: &mut Vec<u8>, before: &[u8], number: u16) -> Result<
     }
 }
 
-/// Adds `DW #wwww`.
+/// Appends `DW #wwww`.
 fn push_data(text: &mut Vec<u8>, word: u16) -> Result<(), AllocError>
     ensures { OnOk result (text.new.items ≡ text.old.items ++ form_text None word) }
 {
@@ -258,7 +258,7 @@ fn push_data(text: &mut Vec<u8>, word: u16) -> Result<(), AllocError>
     text.extend_from_slice(&[b'D', b'W', b' ', b'#', a, b, c, d])
 }
 
-/// A digit below 16 of a register's name, in upper case.
+/// The digit of a register's name, in upper case, for a number below 16.
 #[tactic(auto, using(crate::proofs::ShownDigits::register_digit_is))]
 fn register_digit(digit: u16) -> u8
     requires { digit < 16 }
@@ -267,7 +267,7 @@ fn register_digit(digit: u16) -> u8
     REGISTER_DIGITS[usize::from(digit)]
 }
 
-/// A byte in two hexadecimal digits, in lower case.
+/// A byte as two hexadecimal digits in lower case.
 #[inline(always)]
 #[tactic(auto, using(crate::proofs::ShownDigits::digit_pair))]
 pub fn byte_digits(byte: u8) -> [u8; 2]
@@ -277,7 +277,7 @@ pub fn byte_digits(byte: u8) -> [u8; 2]
     [DIGIT_PAIRS[pair], DIGIT_PAIRS[pair + 1]]
 }
 
-/// A number of 16 bits in four hexadecimal digits, in lower case.
+/// A number of 16 bits as four hexadecimal digits in lower case.
 #[inline(always)]
 #[tactic(auto, using(crate::proofs::ShownDigits::four_digits))]
 pub fn word_digits(word: u16) -> [u8; 4]

@@ -1,4 +1,4 @@
-//! What the statement of a line says.
+//! Reading the statement of a line.
 
 ghost use Rattle.std.specs.Prelude.{◌≡◌, ℕ, Bool, List, Some, None, IfOk, map, option_map};
 ghost use Rattle.std.specs.Option.{option_copied};
@@ -19,8 +19,9 @@ use crate::parse::parse_expression;
 use crate::shape::Shape;
 use std::alloc::{AllocError, Global};
 
-/// What a line says, if all that follows its first word fits. `front` is the directive at the front
-/// of its statement, and `forms` has those of an instruction there. Errors: memory ran out.
+/// The meaning of a line; none if something after its first word doesn't fit. `front` is the
+/// directive at the front of its statement, and `forms` has the forms of an instruction there.
+/// Fails only if memory runs out.
 pub(crate) fn body_of_shape(
     alloc: Global,
     shape: &Shape,
@@ -39,7 +40,7 @@ pub(crate) fn body_of_shape(
     }
 }
 
-/// What a statement says, after a label if `labelled`.
+/// The meaning of a statement, which follows a label if `labelled`; none if it doesn't fit.
 fn statement_body(
     alloc: Global,
     labelled: bool,
@@ -62,7 +63,7 @@ fn statement_body(
     }
 }
 
-/// The source form of an instruction, and its operands.
+/// The source form of an instruction, and its operands; none if they fit no form.
 fn instruction_body(
     alloc: Global,
     forms: &'static [Form],
@@ -81,7 +82,7 @@ fn instruction_body(
     }
 }
 
-/// What a directive and its operands say.
+/// The meaning of a directive and its operands; none if they don't fit.
 fn directive_body(
     alloc: Global,
     directive: Directive,
@@ -109,7 +110,7 @@ fn directive_body(
     }
 }
 
-/// The bytes of one text.
+/// The bytes of a text, if the tokens are one text.
 fn one_text(alloc: Global, tokens: &[Lexeme]) -> Result<Option<Bytes>, AllocError>
     ensures { IfOk result (λ text. text ≡ one_text tokens.now) }
 {
@@ -119,7 +120,7 @@ fn one_text(alloc: Global, tokens: &[Lexeme]) -> Result<Option<Bytes>, AllocErro
     }
 }
 
-/// One word that isn't reserved.
+/// The name, if the tokens are one word that isn't reserved.
 fn one_name(alloc: Global, tokens: &[Lexeme]) -> Result<Option<Bytes>, AllocError>
     ensures { IfOk result (λ name. name ≡ one_name tokens.now) }
 {
@@ -129,7 +130,7 @@ fn one_name(alloc: Global, tokens: &[Lexeme]) -> Result<Option<Bytes>, AllocErro
     }
 }
 
-/// ON (true) or OFF (false).
+/// True for ON, false for OFF, and none for other tokens.
 fn one_switch(tokens: &[Lexeme]) -> Option<bool>
     ensures { result ≡ one_switch tokens.now }
 {
@@ -140,7 +141,7 @@ fn one_switch(tokens: &[Lexeme]) -> Option<bool>
     }
 }
 
-/// Whether the operands of OPTION are one of its words.
+/// Whether the operands of OPTION are exactly one of its words.
 fn is_known_option(tokens: &[Lexeme]) -> bool
     ensures { result ≡ is_known_option tokens.now }
 {
@@ -156,7 +157,7 @@ fn is_known_option(tokens: &[Lexeme]) -> bool
     }
 }
 
-/// Whether a label may stand before a directive.
+/// Whether a directive can have a label before it.
 pub(crate) fn takes_label(directive: Directive) -> bool
     ensures { result ≡ takes_label directive }
 {
@@ -174,8 +175,8 @@ pub(crate) fn takes_label(directive: Directive) -> bool
     )
 }
 
-/// Whether a statement is outside the profile: INCLUDE, UNDEF, and OPTION without exactly one of
-/// its words.
+/// Whether this assembler lacks the statement: true for INCLUDE, for UNDEF, and for OPTION without
+/// exactly one of its words.
 pub(crate) fn is_outside(front: Option<Directive>, tokens: &[Lexeme]) -> bool
     ensures { result ≡ is_outside front tokens.now }
 {
@@ -187,7 +188,7 @@ pub(crate) fn is_outside(front: Option<Directive>, tokens: &[Lexeme]) -> bool
     }
 }
 
-/// Whether what follows the directive isn't looked at.
+/// Whether the tokens after the directive are ignored: true for USED and XREF.
 pub(crate) fn is_skipped(front: Option<Directive>) -> bool
     ensures { result ≡ is_skipped front }
 {

@@ -10,29 +10,29 @@ ghost use Rattle.chip_lang.specs.inner.Scanned.{with_rest};
 use crate::fault::Fault;
 use std::alloc::{AllocError, Global};
 
-/// What a token is.
+/// The kind of a token.
 #[derive(Clone, Copy, Debug, PartialEq, Eq)]
 pub enum Kind {
-    /// A letter or `_`, and name bytes after it.
+    /// A word: a letter or `_`, and the name bytes after it.
     Word,
     /// A number, 0 to 2147483647.
     Number(i32),
-    /// A text; the token covers its quotes too.
+    /// A text. The token includes its quotes.
     Text,
     /// A sign, by its byte.
     Sign(u8),
-    /// No token, with its fault.
+    /// Not a token, with its fault.
     Bad(Fault),
 }
 
 /// A token of a line: the bytes from `start` up to `end`.
 #[derive(Clone, Copy, PartialEq, Eq)]
 pub struct Token {
-    /// What the token is.
+    /// The kind of the token.
     pub kind: Kind,
-    /// The place of its first byte in the line.
+    /// The index of its first byte in the line.
     pub start: usize,
-    /// The place after its last byte.
+    /// The index after its last byte.
     pub end: usize,
 }
 
@@ -136,7 +136,8 @@ fn is_digit_of(base: u32, byte: u8) -> bool
     }
 }
 
-/// The number that begins with `start` and goes on with these digits.
+/// The number that begins with `start` and goes on with these digits, or a fault if it is above
+/// 2147483647.
 #[tactic(auto, using(std::proofs::lemmas::List::Sums::fold_more))]
 fn number(base: u32, start: u32, digits: &[u8]) -> Kind
     requires low { 0 < base }
@@ -185,7 +186,7 @@ fn digits_of_run(base: u32, run: &[u8]) -> Kind
     }
 }
 
-/// How many name bytes stand at the front.
+/// The number of name bytes at the front.
 #[tactic(auto, using(crate::proofs::Scan::prefix_steps))]
 fn name_length(bytes: &[u8]) -> usize
     ensures within { result ≤ length bytes.now }
@@ -207,7 +208,7 @@ fn name_run(bytes: &[u8]) -> &[u8]
     &bytes[..name_length(bytes)]
 }
 
-/// How many name bytes and full stops stand at the front.
+/// The number of name bytes and full stops at the front.
 #[tactic(auto, using(crate::proofs::Scan::prefix_steps))]
 fn run_length(bytes: &[u8]) -> usize
     ensures { result ≡ prefix_len is_run_byte bytes.now }
@@ -220,7 +221,7 @@ fn run_length(bytes: &[u8]) -> usize
     bytes.len()
 }
 
-/// How many bytes stand before the next quote.
+/// The number of bytes before the next quote; of all bytes if there is none.
 #[tactic(auto, using(crate::proofs::Scan::prefix_steps))]
 fn text_length(quote: u8, bytes: &[u8]) -> usize
     ensures within { result ≤ length bytes.now }
@@ -249,7 +250,8 @@ fn text_at(quote: u8, bytes: &[u8]) -> (Kind, usize)
     }
 }
 
-/// The kind and the length of the token that begins with a byte.
+/// The kind of the token that begins with the byte `first`, and its length in bytes, given the
+/// bytes after it.
 #[inline(always)]
 #[tactic(auto, unfolding(crate::specs::Token::token_at))]
 fn token_at(first: u8, bytes: &[u8]) -> (Kind, usize)
@@ -281,7 +283,7 @@ fn token_at(first: u8, bytes: &[u8]) -> (Kind, usize)
     }
 }
 
-/// The first token that stands at a place or after it; none where only blanks or a comment follow.
+/// The first token that begins at an index or after it; none if only blanks or a comment follow.
 #[inline(always)]
 #[tactic(auto, using(crate::proofs::Scan::token_steps))]
 pub(crate) fn token_from(line: &[u8], from: usize) -> Option<Token>
@@ -310,7 +312,7 @@ pub(crate) fn token_from(line: &[u8], from: usize) -> Option<Token>
     None
 }
 
-/// Room for the tokens of most lines, taken with the first one.
+/// The number of tokens to take room for with the first one, enough for most lines.
 pub(crate) const USUAL_TOKENS: usize = 12;
 
 fn push_token(tokens: &mut Vec<Token>, token: Token) -> Result<(), AllocError>
@@ -323,7 +325,8 @@ fn push_token(tokens: &mut Vec<Token>, token: Token) -> Result<(), AllocError>
     Ok(())
 }
 
-/// The tokens of a line: one list, each token at its place, in rising order.
+/// The tokens of a line in rising order, each with its place. A line has exactly one such list.
+/// Fails only if memory runs out.
 pub fn tokens(alloc: Global, line: &[u8]) -> Result<Vec<Token>, AllocError>
     ensures list { IfOk result (λ tokens. tokens.items ≡ tokens_of line.now) }
     ensures placed { IfOk result (λ tokens. AreTokens line.now 0 tokens.items) }

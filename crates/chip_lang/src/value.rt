@@ -33,7 +33,7 @@ fn value_of_name<N: Names>(names: &N, name: &[u8]) -> Result<i32, Fault>
     names.value(name).ok_or(Fault::UndefinedName)
 }
 
-/// The names of an expression, and a table that has their values.
+/// The names of an expression, and a table with their values.
 #[derive(Drop)]
 struct Meanings<'a, N: Names> {
     words: &'a [ShortBytes],
@@ -41,7 +41,7 @@ struct Meanings<'a, N: Names> {
 }
 
 impl<'a, N: Names> Meanings<'a, N> {
-    /// The value of the name of this number.
+    /// The value of the name with this number, or the fault of a name without a value.
     #[inline(always)]
     fn value(&self, number: usize) -> Result<i32, Fault>
         ensures { result
@@ -54,8 +54,8 @@ impl<'a, N: Names> Meanings<'a, N> {
     }
 }
 
-/// The value of an expression of several tokens: apart from those of one token, so that these stay
-/// small where they are inlined.
+/// The value of an expression of several tokens. A function for these alone keeps the code for
+/// expressions of one token small where it is inlined.
 #[inline(never)]
 fn eval_compound<N: Names>(compound: &Postfix, names: &N) -> Result<i32, Fault>
     ensures { result ≡ value compound.now (N.symbols names.now) }
@@ -65,8 +65,8 @@ fn eval_compound<N: Names>(compound: &Postfix, names: &N) -> Result<i32, Fault>
     eval_items(items, &meanings)
 }
 
-/// The value of the tree that items leave, or its first fault. One turn takes all items of an
-/// expression; a sign with no left side, as no expression has, takes 0 for it.
+/// The value of the tree that the items leave, or its first fault. One turn of the loop takes all
+/// items of an expression. A sign without a left side, which no expression has, takes 0 for it.
 #[inline(always)]
 fn eval_items<N: Names>(items: &[Item], meanings: &Meanings<N>) -> Result<i32, Fault>
     requires whole { popped (stack_of meanings.now.words.now items.now) ≡ [] }
@@ -81,9 +81,10 @@ fn eval_items<N: Names>(items: &[Item], meanings: &Meanings<N>) -> Result<i32, F
     Ok(top)
 }
 
-/// From a left operand and how the right one begins to the sign between them: its value, and the
-/// items after it. Without such a sign, the value of the right operand. Items are taken from the
-/// left, so the first fault is the expression's.
+/// Evaluates the items up to the sign whose left operand is `left`, where the right operand begins
+/// with the value `first`. Returns the value at that sign and the items after it; without such a
+/// sign, returns the value of the right operand. Items are taken from the left, so the first fault
+/// is the fault of the expression.
 fn eval_right<'a, N: Names>(
     left: i32,
     first: i32,
@@ -118,7 +119,7 @@ fn eval_right<'a, N: Names>(
     Ok((right, rest))
 }
 
-/// A table with no names.
+/// A table without names.
 struct NoNames;
 
 #[tactic(auto, using(crate::proofs::Constants::no_value))]
@@ -130,8 +131,8 @@ impl Names for NoNames {
     }
 }
 
-/// The value of an expression that has the same one under all tables of names; none for one with a
-/// name, or with a fault.
+/// The value of an expression that has the same value under all tables of names; none for an
+/// expression with a name or a fault.
 #[tactic(auto, using(crate::proofs::Constants::constants))]
 pub fn constant(expr: &Expr) -> Option<i32>
     ensures value { result ≡ constant (tree_of expr.now) }

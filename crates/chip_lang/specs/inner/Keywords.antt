@@ -1,4 +1,4 @@
--- What a reserved word means that isn't a register (own).
+-- The meaning of a reserved word that isn't a register (chosen by this project).
 use Rattle.std.specs.Prelude.{ℕ, ◌-◌, Bool, true, false, List, [], ◌∷◌, Option, Some, None, map, codes, slice_get}
 use Rattle.std.specs.Option.{unwrap_or}
 use Rattle.chip_lang.specs.declared.directive.Directive.{Directive as Directive_name}
@@ -27,11 +27,11 @@ abbrev pub meaning_in : Option Keyword → Meaning
 meaning_in None = record { directive = None; special = None; forms = []; is_instruction = false }
 meaning_in (Some k) = meaning_of k
 
--- a row of a table of words without where it lies in memory
+-- a row of a table of words as contracts see it, without its place in memory
 abbrev pub row_of : Named → List ℕ × Meaning
 row_of row = (row.0.now, meaning_of row.1)
 
--- what a word means by the tables of the language
+-- the meaning of a word in the tables of the language
 abbrev pub meaning : List ℕ → Meaning
 meaning w =
     record { directive = directive_of w; special = special_of w; forms = forms_of w; is_instruction = is_mnemonic w }
@@ -39,7 +39,7 @@ meaning w =
 abbrev pub row : List ℕ → List ℕ × Meaning
 row w = (w, meaning w)
 
--- the words by their last letters, from A to W
+-- the words, grouped by their last letters from A to W
 abbrev pub words : List (List (List ℕ))
 words =
     (codes "DA" ∷ [])
@@ -60,6 +60,6 @@ words =
     ∷ (codes "EQU" ∷ []) ∷ []
     ∷ (codes "DRW" ∷ codes "LOW" ∷ codes "DW" ∷ []) ∷ []
 
--- the rows at the place of a byte
+-- the rows of the words that end in a byte
 abbrev pub rows_ending_in : ℕ → List (List (List ℕ × Meaning)) → List (List ℕ × Meaning)
 rows_ending_in last groups = unwrap_or (slice_get groups (last - 65)) []

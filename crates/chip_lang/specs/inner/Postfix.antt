@@ -1,4 +1,4 @@
--- Expressions in postfix order: the stack of trees that items leave (own).
+-- Expressions in postfix order: the stack of trees that items leave (chosen by this project).
 use Rattle.std.specs.Prelude.{ℕ, pos, List, [], ◌∷◌, ◌≡◌, ◌<◌, length, slice_index_or, refl}
 use Rattle.std.specs.Coded.{Coded, code_by, coded_list, coded×, coded_ℕ}
 use Rattle.std.specs.List.{All, fold, flat_map}
@@ -8,7 +8,7 @@ use Rattle.chip_lang.specs.declared.postfix.Item.{Item}
 use Rattle.chip_lang.specs.declared.postfix.Item.TheVariants.{Number, Name, Unary, Binary, WithNumber, WithName}
 use Rattle.chip_lang.specs.Expression.{Tree, number, name, unary, binary}
 
--- The tree on top of a stack. Under the last one stand zeros without end, so that each item has its
+-- The tree on top of a stack. Below the last tree there are endless zeros, so each item has its
 -- operands.
 abbrev pub top : List Tree → Tree
 top [] = number (pos 0)
@@ -19,7 +19,7 @@ abbrev pub popped : List Tree → List Tree
 popped [] = []
 popped (t ∷ stack) = stack
 
--- the name of a number, from 0 on; past the last an empty one
+-- the name with a number, counted from 0; an empty name past the last one
 abbrev pub numbered : List (List ℕ) → ℕ → List ℕ
 numbered names k = slice_index_or names k []
 
@@ -34,11 +34,11 @@ pushed names stack (WithNumber sign z) = binary sign (top stack) (number z) ∷ 
 pushed names stack (WithName sign k) =
     binary sign (top stack) (name (numbered names k)) ∷ popped stack
 
--- the stack that items with these names leave
+-- the stack that items leave, under these names
 abbrev pub stack_of : List (List ℕ) → List Item → List Tree
 stack_of names items = fold (pushed names) [] items
 
--- the name in an item
+-- the name in an item, if it has one
 abbrev pub name_of_item : List (List ℕ) → Item → List (List ℕ)
 name_of_item names (Name k) = numbered names k ∷ []
 name_of_item names (WithName sign k) = numbered names k ∷ []
@@ -48,28 +48,28 @@ name_of_item names i = []
 abbrev pub names_of : List (List ℕ) → List Item → List (List ℕ)
 names_of names items = flat_map (name_of_item names) items
 
--- an item has no name, or one of the first so many
+-- an item has no name, or one of the first `count` names
 abbrev pub IsAmongFirst : ℕ → Item → Type 0
 IsAmongFirst count (Name k) = k < count
 IsAmongFirst count (WithName sign k) = k < count
 IsAmongFirst count i = Unit
 
--- the items have the names, each once, from left to right
+-- the items use each of the names once, from left to right
 pub record AreNumbered (names : List (List ℕ)) (items : List Item) : Type 0 where
   pub within : All (IsAmongFirst (length names)) items
   pub all : names_of names items ≡ names
 
--- items that leave one tree have the names, each once, from left to right
+-- the items leave one tree and use each of the names once, from left to right
 pub record IsWhole (names : List (List ℕ)) (items : List Item) : Type 0 where
   pub one : popped (stack_of names items) ≡ []
   pub all : names_of names items ≡ names
 
--- ---- a tree as items, each with the name in it, by which a proof tells two trees apart
+-- ---- a tree as items, each with the name in it; proofs use it to tell two trees apart
 
 abbrev pub pushed_named : List Tree → Item × List ℕ → List Tree
 pushed_named stack (i, n) = pushed (n ∷ []) stack i
 
--- the items of a tree, before others
+-- the items of a tree, put before other items
 abbrev pub items_before : Tree → List (Item × List ℕ) → List (Item × List ℕ)
 items_before (number z) rest = (Number z, []) ∷ rest
 items_before (name n) rest = (Name 0, n) ∷ rest

@@ -1,4 +1,5 @@
--- What a function of the parser answers, without where it lies in memory (own).
+-- The results of the parser's functions as contracts see them, without their places in memory
+-- (chosen by this project).
 use Rattle.std.specs.Prelude.{List, Option, Some, None}
 use Rattle.std.specs.Borrow.{Bor}
 use Rattle.chip_lang.specs.declared.lexeme.Lexeme.{Lexeme}
@@ -6,7 +7,7 @@ use Rattle.chip_lang.specs.declared.expr.Expr.{Expr}
 use Rattle.chip_lang.specs.Tree.{Tree, tree_of}
 use Rattle.chip_lang.specs.computed.Parse.{Parsed}
 
--- an expression, and the tokens after it if it was found
+-- an expression and the tokens after it, if one was found
 abbrev pub seen : Tree → Option (Bor (List Lexeme)) → Parsed
 seen e None = None
 seen e (Some rest) = Some (e, rest.now)

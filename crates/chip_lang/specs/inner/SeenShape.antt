@@ -1,4 +1,5 @@
--- The shape of a line without where its parts lie in memory (own).
+-- The shape of a line as contracts see it, without the places of its parts in memory (chosen by
+-- this project).
 use Rattle.std.specs.Option.{option_copied}
 use Rattle.chip_lang.specs.declared.shape.Shape.{Shape as Line_shape}
 use Rattle.chip_lang.specs.declared.shape.Shape.TheVariants.{Definition, Statement}
