@@ -62,7 +62,7 @@ values-found keys es vs apart a =
         let f = found-key keys name i e in
         ap (λ n. finite.find (slice_cmp nat_cmp) n (valued_in keys vs)) (sym f.1) ∙ find-found keys vs i apart f.0 ∙ value-found keys es vs name i a f
 
--- the value before the edit and that now, at a number
+-- the value before the edit and the value now, at a number
 pub same-at : (keys : List Name) (es : List Entry) (past vs : List (Option ℤ)) (i : ℕ) → AreApart keys → AreDefined keys es vs → i < length keys
     → option_eq int_eq (get_or past i None) (get_or vs i None) ≡ has_same_value (finite.from_entries (valued_in keys past)) (values_of (symbols_in keys es)) (key_at keys i)
 same-at keys es past vs i apart a h =

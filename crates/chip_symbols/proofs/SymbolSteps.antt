@@ -1,4 +1,4 @@
--- The table of symbols, and what stands at the number of a name.
+-- The table of symbols, and the value at the number of a name.
 use Rattle.std.proofs.Common.{◌≡◌, ℕ, ◌+◌, ◌<◌, ◌≤◌, ◌⊎◌, inl, inr, ℤ, pos, Bool, true, false, cond, List, [], ◌∷◌, ◌++◌, All, map, length, take, drop, set, get_or, slice_get, refl, ap, sym, subst, ◌∙◌, arith, Option, Some, None, option_map, is_some, ltb, not, position, suc, zero, length-append, length-set, ◌-◌, IfSome, length-take}
 use Rattle.std.specs.List.{list_any, position_or_len}
 use Rattle.std.specs.Global.{Vec}
@@ -46,7 +46,7 @@ value-own names e none = ap (option_map (λ (s : Symbol). s.value)) (lookup-last
 pub apart-names : (a b : Name) → (a ≡ b → ⊥) → bytes_eq a b ≡ false
 apart-names a b n = false_from_ne_true (bytes_eq a b) (λ e. n ((bytes_eq-Decides a b).0 e))
 
--- whether a name has a symbol is whether it has a value
+-- a name has a symbol if and only if it has a value
 pub valued-given : (names : List (Name × Symbol)) (name : Name) → is_some (value_among names name) ≡ is_some (lookup_name names name)
 valued-given names name = elim (lookup_name names name) as (λ o. is_some (option_map (λ (s : Symbol). s.value) o) ≡ is_some o) [ None ↦ refl | Some s ↦ refl ]
 
@@ -125,7 +125,7 @@ defined-less keys es vs e apart a =
 
 -- a name by its number
 
--- where a key is found by its bytes
+-- a key is found by its bytes
 pub found-key : (keys : List Name) (name : Name) (i : ℕ) → position (bytes_eq name) keys ≡ Some i → (i < length keys) × (key_at keys i ≡ name)
 found-key keys name i h =
     let p = position-Some (bytes_eq name) keys i [] h in
@@ -237,7 +237,7 @@ valued-more (k ∷ ks) [] name e = absurd (omega (arith, e))
 valued-more (k ∷ ks) (None ∷ vs) name e = valued-more ks vs name (omega (arith, e))
 valued-more (k ∷ ks) (Some v ∷ vs) name e = ap (λ es. (k, v) ∷ es) (valued-more ks vs name (omega (arith, e)))
 
--- a key that the set has changes none
+-- a key that the set already has changes no key
 pub same-keys : (keys later : List (Vec ℕ)) (key : Vec ℕ) (new : Bool) → new ≡ false → new ≡ not (list_any (λ (k : Vec ℕ). bytes_eq key.items k.items) keys)
     → later ≡ cond (list_any (λ (k : Vec ℕ). bytes_eq key.items k.items) keys) keys (keys ++ key ∷ []) → later ≡ keys
 same-keys keys later key new sure is then = grind arith
@@ -271,7 +271,7 @@ lookup-next names k e name h at before other =
     ∙ lookup-last (take k names) e name before
     ∙ ap (λ b. cond b (Some e.1) None) other
 
--- what contracts see of the entry at a place
+-- the entry at a place as contracts see it
 pub entry-seen : (keys : List Name) (es : List Entry) (names : List (Name × Symbol)) (k : ℕ) (e : Entry) → symbols_in keys es ≡ names → k < length es → get_or es k e ≡ e
     → (k < length names) × (get_or names k (seen keys e) ≡ seen keys e)
 entry-seen keys es names k e view h at =
@@ -281,14 +281,14 @@ entry-seen keys es names k e view h at =
 abbrev pub no-entry : Entry
 no-entry = record { id = record { number = 0 }; symbol = record { value = pos 0; line = 0 } }
 
--- the same of a table's own entries
+-- the entry at a place of a table's own entries, as contracts see it
 pub entry-listed : (t u : Tables) (es items : List Entry) (k : ℕ) → u ≡ t → items ≡ es → u.symbols ≡ symbols_in u.keys es → k < length items
     → (k < length t.symbols) × (get_or t.symbols k (seen t.keys (get_or items k no-entry)) ≡ seen t.keys (get_or items k no-entry))
 entry-listed t u es items k same listed view h =
     let symbols : symbols_in t.keys items ≡ t.symbols = ap (symbols_in t.keys) listed ∙ sym (subst (λ (v : Tables). v.symbols ≡ symbols_in v.keys es) same view) in
     entry-seen t.keys items t.symbols k (get_or items k no-entry) symbols h (get_or_default items k (get_or items k no-entry) no-entry h)
 
--- none of the symbols before it has its name
+-- none of the symbols before a place has the name of the symbol there
 pub once-listed : (t u : Tables) (es items : List Entry) (vs : List (Option ℤ)) (k : ℕ) → u ≡ t → items ≡ es → u.symbols ≡ symbols_in u.keys es → AreDefined u.keys es vs → k < length items
     → lookup_name (take k t.symbols) (key_at t.keys (get_or items k no-entry).id.number) ≡ None
 once-listed t u es items vs k same listed view a h =
@@ -306,12 +306,12 @@ last-of es e at =
     let inside : length es - 1 < length es = slice_get_within es (length es - 1) e (sym at) in
     sym (take_all (length es - 1 + 1) es (omega arith)) ∙ take_more es (length es - 1) e inside ∙ ap (λ x. take (length es - 1) es ++ x ∷ []) (get_or_from_slice_get es (length es - 1) e e (sym at))
 
--- the first ones stay the first ones
+-- without its last entry, a front is still a front
 pub front-less : (es next whole : List Entry) (e : Entry) → es ≡ next ++ e ∷ [] → IsFront es whole → IsFront next whole
 front-less es next whole e is front =
     sym (take-append_seam next (e ∷ [])) ∙ ap (take (length next)) (sym is ∙ front) ∙ take-take (length next) (length es) whole (omega (arith, ap length is, length-append next (e ∷ [])))
 
--- the one taken back is past a number
+-- the entry that is taken back is of a line past a number
 pub past-next : (number : ℕ) (es next whole : List Entry) (e : Entry) → es ≡ next ++ e ∷ [] → IsFront es whole → number < e.symbol.line → IsPastNext number next whole
 past-next number es next whole e is front high =
     let count : length es ≡ length next + 1 = ap length is ∙ length-append next (e ∷ []) in
@@ -320,8 +320,8 @@ past-next number es next whole e is front high =
     ∙ ap Some (sym (get_or-take (length es) whole (length next) e (omega arith)) ∙ ap (λ xs. get_or xs (length next) e) (sym front ∙ is) ∙ get_or-append_seam next e [] e) in
     subst (λ o. IfSome o (λ (x : Entry). number < x.symbol.line)) (sym at) high
 
--- where they end at a number, and the next one is past it, their symbols are those of the lines up to
--- it
+-- if a front ends at a number and the next entry is past it, the symbols of the front are those of
+-- the lines up to that number
 pub front-early : (number : ℕ) (keys : List Name) (es whole : List Entry) → IsFront es whole → EndsBy number es → IsPastNext number es whole
     → (early later : List (Name × Symbol)) → symbols_in keys whole ≡ early ++ later → AreUpTo number early → AreOver number later → symbols_in keys es ≡ early
 front-early number keys es whole front ends next early later is up over = by (cases_lt (length es) (length early)) (cases_lt (length early) (length es))

@@ -18,7 +18,7 @@ same-value None (Some y) e = cc
 same-value (Some x) None e = cc
 same-value (Some x) (Some y) e = ap Some ((Decides-int_eq x y).0 e)
 
--- where none differ, the values are the same
+-- if none differ, the values are the same
 pub all-same : (now past : List (Option ℤ)) (ds : List Bool) (n : ℕ) → AreCompared now past ds n → n ≡ 0 → past ≡ now
 all-same now past ds n a none = ext_get_or None past now a.long (λ i h. by i (omega (arith, h, a.long)) (is_same_at past now i) refl)
   where
@@ -27,7 +27,7 @@ all-same now past ds n a none = ext_get_or None past now a.long (λ i h. by i (o
     by i h false e =
         absurd (omega (arith, a.counted, none, ap one (a.noted.each i h ∙ ap not e), get_or-le-sum_by one ds i false (omega (arith, h, a.noted.long))))
 
--- a name more, which has no value
+-- one more name, which has no value
 pub compared-more : (now past : List (Option ℤ)) (ds : List Bool) (n : ℕ) → AreCompared now past ds n → AreCompared (now ++ None ∷ []) (past ++ None ∷ []) (ds ++ false ∷ []) n
 compared-more now past ds n a = record {
   long = omega (arith, a.long, length-append now (None ∷ []), length-append past (None ∷ []));
@@ -49,7 +49,7 @@ compared-more now past ds n a = record {
 
 -- the value of a name is written
 
--- how many differ then
+-- the number of values that differ after a write
 pub count-set : (now past : List (Option ℤ)) (ds : List Bool) (n i m : ℕ) (was is : Bool) → AreCompared now past ds n → i < length now → was ≡ get_or ds i was → m ≡ n - one was + one is → m ≡ count_true (set ds i is)
 count-set now past ds n i m was is a h old then =
     let low : i < length ds = omega (arith, h, a.noted.long) in

@@ -1,8 +1,8 @@
--- What the symbols of a source are: a reader believes these files.
+-- The definitions of the symbols of a source, which a reader has to believe.
 --     Names        names, and their values among symbols
---     Tables       what contracts see of a table of symbols
---     inner        what the functions inside say of what they keep; no public clause cites it, and a
---                  reader may skip it
+--     Tables       a table of symbols as contracts see it
+--     inner        definitions for private functions; no public clause cites them, and a reader may
+--                  skip them
 pub mod Names
 pub mod Tables
 pub mod inner

@@ -1,4 +1,4 @@
--- Names, and tables of names (own). A name is a list of bytes in upper case.
+-- Names, and tables of names (chosen by this project). A name is a list of bytes in upper case.
 use Rattle.std.specs.Prelude.{ℕ, ℤ, Bool, false, List, map, Option, Some, None, is_some}
 use Rattle.std.specs.Str.{bytes_eq}
 use Rattle.std.specs.Map.{lookup}
@@ -13,15 +13,15 @@ Name = List ℕ
 abbrev pub lookup_name : List (Name × Symbol) → Name → Option Symbol
 lookup_name names name = lookup (bytes_eq name) names
 
--- the names with their values alone
+-- the names, each with its value alone
 abbrev pub valued : List (Name × Symbol) → List (Name × ℤ)
 valued names = map (λ e. (e.0, e.1.value)) names
 
--- the values of the names
+-- the values of the names, as a map
 unfoldable pub values_of : List (Name × Symbol) → Symbols
 values_of names = finite.from_entries (valued names)
 
--- the name, if there is one, has a value already
+-- true if there is a name and it already has a symbol
 abbrev pub is_redefinition : List (Name × Symbol) → Option Name → Bool
 is_redefinition names None = false
 is_redefinition names (Some name) = is_some (lookup_name names name)

@@ -1,5 +1,5 @@
--- What contracts see of the table of symbols: the names that lines use or define, each under a
--- number that stays, and the symbols, as they are and as they were before the edit (own).
+-- The table of symbols as contracts see it: the names that lines use or define, each with a number
+-- that it keeps, and the symbols now and before the edit (chosen by this project).
 use Rattle.std.specs.FinMap as finite
 use Rattle.std.specs.Prelude.{◌≡◌, ℕ, ◌<◌, ◌≤◌, ℤ, List, [], All, length, map, Bool, false, Option, not, refl, option_map, option_to_list, slice_index_or}
 use Rattle.std.specs.Coded.{Coded, code_by, coded×, coded_list, coded_ℕ, coded_ℤ}
@@ -12,12 +12,12 @@ use Rattle.chip_symbols.specs.declared.table.NameId.{NameId}
 pub record Tables : Type 0 where
   pub keys : List Name
   pub symbols : List (Name × Symbol)
-  -- their values before the edit
+  -- the values of the symbols before the edit
   pub before : Symbols
-  -- how many symbols there is room for
+  -- the number of symbols that there is room for
   pub room : ℕ
 
--- a table is stored as the pairs of its fields, and so is a symbol
+-- a table is stored as the pairs of its fields, and a symbol is too
 abbrev symbol_code : Coded Symbol
 symbol_code =
     code_by (ℤ × ℕ) (coded× coded_ℤ coded_ℕ) (λ s. (s.value, s.line)) (λ p. record { value = p.0; line = p.1 })
@@ -31,11 +31,11 @@ tables_code =
     (λ t. (t.keys, (t.symbols, (t.before, t.room))))
     (λ p. record { keys = p.0; symbols = p.1.0; before = p.1.1.0; room = p.1.1.1 }) (λ _. refl)
 
--- the name of a number; no bytes where there is none
+-- the name with a number; an empty name if there is none
 abbrev pub key_at : List Name → ℕ → Name
 key_at keys number = slice_index_or keys number []
 
--- the names of some numbers
+-- the names with some numbers
 abbrev pub names_at : List Name → List NameId → List Name
 names_at keys numbers = map (λ id. key_at keys id.number) numbers
 
@@ -49,16 +49,16 @@ pub record AreNumbers (keys : List Name) (numbers : List NameId) (names : List N
   pub within : All (λ id. id.number < length keys) numbers
   pub named : names_at keys numbers ≡ names
 
--- names are added after the others
+-- the new names are the old ones, in their order, and perhaps more names after them
 pub record Extends (old new : List Name) : Type 0 where
   pub longer : length old ≤ length new
   pub same : (number : ℕ) → number < length old → key_at new number ≡ key_at old number
 
--- the name of a number, if there is one
+-- the name with a number, if a number is given
 abbrev pub name_of : List Name → Option NameId → Option Name
 name_of keys defines = option_map (λ id. key_at keys id.number) defines
 
--- what the name of a number, if there is one, adds to the symbols
+-- the symbol that a line adds for the name with a number, if a number is given
 abbrev pub symbols_of : List Name → Option NameId → Symbol → List (Name × Symbol)
 symbols_of keys defines symbol =
     option_to_list (option_map (λ name. (name, symbol)) (name_of keys defines))
@@ -67,23 +67,24 @@ symbols_of keys defines symbol =
 abbrev pub value_among : List (Name × Symbol) → Name → Option ℤ
 value_among symbols name = option_map (λ s. s.value) (lookup_name symbols name)
 
--- it is noted of each name whether it has another value, or none, than before
+-- for each name, the list says whether it has another value than before the edit, or has gained or
+-- lost its value
 pub record AreDifferences (t : Tables) (differs : List Bool) : Type 0 where
   pub long : length differs ≡ length t.keys
   pub each : (number : ℕ) → number < length t.keys
       → slice_index_or differs number false
       ≡ not (has_same_value t.before (values_of t.symbols) (key_at t.keys number))
 
--- a change leaves the names and the symbols before the edit
+-- a change keeps the names, the values before the edit, and at least as much room
 pub record KeepsBefore (old new : Tables) : Type 0 where
   pub keys : new.keys ≡ old.keys
   pub before : new.before ≡ old.before
   pub room : old.room ≤ new.room
 
--- all of these symbols stand in lines up to a number
+-- all symbols are of lines up to a number
 abbrev pub AreUpTo : ℕ → List (Name × Symbol) → Type 0
 AreUpTo number symbols = All (λ e. e.1.line ≤ number) symbols
 
--- all of them stand in lines past it
+-- all symbols are of lines past a number
 abbrev pub AreOver : ℕ → List (Name × Symbol) → Type 0
 AreOver number symbols = All (λ e. number < e.1.line) symbols

@@ -1,3 +1,3 @@
--- What the functions inside say of what a table keeps; no public clause cites it, and a reader may skip
--- it.
+-- Definitions for private functions: the contents of a table. No public clause cites them, and a
+-- reader may skip them.
 pub mod Entries

@@ -1,4 +1,4 @@
-//! The symbols of a source: names, each with a number and a value, kept under edits.
+//! The symbols of a source: names, each with a number and a value, kept up to date under edits.
 #![tactic(auto)]
 
 mod name_hasher;

@@ -1,16 +1,16 @@
-//! How names are hashed.
+//! The hasher of names.
 
 use std::hash::{BuildHasher, FoldHasher, Hasher};
 
-/// Hashes names from a seed on. Where the seed is drawn at the start of the program, nobody can
-/// choose names for a source that get into each other's way. No answer depends on it.
+/// Hashes names with a seed. If the seed is drawn at the start of the program, nobody can choose
+/// names for a source that collide. No answer depends on the seed.
 #[derive(Clone, Copy)]
 pub struct NameHasher {
     seeded: FoldHasher,
 }
 
 impl NameHasher {
-    /// The hasher of a seed.
+    /// The hasher with this seed.
     pub fn new(seed: u64) -> NameHasher {
         let mut seeded = FoldHasher::default();
         seeded.write(&seed.to_le_bytes());

@@ -26,21 +26,21 @@ pub struct Symbol {
     pub line: usize,
 }
 
-/// The number of a name, which it keeps as long as there is the table.
+/// The number of a name, which the name keeps as long as the table exists.
 #[derive(Clone, Copy, PartialEq, Eq)]
 pub struct NameId {
-    /// It counts from 0.
+    /// The number, counted from 0.
     pub number: u32,
 }
 
-/// A name that a line gives, with what it means.
+/// A name that a line gives, with its symbol.
 #[derive(Clone, Copy)]
 pub(crate) struct Entry {
     pub(crate) id: NameId,
     pub(crate) symbol: Symbol,
 }
 
-/// Takes back the entries of the lines past a number, and the values of their names.
+/// Removes the entries of the lines past `number`, and the values of their names.
 fn take_back(entries: &mut Vec<Entry>, values: &mut Values, number: usize)
     requires { All (λ e. e.id.number < length values.old.current) entries.old.items }
     ensures defined { (keys : List Name) → AreApart keys
@@ -62,9 +62,9 @@ fn take_back(entries: &mut Vec<Entry>, values: &mut Values, number: usize)
     }
 }
 
-/// The table of symbols. Names are in upper case. Each has a number as soon as a line uses or
-/// defines it, which stays. The symbols stand in line order, and the value of each name at its
-/// number.
+/// The table of symbols. Names are in upper case. A name gets a number as soon as a line uses or
+/// defines it, and keeps that number. The symbols are in line order, and the value of each name is
+/// stored at its number.
 #[derive(Drop)]
 pub struct Table {
     keys: IndexSet<Vec<u8>, NameHasher>,
@@ -98,7 +98,7 @@ impl Model for Table {
 impl Table {
     ghost use Rattle.chip_symbols.specs.declared.table.Symbol.{Symbol};
 
-    /// One without names, which are hashed so.
+    /// A table without names, which hashes names with this hasher.
     pub fn new(alloc: Global, hasher: NameHasher) -> Self
         ensures keys { result.keys ≡ [] }
         ensures symbols { result.symbols ≡ [] }
@@ -111,7 +111,8 @@ impl Table {
         }
     }
 
-    /// The number of a name, which is a new one where the name has none.
+    /// The number of a name, which gets a new one if it has none. Fails only if memory runs out or
+    /// a number needs more than 32 bits.
     pub fn number(&mut self, alloc: Global, name: &[u8]) -> Result<NameId, AllocError>
         ensures keys { Extends self.old.keys self.new.keys }
         ensures symbols { self.new.symbols ≡ self.old.symbols }
@@ -128,7 +129,7 @@ impl Table {
         }
     }
 
-    /// Adds a name that isn't there.
+    /// Adds a name that isn't in the table, and returns its index. Fails only if memory runs out.
     fn add(&mut self, alloc: Global, name: &[u8]) -> Result<usize, AllocError>
         ensures keys { Extends self.old.keys self.new.keys }
         ensures symbols { self.new.symbols ≡ self.old.symbols }
@@ -145,7 +146,7 @@ impl Table {
         Ok(index)
     }
 
-    /// Takes room for the symbols of so many lines more.
+    /// Takes room for the symbols of so many more lines. Fails only if memory runs out.
     fn reserve(&mut self, lines: usize) -> Result<(), AllocError>
         ensures keys { self.new.keys ≡ self.old.keys }
         ensures symbols { self.new.symbols ≡ self.old.symbols }
@@ -155,8 +156,9 @@ impl Table {
         self.entries.reserve(lines)
     }
 
-    /// Begins an edit before which the lines up to a number stay: the symbols are theirs, with room
-    /// for those of so many lines, and the values before the edit are kept apart.
+    /// Begins an edit that leaves the lines up to `number` as they are: keeps the symbols of those
+    /// lines alone, with room for the symbols of `lines` more lines, and remembers the values
+    /// before the edit. Fails only if memory runs out, and then keeps all symbols.
     pub fn begin(&mut self, number: usize, lines: usize) -> Result<(), AllocError>
         ensures room { OnOk result (length self.new.symbols + lines ≤ self.new.room) }
         ensures keys { self.new.keys ≡ self.old.keys }
@@ -172,7 +174,7 @@ impl Table {
         Ok(())
     }
 
-    /// Whether the name of a number has a symbol.
+    /// Whether the name with this number has a symbol.
     pub fn is_defined(&self, id: NameId) -> bool
         requires { id.number < length self.now.keys }
         ensures { result
@@ -181,21 +183,24 @@ impl Table {
         self.values.get(id.number as usize).is_some()
     }
 
-    /// Whether a name may have another value, or none, than before the edit.
+    /// Whether some name may have another value than before the edit, or has gained or lost its
+    /// value.
     pub fn has_differences(&self) -> bool
         ensures { result ≡ false → self.now.before ≡ values_of self.now.symbols }
     {
         self.values.has_differences()
     }
 
-    /// Whether names have other values, or none, than before the edit.
+    /// For the number of each name, whether the name has another value than before the edit, or has
+    /// gained or lost its value.
     pub fn differences(&self) -> &[bool]
         ensures { AreDifferences self.now result.now }
     {
         self.values.noted()
     }
 
-    /// Whether the name of a number has the value, or none, that it had before the edit.
+    /// Whether the name with this number has the same value as before the edit, or had none and has
+    /// none.
     pub fn keeps_value(&self, id: NameId) -> bool
         requires { id.number < length self.now.keys }
         ensures { result
@@ -205,7 +210,8 @@ impl Table {
         !self.values.differ(id.number as usize)
     }
 
-    /// Whether the names of these numbers have the values, or none, that they had before the edit.
+    /// Whether each name with one of these numbers has the same value as before the edit, or had
+    /// none and has none.
     pub fn keep_values(&self, numbers: &[NameId]) -> bool
         requires { All (λ id. id.number < length self.now.keys) numbers.now }
         ensures { result
@@ -218,7 +224,7 @@ impl Table {
         self.keeps_value(*id) && self.keep_values(numbers)
     }
 
-    /// The value and the line of a name in either case.
+    /// The value and the line of a name, which may be in either case; none if it has no symbol.
     pub fn symbol_in_any_case(&self, name: &[u8]) -> Option<Symbol>
         ensures { result ≡ lookup_name self.now.symbols (map upper name.now) }
     {
@@ -230,7 +236,7 @@ impl Table {
         None
     }
 
-    /// The value of a name.
+    /// The value of a name; none if it has no value.
     #[inline(never)]
     fn value_of(&self, name: &[u8]) -> Option<i32>
         ensures { result ≡ value_among self.now.symbols name.now }
@@ -239,7 +245,7 @@ impl Table {
         self.values.get(index)
     }
 
-    /// The name of a number.
+    /// The name with this number.
     #[inline(always)]
     fn name(&self, id: NameId) -> &[u8]
         requires { id.number < length self.now.keys }
@@ -251,7 +257,8 @@ impl Table {
         }
     }
 
-    /// The names in line order, each with its value and line.
+    /// The names with a symbol, in line order, each with its value and line. Fails only if memory
+    /// runs out.
     pub fn symbols(&self, alloc: Global) -> Result<Vec<(Bytes, Symbol)>, AllocError>
         ensures { IfOk result (λ symbols. symbols.items ≡ self.now.symbols) }
     {
@@ -263,14 +270,14 @@ impl Table {
         Ok(symbols)
     }
 
-    /// How many names have a symbol.
+    /// The number of names that have a symbol.
     pub fn symbol_count(&self) -> usize
         ensures { result ≡ length self.now.symbols }
     {
         self.entries.len()
     }
 
-    /// The name at a place in line order, with its value and line.
+    /// The name at an index in line order, with its value and line; none past the last name.
     pub fn symbol_at(&self, place: usize) -> Option<(&[u8], Symbol)>
         ensures { option_map (λ found. (found.0.now, found.1)) result
             ≡ slice_get self.now.symbols place }
@@ -279,19 +286,19 @@ impl Table {
         Some((self.name(entry.id), entry.symbol))
     }
 
-    /// How its names are hashed.
+    /// The hasher of the names.
     pub fn hasher(&self) -> NameHasher {
         self.hasher
     }
 
-    /// How many names have a number.
+    /// The number of names that have a number.
     pub fn count(&self) -> usize
         ensures { result ≡ length self.now.keys }
     {
         self.keys.len()
     }
 
-    /// The same symbols in a table without other names.
+    /// A table with the same symbols and no other names. Fails only if memory runs out.
     pub fn with_symbols_alone(&self, alloc: Global) -> Result<Table, AllocError>
         ensures { IfOk result (λ table. table.symbols ≡ self.now.symbols) }
     {
@@ -304,7 +311,8 @@ impl Table {
         Ok(table)
     }
 
-    /// Adds the symbol of a name, if there is one. False where the name has one already.
+    /// Adds the symbol of a name, if a name is given. Returns false and changes nothing if the name
+    /// already has a symbol.
     #[inline(always)]
     pub fn define_new(&mut self, defines: Option<NameId>, symbol: Symbol) -> bool
         requires within { IfSome defines (λ id. id.number < length self.old.keys) }
@@ -341,7 +349,7 @@ impl Table {
     }
 }
 
-/// Whether a text in either case spells a name.
+/// Whether a text, which may be in either case, spells a name.
 fn is_spelled(text: &[u8], name: &[u8]) -> bool
     ensures { result ≡ bytes_eq (map upper text.now) name.now }
 {
@@ -354,13 +362,13 @@ fn is_spelled(text: &[u8], name: &[u8]) -> bool
     upper(*byte) == *letter && is_spelled(text, name)
 }
 
-/// A table, which is asked for the names of a line, mostly in their order.
+/// A table that looks up the names of a line, mostly in their order.
 #[derive(Drop)]
 pub struct Scope<'a> {
     table: &'a Table,
     /// The numbers of the line's names.
     numbers: &'a [NameId],
-    /// The place among them of the name that is likely to be asked for next.
+    /// The index, among the numbers, of the name that is likely to be looked up next.
     place: Cell<usize>,
 }
 
@@ -375,7 +383,7 @@ impl<'a> Model for Scope<'a> {
 }
 
 impl<'a> Scope<'a> {
-    /// A table, and the numbers of the names of which it is going to be asked, mostly in this order.
+    /// A table, and the numbers of the names that will be looked up in it, mostly in this order.
     pub fn new(table: &'a Table, numbers: &'a [NameId]) -> Self
         ensures { result ≡ table.now }
     {
@@ -386,7 +394,7 @@ impl<'a> Scope<'a> {
         }
     }
 
-    /// The number at a place, where it is that of the name.
+    /// The number at an index, if it is the number of the name.
     #[inline(always)]
     fn number_at(&self, place: usize, name: &[u8]) -> Option<NameId>
         ensures { IfSome result (λ id. IsNumber self.now.keys id name.now) }
@@ -415,7 +423,7 @@ impl<'a> Names for Scope<'a> {
     }
 }
 
-/// A table, which is mostly asked for one name. The value of that name is found beforehand.
+/// A table in which mostly one name is looked up. The value of that name is found beforehand.
 #[derive(Drop)]
 pub struct OneName<'a> {
     table: &'a Table,
@@ -437,7 +445,7 @@ impl<'a> Model for OneName<'a> {
 }
 
 impl<'a> OneName<'a> {
-    /// A table, and the number of the name of which it is mostly going to be asked.
+    /// A table, and the number of the name that will mostly be looked up in it.
     #[inline(always)]
     pub fn new(table: &'a Table, id: NameId) -> Self
         requires { id.number < length table.now.keys }

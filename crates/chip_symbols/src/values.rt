@@ -12,9 +12,9 @@ use std::marker::Model;
 pub(crate) struct Values {
     pub(crate) current: Vec<Option<i32>>,
     pub(crate) past: Vec<Option<i32>>,
-    /// Whether the two values of each name differ.
+    /// For each number, whether its two values differ.
     pub(crate) differs: Vec<bool>,
-    /// How many of these are true.
+    /// The number of true items in `differs`.
     pub(crate) different: usize,
 }
 
@@ -46,7 +46,7 @@ impl Values {
         }
     }
 
-    /// Takes room for one name more.
+    /// Takes room for one more name. Fails only if memory runs out.
     pub(crate) fn reserve(&mut self) -> Result<(), AllocError>
         ensures now { self.new.current ≡ self.old.current }
         ensures past { self.new.past ≡ self.old.past }
@@ -68,7 +68,7 @@ impl Values {
         self.differs.push_reserved(false);
     }
 
-    /// The value of a number.
+    /// The value at a number; none if there is none.
     #[inline(always)]
     pub(crate) fn get(&self, number: usize) -> Option<i32>
         requires { number < length self.now.current }
@@ -77,7 +77,7 @@ impl Values {
         self.current[number]
     }
 
-    /// Puts a value, or none, in the place of that of a number.
+    /// Sets the value at a number, which may be none.
     #[inline(always)]
     pub(crate) fn set(&mut self, number: usize, value: Option<i32>)
         requires { number < length self.old.current }
@@ -91,7 +91,7 @@ impl Values {
         self.different = others + one_of(differs);
     }
 
-    /// The values before the edit are those now.
+    /// Makes the values now the values before the edit.
     pub(crate) fn settle(&mut self)
         ensures now { self.new.current ≡ self.old.current }
         ensures past { self.new.past ≡ self.old.current }
@@ -103,14 +103,14 @@ impl Values {
         }
     }
 
-    /// Whether a number has another value, or none, than before the edit.
+    /// Whether some number has another value than before the edit, or has gained or lost its value.
     pub(crate) fn has_differences(&self) -> bool
         ensures { result ≡ false → self.now.past ≡ self.now.current }
     {
         self.different > 0
     }
 
-    /// Whether the values of a number differ.
+    /// Whether the two values at a number differ.
     pub(crate) fn differ(&self, number: usize) -> bool
         requires { number < length self.now.current }
         ensures { result ≡ not (option_eq int_eq (slice_index_or self.now.past number None)
@@ -119,7 +119,7 @@ impl Values {
         self.differs[number]
     }
 
-    /// Whether the values of each number differ.
+    /// For each number, whether its two values differ.
     pub(crate) fn noted(&self) -> &[bool]
         ensures { AreNoted self.now.current self.now.past result.now }
     {
@@ -127,7 +127,7 @@ impl Values {
     }
 }
 
-/// 1 for what is so.
+/// 1 for true, 0 for false.
 fn one_of(is: bool) -> usize
     ensures { result ≡ (if is then 1 else 0) }
 {

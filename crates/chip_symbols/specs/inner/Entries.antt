@@ -1,5 +1,6 @@
--- What a table of symbols keeps: entries that name by numbers, and the values of each number, now and
--- before the edit (own). No public clause cites it.
+-- The contents of a table of symbols: entries, which refer to names by numbers, and the values of
+-- each number, now and before the edit (chosen by this project). No public clause cites these
+-- definitions.
 use Rattle.std.specs.Prelude.{◌≡◌, ℕ, ◌-◌, ◌<◌, ◌≤◌, ℤ, List, [], ◌∷◌, All, IfSome, length, map, Bool, false, Option, Some, None, not, slice_get, slice_index_or, take, ◌&&◌, if◌then◌else◌, nat_lt, sum_by, vec_capacity, vec_len}
 use Rattle.std.specs.Global.{Vec}
 use Rattle.std.specs.Option.{option_eq}
@@ -9,7 +10,7 @@ use Rattle.chip_symbols.specs.Tables.{key_at, value_among}
 use Rattle.chip_symbols.specs.declared.table.Symbol.{Symbol}
 use Rattle.chip_symbols.specs.declared.table.Entry.{Entry}
 
--- the symbols of entries, which name by numbers
+-- the symbols of entries, which refer to names by numbers
 abbrev pub symbols_in : List Name → List Entry → List (Name × Symbol)
 symbols_in keys entries = map (λ e. (key_at keys e.id.number, e.symbol)) entries
 
@@ -17,7 +18,7 @@ symbols_in keys entries = map (λ e. (key_at keys e.id.number, e.symbol)) entrie
 pub record AreApart (keys : List Name) : Type 0 where
   pub each : (i j : ℕ) → i < length keys → j < length keys → key_at keys i ≡ key_at keys j → i ≡ j
 
--- at the number of each name stands the value that it has by the entries, of which each is the
+-- the value at the number of each name is the value that the entries give it, and each entry is the
 -- first of its name
 pub record AreDefined (keys : List Name) (entries : List Entry) (values : List (Option ℤ)) : Type 0 where
   pub inside : All (λ e. e.id.number < length keys) entries
@@ -28,40 +29,40 @@ pub record AreDefined (keys : List Name) (entries : List Entry) (values : List (
   pub valued : (number : ℕ) → number < length keys
       → slice_index_or values number None ≡ value_among (symbols_in keys entries) (key_at keys number)
 
--- the names that have a value at their number, with it
+-- the names that have a value at their number, each with that value
 abbrev pub valued_in : List Name → List (Option ℤ) → List (Name × ℤ)
 valued_in [] values = []
 valued_in (key ∷ keys) [] = []
 valued_in (key ∷ keys) (None ∷ values) = valued_in keys values
 valued_in (key ∷ keys) (Some value ∷ values) = (key, value) ∷ valued_in keys values
 
--- some entries are the first of others
+-- a list of entries is the front of another list
 abbrev pub IsFront : List Entry → List Entry → Type 0
 IsFront front whole = front ≡ take (length front) whole
 
--- the last one, if there is one, is of a line up to a number
+-- the last entry, if there is one, is of a line up to a number
 abbrev pub EndsBy : ℕ → List Entry → Type 0
 EndsBy number entries =
     IfSome (slice_get entries (length entries - 1)) (λ e. e.symbol.line ≤ number)
 
--- the first of the others that isn't among them, if there is one, is of a line past a number
+-- the first entry of the whole list after that front, if there is one, is of a line past a number
 abbrev pub IsPastNext : ℕ → List Entry → List Entry → Type 0
 IsPastNext number front whole =
     IfSome (slice_get whole (length front)) (λ e. number < e.symbol.line)
 
--- the values of each number
+-- the values at each number, now and before the edit
 pub record ValueLists : Type 0 where
   pub current : List (Option ℤ)
   pub past : List (Option ℤ)
-  -- there is room for one name more
+  -- there is room for one more name
   pub has_room : Bool
 
--- the value of a number is the same in both
+-- true if a number has the same value, or none, in both lists
 abbrev pub is_same_at : (past now : List (Option ℤ)) → ℕ → Bool
 is_same_at past now number =
     option_eq int_eq (slice_index_or past number None) (slice_index_or now number None)
 
--- it is noted of each number whether its values differ
+-- for each number, the list says whether its two values differ
 pub record AreNoted (now past : List (Option ℤ)) (differs : List Bool) : Type 0 where
   pub long : length differs ≡ length now
   pub each : (number : ℕ) → number < length now
