@@ -1,4 +1,5 @@
--- The blocks of the pass, the last one last, against the open blocks, the last one first.
+-- The blocks of the pass, with the last one last, agree with the open blocks, with the last one
+-- first.
 use Rattle.std.proofs.Common.{◌≡◌, ℕ, ◌-◌, ◌<◌, Bool, true, false, not, ◌&&◌, ◌||◌, List, [], ◌∷◌, ◌++◌, map, reverse, length, get_or, set, refl, ap, sym, ◌∙◌, arith, length-append}
 use Rattle.std.specs.List.{list_all, list_any}
 use Rattle.std.proofs.Math.Seq.{get_or-append_seam, set-append_seam}
@@ -32,7 +33,7 @@ not_side Else h k = absurd (h refl)
 not_side Endif h k = absurd (k refl)
 not_side _ h k = refl
 
--- a line that is no ELSE or ENDIF is active where the pass says so
+-- a line other than ELSE and ENDIF is active if the pass says so
 pub active_here : (pass : Pass) (before : List Placed) (body : Body) → is_side_or_end body ≡ false → Follows pass before → pass.active ≡ is_active before body
 unfolding is_active
 active_here pass before body s f =

@@ -104,13 +104,13 @@ long-is t h = grind (arith, nat_tests)
 pub short-is : (t : List ℕ) → length t ≤ LINE_BYTES → is_long t ≡ false
 short-is t h = grind (arith, nat_tests)
 
--- a text at the front of what is left of some bytes is a part of them
+-- a text at the front of the end of some bytes is a part of them
 pub part-of : (text rest bytes : List ℕ) → StartsWith rest text → IsBack rest bytes → text ≡ part_from bytes (length bytes - length rest) (length text)
 part-of text rest bytes f b =
     let count : length bytes - length rest + length text - (length bytes - length rest) ≡ length text = omega arith in
     sym f ∙ ap (take (length text)) b.is ∙ (rw count refl)
 
--- what is left of what is left
+-- the end of an end of some bytes is an end of them
 pub back-back : (less rest bytes : List ℕ) → IsBack less rest → IsBack rest bytes → IsBack less bytes
 back-back less rest bytes l b =
     let count : length bytes - length rest + (length rest - length less) ≡ length bytes - length less = omega (arith, l.within, b.within) in record {

@@ -1,4 +1,4 @@
--- What is kept of lines stays right when names are added.
+-- The facts kept of lines stay right when names are added.
 use Rattle.std.proofs.Common.{◌≡◌, ℕ, ◌+◌, ◌<◌, ◌≤◌, All, List, [], ◌∷◌, ◌++◌, ◌∙◌, ap, sym, subst, refl, arith, get_or, length, length-append, set, slice_get, take, Option, Some, None, ◌⊎◌, inl, inr}
 use Rattle.std.specs.Option.{option_map}
 use Rattle.std.proofs.Math.Seq.{map-set_same}
@@ -101,7 +101,7 @@ infos-of-more old new infos made lines k line e are inside at is = (long, each)
 pub infos-of-all : (keys : List Name) (infos : List Numbered) (lines : List KeptLine) (k : ℕ) → length lines ≤ k → AreInfosOf keys infos (readings_in (take k lines)) → AreInfosOf keys infos (readings_in lines)
 infos-of-all keys infos lines k past are = subst (λ (ls : List KeptLine). AreInfosOf keys infos (readings_in ls)) (take_all k lines past) are
 
--- the first lines have their other numbers, and those of the other lines wait
+-- the first lines have their other numbers, and the remaining lines wait for theirs
 pub record ArePut (lines before : List KeptLine) (infos was : List Numbered) (k : ℕ) : Type 0 where
   pub texts : texts_in lines ≡ texts_in before
   pub readings : readings_in lines ≡ readings_in before

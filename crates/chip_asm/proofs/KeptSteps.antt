@@ -1,4 +1,4 @@
--- What is kept of a source as a whole, before and after an edit.
+-- All that is kept of a source, before and after an edit.
 use Rattle.std.proofs.Common.{◌≡◌, ℕ, zero, suc, ◌+◌, ◌<◌, ◌≤◌, List, [], ◌∷◌, ◌++◌, reverse, length, take, drop, set, get_or, fold, refl, ap, sym, subst, ◌∙◌, arith, append_assoc, ◌-◌, Bool, true, false, cond, ◌&&◌, map, find, Option, Some, None, replicate, sum_by, length-append, vec_len, slice_get, inl, inr, vec_capacity, All, length-set, eq-eqb, insert, remove}
 use Rattle.std.proofs.lemmas.List.{length-reverse, length-take, set-get_or, reverse-append, get_or_append_left, get_or-append_right, get_or_past, get_or-replicate, length-replicate, take_all, length-map, take-map, get_or-set_same, map-set, get_or_default, get_or-set_other, drop-map, map-append}
 use Rattle.std.proofs.Math.Seq.{get_or-append_seam, map-set_same, set-append_seam}
@@ -43,9 +43,9 @@ use Rattle.chip_asm.specs.declared.edit.Edit.TheVariants.{Insert, Replace, Delet
 use Rattle.chip_asm.proofs.Views.{needs-view, one-needed}
 use Rattle.std.specs.Prelude.{min}
 
--- The lines of a source, where one of them is put in the place of one that is alike.
+-- The lines of a source in which one line is replaced by one that is alike.
 
--- each of these stands at an address or past it
+-- each of the lines has this address or a greater one
 abbrev pub AreAbove : ℕ → List Placed → Type 0
 AreAbove low ps = All (λ p. low ≤ p.here) ps
 
@@ -128,7 +128,7 @@ swapped lines at old new inside is_old alike =
       alike = e;
     }
 
--- What a line in the place of one that is alike changes: its bytes.
+-- Replacing a line by one that is alike changes only its bytes.
 
 pub names-swapped : (lines : List Reading) (at : ℕ) (new : Reading) → Swapped lines at new → names_of_lines (set lines at new) ≡ names_of_lines lines
 names-swapped lines at new s = ap symbols s.now ∙ sym s.same.names ∙ ap symbols (sym s.was)
@@ -144,7 +144,7 @@ final-same xs ys p s = rw (s.ended, s.open_ifs) refl
 final-swapped : (xs ys : List Placed) (x : Placed) (new : Reading) → Quiet x → Quiet (with_line x new) → final_placement xs x ≡ final_placement ys (with_line x new)
 final-swapped xs ys x new a b = rw (a.no_if, b.no_if) refl
 
--- the line comes in the place of the other one
+-- the line replaces the other one
 pub line-swapped : (lines : List Reading) (at : ℕ) (new : Reading) (s : Swapped lines at new) → reverse (placed (set lines at new)) ≡ set (reverse (placed lines)) at (with_line s.x new)
 line-swapped lines at new s =
     let count : length (reverse s.before) ≡ at = length-reverse s.before ∙ s.count in
@@ -194,7 +194,7 @@ byte_in all at p = get_or (bytes_in_code (code_under all p)) (at - p.here) 0
 byte-same : (xs ys : List Placed) (at : ℕ) (p : Placed) → Same xs ys → byte_in xs at p ≡ byte_in ys at p
 byte-same xs ys at p s = rw s.names refl
 
--- its own bytes where it stands, and elsewhere the bytes that stood there
+-- the line's own bytes at its place, and elsewhere the bytes that were there
 pub byte-swapped : (lines : List Reading) (at : ℕ) (new : Reading) (s : Swapped lines at new) (address : ℕ)
     → byte_at (placed (set lines at new)) address ≡ cond (covers address s.x) (byte_in (placed (set lines at new)) address (with_line s.x new)) (byte_at (placed lines) address)
 unfolding byte_at
@@ -216,7 +216,7 @@ byte-swapped lines at new s address = by (covers address s.x) refl
         (λ p. byte-same (s.later ++ s.x ∷ s.before) (s.later ++ with_line s.x new ∷ s.before) address p s.same) (covers address) s.later s.before s.x (with_line s.x new) e e
         ∙ ap (λ ps. byte_at ps address) (sym s.was)
 
--- what was made for these lines is right for them
+-- the result made for these lines is right for them
 pub kept-by : (kept : Kept) (lines : List KeptLine) → kept.lines.items ≡ lines → length lines ≤ MOST_LINES → readings_in lines ≡ map reading_of (texts_in lines) → AreInfos kept.names.keys lines
     → kept.names.symbols ≡ names_of_lines (readings_in lines) → IsLayoutOf kept.layout (readings_in lines) → IsImageOf kept.image.items (readings_in lines)
     → AreSteady lines kept.settled → IsKept kept
@@ -230,11 +230,11 @@ kept-by kept lines e few are_read infos symbols laid_out image settled = record 
   settled = rw e settled;
 }
 
--- of no first lines nothing has to hold
+-- if there are no first lines, nothing has to hold of them
 none-settled : (lines : List KeptLine) → AreSteady lines 0
 none-settled lines = λ place other h. absurd (omega arith)
 
--- what is kept stays right where names are added
+-- all that is kept stays right if names are added
 pub kept-same : (old new : Kept) → IsKept old → new.lines.items ≡ old.lines.items → new.layout ≡ old.layout → new.image ≡ old.image → new.settled ≡ old.settled
     → Extends old.names.keys new.names.keys → new.names.symbols ≡ old.names.symbols → IsKept new
 kept-same old new k lines layout image settled keys symbols =
@@ -249,25 +249,25 @@ no-image : IsImageOf [] []
 unfolding placed byte_at
 no-image = record { imaged = λ k h. refl; short = omega arith; long = λ h. absurd (omega arith) }
 
--- of no lines all is right
+-- for a source without lines, all is right
 pub kept-none : (kept : Kept) → kept.lines.items ≡ [] → kept.names.symbols ≡ [] → IsLayoutOf kept.layout [] → kept.image.items ≡ [] → kept.settled ≡ 0 → IsKept kept
 kept-none kept none symbols laid_out image settled =
     kept-by kept [] none (omega arith) refl (All-nil (λ (k : KeptLine). IsInfo kept.names.keys k.info k.several (reading_in k))) (symbols ∙ sym no-names) laid_out (rw image no-image)
     (rw settled (none-settled []))
 
--- what is kept stays right under another numbering of the names
+-- all that is kept stays right under another numbering of the names
 pub kept-renumbered : (old new : Kept) (lines : List KeptLine) → IsKept old → new.lines.items ≡ lines → texts_in lines ≡ texts_in old.lines.items → readings_in lines ≡ readings_in old.lines.items → length lines ≡ length old.lines.items
     → AreInfos new.names.keys lines → new.names.symbols ≡ old.names.symbols → new.layout ≡ old.layout → new.image ≡ old.image → new.settled ≡ 0 → IsKept new
 kept-renumbered old new lines k e texts readings long infos symbols layout image settled =
     kept-by new lines e (omega (arith, k.few, long)) (readings ∙ k.are_read ∙ ap (map reading_of) (sym texts)) infos (symbols ∙ k.symbols ∙ ap names_of_lines (sym readings)) (rw (layout, readings) k.laid_out) (rw (image, readings) k.image)
     (rw settled (none-settled lines))
 
--- What is kept stays right where room is taken for an edit: its image gets its whole length.
+-- All that is kept stays right if room is taken for an edit: the image gets its whole length.
 
 padded : (old new : List ℕ) (n k : ℕ) → new ≡ old ++ replicate n 0 → get_or new k 0 ≡ get_or old k 0
 padded old new n k is = grind (arith, get_or_append_left, get_or-append_right, get_or_past, get_or-replicate, length-replicate, length-append, cases_lt k (length old), cases_lt k (length old + n))
 
--- zeros behind the bytes change none of them
+-- zeros after the bytes change none of them
 filled-byte : (old new : List ℕ) (k : ℕ) → length old ≤ IMAGE_BYTES → new ≡ take IMAGE_BYTES old ++ replicate (IMAGE_BYTES - length old) 0 → get_or new k 0 ≡ get_or old k 0
 filled-byte old new k short is =
     let all : take IMAGE_BYTES old ≡ old = take_all IMAGE_BYTES old short in
@@ -283,7 +283,7 @@ filled old new lines i full is =
       long = λ some. sym new.ok.0 ∙ full;
     }
 
--- what stands elsewhere in memory is the same
+-- all is right for a kept source with the same contents elsewhere in memory
 pub kept-moved : (old new : Kept) → IsKept old → new.lines.items ≡ old.lines.items → new.layout.placements.items ≡ old.layout.placements.items → new.names ≡ old.names → new.layout.end ≡ old.layout.end
     → new.layout.faults ≡ old.layout.faults → new.settled ≡ old.settled → IsImageOf new.image.items (lines_kept old) → IsKept new
 kept-moved old new k lines placements names end faults settled image =
@@ -297,12 +297,12 @@ kept-moved old new k lines placements names end faults settled image =
     image
     (rw settled k.settled)
 
--- What is kept is right after an edit, for which no more lines are encoded than it needs.
+-- After an edit, all that is kept is right, and no more lines were encoded than the edit needs.
 
 pub within-lines : (kept : Kept) (edit : Edit) → MayEdit kept edit → IsPlaceWithin (length kept.lines.items) edit
 within-lines kept edit m = subst (λ n. IsPlaceWithin n edit) kept.lines.ok.0 m.within
 
--- What holds of each kept line holds after an edit, if it holds of the lines that come.
+-- A property of each kept line still holds after an edit if it holds of the lines that are added.
 
 all-after : (P : KeptLine → Type 0) (lines : List KeptLine) (edit : Edit) → All P lines → AllAdded P edit → All P (lines_after lines edit)
 all-after P lines (Insert at line) all one = All-append P (take at lines) (line ∷ drop at lines) (All-take P at lines all) (All-cons P line (drop at lines) one (All-drop P at lines all))
@@ -324,9 +324,9 @@ read-after lines edit e one = read-all (lines_after lines edit) (all-after IsRea
 pub texts-set : (lines : List KeptLine) (at : ℕ) (kept : KeptLine) → texts_in (set lines at kept) ≡ set (texts_in lines) at kept.text
 texts-set lines at kept = map-set (λ (k : KeptLine). k.text) lines at kept
 
--- What an edit leaves.
+-- The lines that an edit leaves.
 
--- a line that comes or goes, by what is read of each
+-- a line that is added or removed, by the readings of the lines
 map-insert : {X Y : Type 0} (f : X → Y) (xs : List X) (i : ℕ) (y : X) → map f (insert xs i y) ≡ insert (map f xs) i (f y)
 map-insert f xs i y = map-append f (take i xs) (y ∷ drop i xs) ∙ (λ j. sym (take-map f i xs) j ++ f y ∷ sym (drop-map f i xs) j)
 
@@ -348,7 +348,7 @@ all-are-read kept edit m = read-after kept.lines.items edit m.kept.are_read m.ar
 infos-edited : (kept : Kept) (edit : Edit) → MayEdit kept edit → AreInfos kept.names.keys (lines_after kept.lines.items edit)
 infos-edited kept edit m = all-after (λ (line : KeptLine). IsInfo kept.names.keys line.info line.several (reading_in line)) kept.lines.items edit m.kept.infos m.infos
 
--- what an edit makes encode, seen of the texts
+-- the lines that are encoded because of an edit, seen from the texts
 pub needs-edited : (kept : Kept) (edit : Edit) → MayEdit kept edit → needs_count (lines_kept kept) (lines_then kept edit) (place_before edit) ≡ needed_by kept edit
 needs-edited kept edit m =
     needs-view (lines_kept kept) (lines_then kept edit) (texts_kept kept) (texts_after (texts_kept kept) edit) (place_before edit) m.kept.are_read
@@ -383,7 +383,7 @@ accepted-code layout image lines n q line laid bytes a accepted there is = recor
     code : code_under (placed lines) a.x ≡ code_with (names_of_lines lines) line
     code = ap (code_with (names_of_lines lines)) (same_Some a.x.line line (sym a.line ∙ is))
 
--- the edit is made, and the passes begin behind these first lines
+-- the edit is made, and the passes begin after these first lines
 pub record IsMade (old new : Kept) (edit : Edit) (first here : ℕ) : Type 0 where
   pub may : MayEdit old edit
   pub begun : Begun old.lines.items edit first
@@ -401,7 +401,7 @@ pub record IsMade (old new : Kept) (edit : Edit) (first here : ℕ) : Type 0 whe
   pub names_room : length new.names.symbols + count_after (length old.lines.items) edit ≤ new.names.room
   pub blocks_room : count_after (length old.lines.items) edit ≤ vec_capacity new.blocks
 
--- what was kept of each line
+-- the items kept of each line
 
 pub placed-many : (kept : Kept) → IsKept kept → length kept.layout.placements.items ≡ length kept.lines.items
 placed-many kept k = length-laid kept.layout (lines_kept kept) k.laid_out ∙ length-map kept.lines.items reading_in
@@ -409,7 +409,7 @@ placed-many kept k = length-laid kept.layout (lines_kept kept) k.laid_out ∙ le
 read-edited : (old : Kept) (edit : Edit) → MayEdit old edit → Edited (lines_kept old) (lines_then old edit) edit (λ y. Unit {0})
 read-edited old edit m = edited-map reading_in old.lines.items (lines_after old.lines.items edit) edit (λ y. Unit {0}) (edited-lines old.lines.items edit (within-lines old edit m))
 
--- what is known of a line behind the first ones
+-- the facts about a line after the first ones
 slot : (old new : Kept) (edit : Edit) (first here : ℕ) → IsMade old new edit first here → (j : ℕ) (line : Reading) (q : Placement) → slice_get (lines_then old edit) j ≡ Some line
     → slice_get new.layout.placements.items j ≡ Some q → IsSlot (change_of old edit) new.image.items j line q
 slot old new edit first here m j line q line_at q_at = by (place_before edit j) refl
@@ -434,9 +434,9 @@ slot old new edit first here m j line q line_at q_at = by (place_before edit j) 
               ((read-edited old edit m.may).stood j b origin ∙ line_at);
         }
 
--- what is known of one of the first lines
+-- the facts about one of the first lines
 
--- it is placed as before
+-- the line is placed as before
 placed-first : (old : Kept) (edit : Edit) (first n : ℕ) → Begun old.lines.items edit first → n < first → slice_get (reverse (placed (lines_kept old))) n ≡ slice_get (reverse (placed (lines_then old edit))) n
 placed-first old edit first n b below = same-placed (lines_kept old) (lines_then old edit) first n b.same b.long (omega (arith, b.within, length-map (lines_after old.lines.items edit) reading_in)) below
 
@@ -455,7 +455,7 @@ first-held old new edit first here m j x q below at q_at = λ effect.
     inr (subst (λ (f : Found). HasCode (code_with (names_of_lines was) x.line) f.here f.size q.status new.image.items) same
     (accepted-code old.layout new.image.items was j q x.line m.may.kept.laid_out m.image a (ap is_accepted_found same ∙ effect) q_old line))
 
--- the bytes that none of them covers
+-- the bytes that none of the first lines covers
 
 first-below : (lines : List Reading) (first n : ℕ) (q : Found) → first ≤ n → AtPlace lines n q → address (placed (take first lines)) ≤ q.here
 first-below lines first n q h a =
@@ -528,7 +528,7 @@ readings-set lines at added = map-set reading_in lines at added
 pub has-room : (count number : ℕ) (text : List ℕ) → insert_refusal count number text ≡ None → count < MOST_LINES
 has-room count number text h = grind (arith, nat_tests)
 
--- What is kept stays right where a line is put in the place of one that is alike.
+-- All that is kept stays right if a line is replaced by one that is alike.
 
 -- the line at the place, before and after
 pub record Exchange (lines : List Reading) (at : ℕ) (new : Reading) (q : Placement) : Type 0 where
@@ -552,11 +552,11 @@ exchange-kept kept at added q k within is alike =
       inside = inside;
     }
 
--- it is the new line
+-- the line at the place is the new line
 pub line-new : (lines : List Reading) (at : ℕ) (new : Reading) (q : Placement) (e : Exchange lines at new q) → e.now.x.line ≡ new
 line-new lines at new q e = sym (get_or_from_slice_get (set lines at new) at e.now.x.line new e.now.line) ∙ get_or-set_same lines at new new e.inside
 
--- its code is that of what is kept of it
+-- the code of the line is the code of the kept line
 code-swapped : (kept : Kept) (at : ℕ) (added : KeptLine) (q : Placement) → IsKept kept → (e : Exchange (readings_in kept.lines.items) at (reading_in added) q)
     → code_kept kept.names added ≡ code_under (placed (set (readings_in kept.lines.items) at (reading_in added))) e.now.x
 code-swapped kept at added q k e =
@@ -564,7 +564,7 @@ code-swapped kept at added q k e =
     ap (code_with kept.names.symbols) (sym (line-new lines at (reading_in added) q e))
     ∙ ap (λ names. code_with names e.now.x.line) (k.symbols ∙ sym (names-swapped lines at (reading_in added) e.swap))
 
--- where it doesn't stand the bytes are as they were
+-- outside the line's place, the bytes are as they were
 byte-apart : (lines : List Reading) (at : ℕ) (new : Reading) (q : Placement) (e : Exchange lines at new q) (k : ℕ) → covers_byte q k ≡ false → right_byte (set lines at new) k ≡ right_byte lines k
 byte-apart lines at new q e k apart =
     let x : e.was.x ≡ e.swap.x = sym (get_or_from_slice_get _ at e.was.x e.was.x e.was.at) ∙ line-was lines at new e.swap e.was.x in
@@ -573,7 +573,8 @@ byte-apart lines at new q e k apart =
     byte-swapped lines at new e.swap (IMAGE_START + k)
     ∙ ap (λ b. cond b (byte_in (placed (set lines at new)) (IMAGE_START + k) (with_line e.swap.x new)) (right_byte lines k)) ((rw (← here, ← size) refl) ∙ apart)
 
--- its bytes are written, the status of an accepted line says what became of its code, and nothing else changed
+-- the bytes of the line are written, the status of an accepted line has the fault of its code, and
+-- nothing else has changed
 pub record IsNoted (old now : Kept) (at : ℕ) (added : KeptLine) (q made : Placement) : Type 0 where
   pub rest : record now { image = old.image; layout = record old.layout { end = now.layout.end } } ≡ old
   pub written : IsWritten q (kept_bytes old.names added q) old.image.items now.image.items
@@ -658,7 +659,7 @@ kept-swapped old now new at added q made k n lines settled names layout image re
     (rw (image, all) (image-swapped old now at added q made k e n))
     (settled-swapped old.lines.items old.settled new.settled at added (settled ∙ ap (λ (k : Kept). min k.settled at) n.rest) k.settled)
 
--- one line that is encoded is needed
+-- if the line is encoded, it has to be encoded
 pub encoded-kept : (kept : Kept) (at : ℕ) (added : KeptLine) (q : Placement) (old new : ℕ) → Exchange (readings_in kept.lines.items) at (reading_in added) q
     → new ≤ old + cond (is_coded added q) 1 0 → new ≤ old + needs_count (readings_in kept.lines.items) (set (readings_in kept.lines.items) at (reading_in added)) (before_replace at)
 encoded-kept kept at added q old new e h = by (is_accepted q.status) (has_code (body_of (reading_in added))) refl h

@@ -1,4 +1,4 @@
--- The value that a line had before an edit, where its names keep their values.
+-- The value that a line had before an edit, if its names keep their values.
 use Rattle.std.proofs.Common.{◌≡◌, ℕ, ◌<◌, ℤ, Bool, true, false, cond, ◌&&◌, is_none, if◌then◌else◌, List, [], ◌∷◌, ◌++◌, reverse, length, take, slice_get, refl, ap, sym, ◌∙◌, arith, Option, Some, None, option_map, Ok}
 use Rattle.std.specs.List.{list_all}
 use Rattle.std.specs.Str.{bytes_eq}
@@ -52,7 +52,7 @@ value-before lines n line q at is accepted =
     ∙ ap (final_placement (placed lines)) (next-placed lines n line d inside (get_or_from_slice_get lines n line line at)) in
     accepted-value (placed lines) before line (ap is_accepted_found (sym found) ∙ accepted) ∙ ap (λ (r : Found). Ok r.value) (sym found)
 
--- it keeps it when names are added
+-- an accepted line keeps its value when names are added
 
 found-first : (names later : List (Name × Symbol)) (name : Name) (s : Symbol) → lookup_name names name ≡ Some s → lookup_name (names ++ later) name ≡ Some s
 found-first [] later name s h = cc
@@ -78,7 +78,7 @@ still keeps names later (org e) v h = keeps e (values_of names) (values_of (name
 still keeps names later (ds e) v h = keeps e (values_of names) (values_of (names ++ later)) v (more-names names later) h
 still keeps names later body v h = h
 
--- and where they keep their values
+-- an accepted line keeps its value if its names keep their values
 
 still-read : SameValue → (old new : List (Name × Symbol)) (line : Reading) → agree_on (values_of old) (values_of new) line ≡ true → value_at old (body_of line) ≡ value_at new (body_of line)
 unfolding value_at

@@ -1,4 +1,5 @@
--- A list before an edit and after it, place by place: what stood before, and the first part, which stays.
+-- A list before and after an edit, place by place: the items that were there before, and the first
+-- part, which stays.
 use Rattle.std.proofs.Common.{◌≡◌, insert, remove, set, ℕ, ◌-◌, ◌+◌, ◌<◌, ◌≤◌, List, ◌++◌, length, map, take, get_or, slice_get, refl, ap, sym, subst, ◌∙◌, arith, None, Some, option_map, length-set}
 use Rattle.std.proofs.lemmas.Bool.Decides.{nat_tests}
 use Rattle.std.proofs.lemmas.Grind.{get_or-set_at}
@@ -11,7 +12,7 @@ use Rattle.chip_asm.specs.declared.edit.Edit.{Edit}
 use Rattle.chip_asm.specs.declared.edit.Edit.TheVariants.{Insert, Replace, Delete, Open}
 use Rattle.chip_asm.specs.inner.Records.{reading_in, readings_in, IsPlaceWithin, items_after, lines_after, count_after, place_before, first_changed}
 
--- two lists that begin alike begin alike for less of them
+-- two lists with the same front also have the same shorter fronts
 pub shorter : {X : Type 0} (n m : ℕ) (xs ys : List X) → n ≤ m → take m xs ≡ take m ys → take n xs ≡ take n ys
 shorter n m xs ys h e = sym (take-take n m xs h) ∙ ap (take n) e ∙ take-take n m ys h
 
@@ -25,7 +26,7 @@ line-at xs n kept e = slice_get-map reading_in xs n ∙ ap (option_map reading_i
 pub read-at : (xs : List KeptLine) (n : ℕ) (kept : KeptLine) (line : Reading) → slice_get xs n ≡ Some kept → slice_get (readings_in xs) n ≡ Some line → reading_in kept ≡ line
 read-at xs n kept line e at = let both : Some (reading_in kept) ≡ Some line = sym (line-at xs n kept e) ∙ at in cc
 
--- a list before an edit and after it, where this is known of what is new in it
+-- a list before and after an edit, with a property of each new item
 pub record Edited {X : Type 0} (xs ys : List X) (edit : Edit) (IsNew : X → Type 0) : Type 0 where
   pub many : length ys ≡ count_after (length xs) edit
   pub front : take (first_changed edit) xs ≡ take (first_changed edit) ys
@@ -64,7 +65,7 @@ removed xs at IsNew h = record {
   fresh = λ n y o e. absurd (grind (arith, nat_tests));
 }
 
--- what is kept of each line
+-- the items kept of each line
 pub edited-items : {X : Type 0} (xs ys : List X) (edit : Edit) (new : X) (count : ℕ) → length xs ≡ count → IsPlaceWithin count edit → ys ≡ items_after xs edit new → Edited xs ys edit (λ y. y ≡ new)
 edited-items {X} xs ys edit new count many within is =
     subst (λ zs. Edited xs zs edit (λ y. y ≡ new)) (sym is) (by edit (subst (λ n. IsPlaceWithin n edit) (sym many) within))
@@ -75,14 +76,14 @@ edited-items {X} xs ys edit new count many within is =
     by (Delete at) h = removed xs at (λ (y : X). y ≡ new) h
     by (Open all) h = record { many = length-replicate (length all.items) new; front = refl; stood = λ n b o. cc; fresh = λ n y o e. grind (arith, gets, get_or-replicate, length-replicate) }
 
--- the lines themselves
+-- the lines themselves, before and after an edit
 pub edited-lines : (lines : List KeptLine) (edit : Edit) → IsPlaceWithin (length lines) edit → Edited lines (lines_after lines edit) edit (λ y. Unit {0})
 edited-lines lines (Insert at line) h = inserted lines at line line (λ y. Unit {0}) tt h
 edited-lines lines (Replace at line) h = replaced lines at line line (λ y. Unit {0}) tt h
 edited-lines lines (Delete at) h = removed lines at (λ y. Unit {0}) h
 edited-lines lines (Open all) h = record { many = refl; front = refl; stood = λ n b o. cc; fresh = λ n y o e. tt }
 
--- and their readings
+-- the readings of the lines
 pub edited-map : {X Y : Type 0} (f : X → Y) (xs ys : List X) (edit : Edit) (IsNew : X → Type 0) → Edited xs ys edit IsNew → Edited (map f xs) (map f ys) edit (λ y. Unit {0})
 edited-map f xs ys edit IsNew e = record {
   many = length-map ys f ∙ e.many ∙ ap (λ n. count_after n edit) (sym (length-map xs f));
@@ -91,7 +92,7 @@ edited-map f xs ys edit IsNew e = record {
   fresh = λ n y o e. tt;
 }
 
--- the first part is within both
+-- the first part is within both lists
 pub first-within : (count : ℕ) (edit : Edit) → IsPlaceWithin count edit → (first_changed edit ≤ count) × (first_changed edit ≤ count_after count edit)
 first-within count (Insert at line) h = (h, omega arith)
 first-within count (Replace at line) h = (omega arith, omega arith)

@@ -1,4 +1,4 @@
--- Lines by their places: where each stands, what is noted of it, and its bytes in the image.
+-- Lines by their places: the address of each line, its status, and its bytes in the image.
 use Rattle.std.proofs.Common.{◌≡◌, ℕ, ◌+◌, ◌-◌, ◌*◌, ◌<◌, ◌≤◌, ◌⊎◌, inl, inr, Bool, true, false, cond, ◌&&◌, ltb, leb, List, [], ◌∷◌, ◌++◌, length, take, drop, get_or, refl, replicate, ap, sym, ◌∙◌, arith, Result, Ok, Err, ℤ, length-append, zero, suc, reverse, slice_get, find, filter, subst, Option, Some, None, is_none, is_some, option_map, not, ◌||◌, map, le-leb, if◌then◌else◌, set, sum_by, count_by}
 use Rattle.std.proofs.lemmas.Bool.{and_parts, cases_lt, cond_both, false_from_ne_true, false≢true, true_from_ne_false, lt-ltb, cases_eq}
 use Rattle.std.proofs.lemmas.List.{drop-drop, get_or-append_right, get_or_append_left, get_or-drop, get_or-replicate, get_or-take, length-replicate, length-take-le, get_or-reverse, get_or_default, length-reverse, length-take, take-take, get_or-map, length-map, same_lists, map-append, take-map, take_more, take_more_set, get_or-set_other, get_or-set_same, length-set, take_all, take-append-le}
@@ -93,7 +93,7 @@ put q bytes part old n size low high long same k =
         out (inl h) = inl h
         out (inr h) = inr (omega arith)
 
--- and one without code, whose bytes are zeros
+-- a line without code, whose bytes are zeros, is written too
 pub zeroed : (q : Placement) (bytes part old : List ℕ) (n : ℕ) → n ≡ q.size → IMAGE_START ≤ q.here → q.here + q.size ≤ length old + IMAGE_START → part ≡ replicate n 0 → bytes ≡ []
     → IsWritten q bytes old (put_mid (q.here - IMAGE_START) n old part)
 zeroed q bytes part old n size low high zeros none =
@@ -161,7 +161,7 @@ own-short (da bytes) S v = omega arith
 own-short (code form operands) S v = word-short (word_of_form form operands S)
 own-short _ S v = omega arith
 
--- nor a line more than it has room for
+-- a line has no more bytes than it has room for
 length-short : (b : Body) (v : ℤ) → own_length b ≤ own_size b v
 length-short (db es) v = omega arith
 length-short (dw es) v = omega arith
@@ -199,14 +199,14 @@ found-line lines n x at address c =
     let t = turned-back (placed lines) n x at in
     find-one (covers address) (placed lines) (length (placed lines) - 1 - n) x (slice_get_within (placed lines) _ x t) (get_or_from_slice_get (placed lines) _ x x t) c (one-covers lines address)
 
--- no other line does
+-- no other line covers the address
 pub apart : (lines : List Reading) (i j : ℕ) (x y : Placed) → (i ≡ j → ⊥) → slice_get (reverse (placed lines)) i ≡ Some x → slice_get (reverse (placed lines)) j ≡ Some y → (address : ℕ) → covers address x ≡ true
     → covers address y ≡ false
 apart lines i j x y other first second address c = false_from_ne_true (covers address y) (λ d.
     (let same : x ≡ y = same_Some x y (sym (found-line lines i x first address c) ∙ found-line lines j y second address d) in
     other (omega (arith, number-at lines i x first, number-at lines j y second, ap (λ (p : Placed). p.number) same))))
 
--- where no line covers an address stands a zero
+-- an address that no line covers has a zero
 pub byte-outside : (lines : List Reading) (address : ℕ) → ((n : ℕ) (x : Placed) → slice_get (reverse (placed lines)) n ≡ Some x → covers address x ≡ false) → byte_at (placed lines) address ≡ 0
 unfolding byte_at
 byte-outside lines address none =
@@ -224,9 +224,9 @@ byte-outside lines address none =
     ] in
     ap (λ o. option_map_or (λ p. get_or (bytes_in_code (code_under all p)) (address - p.here) 0) o 0) (find_at (covers address) all ∙ slice_get_past all first past)
 
--- of lines that are laid out
+-- lines that are laid out
 
--- the line at a place, and what the layout has of it
+-- the line at a place, and its placement in the layout
 pub record AtPlace (lines : List Reading) (n : ℕ) (q : Found) : Type 0 where
   pub x : Placed
   pub at : slice_get (reverse (placed lines)) n ≡ Some x
@@ -267,14 +267,14 @@ found-there lines layout laid n q there = ap (λ ps. slice_get ps n) (sym laid.p
 pub at-place : (lines : List Reading) (layout : Layout) → IsLayoutOf layout lines → (n : ℕ) (q : Placement) → slice_get layout.placements.items n ≡ Some q → AtPlace lines n (found q)
 at-place lines layout laid n q there = at-place-of lines n (found q) (found-there lines layout laid n q there)
 
--- it stands at the address after the lines before it
+-- the line has the address after the lines before it
 pub here-at : (lines : List Reading) (n : ℕ) (q : Found) → AtPlace lines n q → q.here ≡ address (placed (take n lines))
 here-at lines n q a = ap (λ (f : Found). f.here) a.placement ∙ ap (λ (x : Placed). x.here) a.follows ∙ (parts (placed (take n lines)) a.x.line).here
 
 abbrev pub covered_by : Found → ℕ → Bool
 covered_by q address = leb q.here address && ltb address (q.here + q.size)
 
--- its byte at an address that it covers
+-- the byte of a line at an address that it covers
 pub byte-line : (lines : List Reading) (n : ℕ) (q : Found) (a : AtPlace lines n q) (address : ℕ) → covered_by q address ≡ true
     → byte_at (placed lines) address ≡ get_or (bytes_in_code (code_under (placed lines) a.x)) (address - q.here) 0
 unfolding byte_at
@@ -283,7 +283,7 @@ byte-line lines n q a address c =
     (found-line lines n a.x a.at address (ap (λ (p : Found). covered_by p address) (sym a.placement) ∙ c))
     ∙ ap (λ (p : Found). get_or (bytes_in_code (code_under (placed lines) a.x)) (address - p.here) 0) (sym a.placement)
 
--- where no line covers an address stands a zero
+-- an address that no line covers has a zero
 pub byte-nowhere : (lines : List Reading) (address : ℕ) → ((n : ℕ) (q : Found) → slice_get (placements_of lines) n ≡ Some q → covered_by q address ≡ false) → byte_at (placed lines) address ≡ 0
 unfolding placements_of
 byte-nowhere lines address none =
@@ -326,14 +326,14 @@ refused-size lines n q a refused = by (is_unclosed (placed lines) a.x) refl (ap 
         ap (λ (y : Placed). y.size) a.follows ∙ p.size
         ∙ cond_both (takes_effect (place (placed (take n lines)) a.x.line)) _ 0 (λ s. s ≡ 0) (λ e. if-room _ _ (body_of a.x.line) _ (unclosed-parts (placed lines) a.x unclosed_is).0) (λ e. refl)
 
--- so one that has a byte is
+-- a line that covers an address is accepted
 pub covers-accepted : (lines : List Reading) (n : ℕ) (q : Found) (a : AtPlace lines n q) (address : ℕ) → covered_by q address ≡ true → is_accepted_found q ≡ true
 covers-accepted lines n q a address c = true_from_ne_false (is_accepted_found q) (λ refused.
     (let both = covered-parts q.here q.size address c in
     omega (arith, both.0, both.1, refused-size lines n q a refused, ap (λ (p : Found). p.size) a.placement)))
 
--- the fault of an accepted line is that of its code, and that of another one is that of the first
--- pass
+-- the fault of an accepted line is the fault of its code, and the fault of any other line is the
+-- fault of the first pass
 pub line-fault : (lines : List Reading) (n : ℕ) (q : Found) (a : AtPlace lines n q) → fault_of (placed lines) a.x ≡ cond (is_accepted_found q) (fault_in_code (code_under (placed lines) a.x)) q.fault
 line-fault lines n q a =
     by a.x.active (first_pass_fault (placed lines) a.x) (fault_in_code (code_under (placed lines) a.x)) none
@@ -380,7 +380,7 @@ bytes-fit lines n q a accepted = omega (arith, own-room lines n q a accepted, ow
 pub code-fits : (lines : List Reading) (n : ℕ) (q : Found) (a : AtPlace lines n q) → is_accepted_found q ≡ true → code_length a.x.line ≤ q.size
 code-fits lines n q a accepted = omega (arith, own-room lines n q a accepted, code-short a.x.line (place (placed (take n lines)) a.x.line).value)
 
--- What is found of a line that is kept, by its place.
+-- The results of the passes for a kept line, by its place.
 
 pub found-at : (layout : Layout) (lines : List Reading) → IsLayoutOf layout lines → (at : ℕ) (q : Placement) → at < length lines → q ≡ get_or layout.placements.items at q → AtPlace lines at (found q)
 found-at layout lines laid at q inside is =
@@ -396,7 +396,7 @@ none-pending lines layout laid n q there waits =
     let a : AtPlace lines n (found q) = at-place lines layout laid n q there in
     never-pending (fault_in_code (code_under (placed lines) a.x)) (sym (laid.codes n a.x q a.at there (ap is_accepted_found (sym a.placement) ∙ ap is_accepted waits)) ∙ waits)
 
--- What is noted of lines: their layout, the count of their faults, and the marks of open blocks.
+-- The notes about lines: their layout, the count of their faults, and the marks of open blocks.
 
 -- The marks of the open blocks are the faults of IF lines without ENDIF.
 
@@ -468,7 +468,7 @@ unfolding first_placements
 placements-push lines line =
     rw (placed-push, reverse-cons, map-append) refl
 
--- what is found of one line more
+-- the result for one more line
 pub one-more : (all : List Placement) (lines : List Reading) (line : Reading) (at : ℕ) (q : Placement) → take (length lines) (map found all) ≡ first_placements lines → at ≡ length lines → at < length all
     → found q ≡ placement_of (place (placed lines) line) → take (length (lines ++ line ∷ [])) (map found (set all at q)) ≡ first_placements (lines ++ line ∷ [])
 one-more all lines line at q so_far here inside e =
@@ -479,9 +479,9 @@ one-more all lines line at q so_far here inside e =
 pub take-next : (xs : List Reading) (i : ℕ) (x : Reading) → i < length xs → slice_get xs i ≡ Some x → take (i + 1) xs ≡ take i xs ++ x ∷ []
 take-next xs i x h e = take_more xs i x h ∙ ap (λ y. take i xs ++ y ∷ []) (get_or_from_slice_get xs i x x e)
 
--- One item in the place of another one, and what is counted of all lines then.
+-- One item is replaced, and the count over all lines after that.
 
--- an item in the place of another one
+-- one item is replaced
 
 pub set-here : {X : Type 0} (xs : List X) (i : ℕ) (x : X) → i < length xs → slice_get (set xs i x) i ≡ Some x
 set-here xs i x h = slice_get-get_or (set xs i x) i x (omega (arith, h, length-set xs i x)) ∙ ap Some (get_or-set_same xs i x x h)
@@ -489,7 +489,7 @@ set-here xs i x h = slice_get-get_or (set xs i x) i x (omega (arith, h, length-s
 pub set-other : {X : Type 0} (xs : List X) (i j : ℕ) (x : X) → (j ≡ i → ⊥) → slice_get (set xs i x) j ≡ slice_get xs j
 set-other xs i j x other = grind (arith, gets, slice_get_cases, get_or-set_other, length-set)
 
--- how many lines have a fault
+-- the number of lines with a fault
 
 pub one-fault : (q : Placement) → count_of q ≤ 1
 one-fault q = by (is_none (fault_noted q.status))
@@ -502,7 +502,7 @@ pub count-few : (qs : List Placement) → sum_by count_of qs ≤ length qs
 count-few [] = omega arith
 count-few (q ∷ qs) = omega (arith, one-fault q, count-few qs, sum_by-cons count_of q qs)
 
--- what is counted where one line has something else
+-- the count if one line has another item
 pub tally-set : (was : List Placement) (old new : Tally) (n : ℕ) (q d : Placement) → IsTally was old → n < length was → new.faults + count_of (get_or was n d) ≡ old.faults + count_of q
     → new.start ≤ old.start → old.end ≤ new.end → new.end ≤ length was → (q.status ≡ Pending → (new.start ≤ n) × (n < new.end)) → IsTally (set was n q) new
 tally-set was old new n q d t inside counted start end within here = record {
@@ -528,14 +528,14 @@ tally-same was t n q d tallied inside same =
 
 -- The codes of lines, and how many lines are encoded.
 
--- an accepted line that is noted otherwise, as accepted too
+-- an accepted line whose status becomes another one of an accepted line
 pub noted-found : (q : Placement) (status : Status) → is_accepted q.status ≡ true → is_accepted status ≡ true → found (record q { status = status }) ≡ found q
 noted-found q status taken accepted =
     let old = and_parts (is_active_status q.status) (is_none (refusal q.status)) taken in
     let new = and_parts (is_active_status status) (is_none (refusal status)) accepted in
     rw (new.0, none_from (refusal status) new.1, old.0, none_from (refusal q.status) old.1) refl
 
--- it is found the same, whatever became of its code
+-- the result of the first pass is the same, whatever the fault of the code
 pub found-coded : (q : Placement) (fault : Option Fault) → is_accepted q.status ≡ true → found (record q { status = status_coded fault }) ≡ found q
 found-coded q None accepted = noted-found q Done accepted refl
 found-coded q (Some f) accepted = noted-found q (Uncoded f) accepted refl

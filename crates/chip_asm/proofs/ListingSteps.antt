@@ -31,7 +31,7 @@ bytes-more n bytes =
     range-more : (n : ℕ) → range_with_len 0 (n + 1) ≡ range_with_len 0 n ++ n ∷ []
     range-more n = let e : 0 + n ≡ n = omega arith in ap (range_with_len 0) (add-one n) ∙ from 0 n ∙ ap (λ k. range_with_len 0 n ++ k ∷ []) e
 
--- their digits in the field
+-- the digits of the bytes in the field
 
 pub length-bytes : (n : ℕ) (bytes : List ℕ) → length (bytes_shown n bytes) ≡ 2 * n
 length-bytes zero bytes = refl

@@ -21,11 +21,11 @@ abbrev pub open_blocks : List Placed → List Placed
 open_blocks [] = []
 open_blocks (p ∷ before) = cond (is_if p) (p ∷ open_blocks before) (cond (is_endif p) (rest_of (open_blocks before)) (open_blocks before))
 
--- the IF lines at which what stands between passes the test
+-- the IF lines for which the lines between pass the test
 abbrev openers : (List Placed → Bool) → List Placed → List Placed
 openers test before = map (λ (s : List Placed × Placed). s.1) (filter (λ (s : List Placed × Placed). is_if s.1 && test s.0) (with_between before))
 
--- at least so many more IF lines than ENDIF lines, and no run closes more than it opens
+-- there are at least so many more IF lines than ENDIF lines, and no run closes more than it opens
 abbrev surplus : ℕ → List Placed → Bool
 surplus d between = nat_le (count_by is_endif between + d) (count_by is_if between) && closes_no_more between
 
@@ -52,7 +52,7 @@ no_more : (b : List Placed) → closes_no_more b ≡ true → count_by is_endif 
 no_more [] h = omega arith
 no_more (p ∷ b) h = leb-true _ _ (and_parts _ _ h).0
 
--- the tests on numbers that a line makes, which closes c blocks and opens o
+-- the tests on numbers for a line that closes c blocks and opens o
 level : (c o e i d k : ℕ) (rest : Bool) → c + d ≡ o + k → (leb (c + e + d) (o + i) && (leb (c + e) (o + i) && rest)) ≡ (leb (e + k) i && rest)
 level c o e i d k true same = grind (arith, nat_tests)
 level c o e i d k false same = grind (arith, nat_tests)
@@ -226,7 +226,7 @@ moved-by p before _ e n =
     let l : is_else p ≡ false = ap is_else_body e in
     rw (i, d) (blocks-same p before (open_blocks before) l)
 
--- what a line does to the blocks
+-- the effect of a line on the blocks
 pub blocks-cons : (p : Placed) (before : List Placed) → IsNumbered (p ∷ before)
     → map (block_of (p ∷ before)) (enclosing (p ∷ before)) ≡ moved (body_of p.line) (record { number = p.number; active = p.active; holds = p.condition; has_else = false }) (map (block_of before) (enclosing before))
 blocks-cons p before n = rw (enclosing-open (p ∷ before), enclosing-open before) (moved-by p before (body_of p.line) refl n)

@@ -44,7 +44,7 @@ use Rattle.chip_asm.proofs.Views.{count-step}
 use Rattle.chip_asm.specs.declared.kept.Kept.{Kept}
 use Rattle.chip_asm.specs.inner.Kept.{IsExchanged}
 
--- One line more of the first pass: what is known of its code, and that the others keep theirs.
+-- One more line of the first pass: the facts about its code, and the other lines keep theirs.
 
 -- the line at a place, as it is placed
 pub next-at : (lines : List Reading) (n : ℕ) (line : Reading) → slice_get lines n ≡ Some line → slice_get (reverse (placed lines)) n ≡ Some (place (placed (take n lines)) line)
@@ -58,12 +58,12 @@ within-at lines n x at = (at-line lines n x at).within
 
 -- bytes
 
--- where no earlier line has a byte, none has one of the next line
+-- the image has zeros where the next line has its bytes, because no earlier line has a byte there
 pub zeros-next : (e : Change) (n : ℕ) (x : Placed) (image : List ℕ) → AreGapsZero e n image → placed_at e n ≡ Some x → (k : ℕ) → is_byte_of x.here x.size k ≡ true → get_or image k 0 ≡ 0
 zeros-next e n x image gaps at k c =
     gaps k (omega (arith, (covered-parts x.here x.size (IMAGE_START + k) c).1, (within-at e.now n x at).1)) (λ j y h there. apart e.now n j x y (λ same. omega arith) at there (IMAGE_START + k) c)
 
--- what is known of a line stays where its bytes do
+-- the facts about a line stay true if its bytes stay
 
 abbrev pub StaysOn : (here size : ℕ) (old new : List ℕ) → Type 0
 StaysOn here size old new = (k : ℕ) → is_byte_of here size k ≡ true → get_or new k 0 ≡ get_or old k 0
@@ -80,7 +80,7 @@ held-stays e j x q old new h same = λ taken. carried-stays e j x q.status old n
 
 -- the line at a place
 
--- it stood before the edit, and was accepted there
+-- the line was there before the edit, and was accepted then
 pub record Stood (e : Change) (n : ℕ) (line : Reading) (q : Placement) : Type 0 where
   pub before : ℕ
   pub at : AtPlace e.was before (found q)
@@ -92,7 +92,7 @@ stood-there e from n line q same there slot taken =
     let a : AtPlace e.was was.0 (found q) = at-place-of e.was was.0 (found q) was.2 in
     record { before = was.0; at = a; line_is = same_Some a.x.line line (sym a.line ∙ same n was.0 was.1 (slice_get_within e.now n line there) ∙ there) }
 
--- its code is copied, as far as there was room for it
+-- the code of the line is copied, as far as there was room for it
 pub carried-held : (e : Change) (from new : List ℕ) (n : ℕ) (x : Placed) (line : Reading) (q : Placement) → IsSlot e from n line q → is_accepted q.status ≡ true → Stood e n line q → x.line ≡ line → IsWithinMemory x
     → ((i : ℕ) → i < x.size → i < q.size → get_or new (x.here - IMAGE_START + i) 0 ≡ get_or from (q.here - IMAGE_START + i) 0)
     → ((i : ℕ) → i < x.size → q.size ≤ i → get_or new (x.here - IMAGE_START + i) 0 ≡ 0) → IsCarried e n x q.status new
@@ -118,7 +118,7 @@ carried-held e from new n x line q slot taken s same within copied rest = inr (r
         let there : k ≡ x.here - IMAGE_START + (IMAGE_START + k - x.here) = omega arith in
         ap (λ n. get_or new n 0) there ∙ byte (IMAGE_START + k - x.here) (omega arith) (cases_lt (IMAGE_START + k - x.here) q.size)
 
--- it is accepted, and was not before
+-- the line is accepted, and was not accepted before
 pub fresh-held : (e : Change) (from new : List ℕ) (n : ℕ) (x : Placed) (line : Reading) (q : Placement) (coded : Bool) → IsSlot e from n line q → is_accepted q.status ≡ false
     → ((k : ℕ) → is_byte_of x.here x.size k ≡ true → get_or new k 0 ≡ 0) → coded ≡ has_code (body_of x.line) → IsCarried e n x (bare_status true coded) new
 fresh-held e from new n x line q true slot refused zeros coded = inl (record { pending = refl; coded = sym coded; new = sym slot.accepted ∙ refused; zeros = zeros })
@@ -133,9 +133,9 @@ pub bare-accepted : (coded : Bool) → is_accepted (bare_status true coded) ≡ 
 bare-accepted true = refl
 bare-accepted false = refl
 
--- What is known of the line at which the first pass stands, and what is known when it is passed.
+-- The facts about the line at which the first pass stands, and the facts when it is passed.
 
--- what is known of the line
+-- the facts about the line
 pub record Facing (e : Change) (pass : Pass) (was : List Placement) (from : List ℕ) (place : ℕ) (kept : KeptLine) (x : Placed) : Type 0 where
   pub line : slice_get e.now place ≡ Some (reading_in kept)
   pub info : IsInfo pass.names.keys kept.info kept.several (reading_in kept)
@@ -165,7 +165,7 @@ facing e lines pass was w from image n kept u inside is = record {
     at : placed_at e n ≡ Some (place (placed (take n e.now)) (reading_in kept))
     at = next-at e.now n (reading_in kept) line
 
--- the value that it had, where its names keep their values
+-- the value that the line had, if its names keep their values
 pub value-faced : KeepsValue → SameValue → (e : Change) (lines : List KeptLine) (pass : Pass) (was : List Placement) (w : Tally) (from image : List ℕ) (n : ℕ) (kept : KeptLine) (x : Placed) (d : Placement)
     → IsUnderWay e lines pass was w from image n → Facing e pass was from n kept x → is_accepted (get_or was n d).status ≡ true
     → agree_on pass.names.before (values_of pass.names.symbols) (reading_in kept) ≡ true → value_at pass.names.symbols (body_of (reading_in kept)) ≡ Ok (get_or was n d).value
@@ -174,7 +174,7 @@ value-faced keeps same e lines pass was w from image n kept x d u f taken agree 
     value-kept keeps same e.was stood.0 (reading_in kept) (found (get_or was n d)) pass.names.symbols (u.change n stood.0 stood.1 f.inside ∙ f.line) stood.2 taken
     (ap (λ s. agree_on s (values_of pass.names.symbols) (reading_in kept)) (sym u.before) ∙ agree)
 
--- there is room for the code that it had, where it stood and where it stands
+-- there is room for the code that the line had, at its old place and at its new one
 pub record HasCopyRoom (was now : Placement) (from old : List ℕ) : Type 0 where
   pub was_low : IMAGE_START ≤ was.here
   pub was_high : was.here + was.size ≤ length from + IMAGE_START
@@ -235,7 +235,7 @@ pub record StepsOn (pass next : Pass) (n : ℕ) (line : Reading) : Type 0 where
   pub passed : (before : List Reading) → Follows pass (placed before) → n ≡ length before → Follows next (placed (before ++ line ∷ []))
   pub room : (left : ℕ) → HasRoom pass (left + 1) → HasRoom next left
 
--- something is noted of it, and of no other
+-- the placement of this line is noted, and no other changes
 pub record Noted (old new : List Placement) (n : ℕ) (q : Placement) : Type 0 where
   pub long : length new ≡ length old
   pub others : (j : ℕ) → (j ≡ n → ⊥) → slice_get new j ≡ slice_get old j
@@ -290,12 +290,13 @@ passed-on e lines pass next was now w tally from old new n kept q u inside f s i
     here : n ≡ length (take n e.now)
     here = sym (length-take-le n e.now (omega (arith, f.inside)))
 
--- Lines that the first pass goes over one after another, since it asks only their sizes and names.
+-- Lines that the first pass goes over one after another, because it has to know only their sizes
+-- and names.
 
 record-of : (q : Found) → q.value ≡ pos 0 → q.fault ≡ None → q.active ≡ true → q ≡ found-plain q.here q.size true
 record-of q v f l = rw (← v, ← f, ← l) refl
 
--- such a line that was accepted
+-- a plain line that was accepted
 pub plain-stood : (e : Change) (pass : Pass) (was : List Placement) (from : List ℕ) (n : ℕ) (kept : KeptLine) (x : Placed) → IsChange e → Facing e pass was from n kept x → is_accepted (get_or was n nothing).status ≡ true
     → is_plain_line (reading_in kept) ≡ true → found (get_or was n nothing) ≡ found-plain (get_or was n nothing).here (get_or was n nothing).size true
 plain-stood e pass was from n kept now change f taken is_plain =
@@ -311,7 +312,7 @@ full-unpadded : (aligning : Bool) (here : ℕ) (body : Body) (value : ℤ) → i
 full-unpadded true here body value h = rw h (omega arith)
 full-unpadded false here body value h = omega arith
 
--- it had the same size, if nothing pads it
+-- the line had the same size, if nothing pads it
 pub unpadded-stood : (e : Change) (pass : Pass) (was : List Placement) (from : List ℕ) (n size : ℕ) (kept : KeptLine) (x : Placed) (defines : Option NameId) (aligning : Bool) (here : ℕ) → IsChange e → Facing e pass was from n kept x
     → is_accepted (get_or was n nothing).status ≡ true → is_padded (body_of (reading_in kept)) ≡ false → IsPlain pass.names.keys true aligning here (reading_in kept) size defines → (get_or was n nothing).size ≡ size
 unpadded-stood e pass was from n size kept now defines aligning here change f taken unpadded is =
@@ -323,7 +324,7 @@ unpadded-stood e pass was from n size kept now defines aligning here change f ta
     size-there e.was s.before (found q) s.at taken ∙ full-unpadded (is_aligning before) (place before x).here (body_of x) (place before x).value (ap (λ l. is_padded (body_of l)) s.line_is ∙ unpadded)
     ∙ ap (own_size (body_of x)) value ∙ ap (λ l. own_size (body_of l) (pos 0)) s.line_is ∙ sym (is.sized ∙ full-unpadded aligning here (body_of (reading_in kept)) (pos 0) unpadded)
 
--- the pass goes on by such a line
+-- the pass goes on by a plain line
 
 one-at-most : (keys : List Name) (defines : Option NameId) (symbol : Symbol) → length (symbols_of keys defines symbol) ≤ 1
 one-at-most keys None symbol = omega arith
@@ -342,7 +343,7 @@ steps-plain pass names n size line defines active same bare fits new given keeps
   };
 }
 
--- what is noted of one that is not active, or was not accepted
+-- the placement of a plain line that is not active, or was not accepted
 pub noted-plain : (here size : ℕ) (active coded : Bool) → found (record { value = pos 0; here = here; size = size; status = bare_status active coded }) ≡ found-plain here size active
 noted-plain here size true true = refl
 noted-plain here size true false = refl
@@ -364,9 +365,9 @@ copied-held e pass was from old new n kept x f change taken image zeros =
     carried-held e from new n x (reading_in kept) q (f.slot nothing) taken (stood-there e from n (reading_in kept) q change f.line (f.slot nothing) taken) f.line_is f.within image.in_both
     (λ i less past. image.beyond i less past ∙ zeros (x.here - IMAGE_START + i) (covering x.here x.size (IMAGE_START + (x.here - IMAGE_START + i)) (omega (arith, f.within.0)) (omega (arith, f.within.0, less))))
 
--- The second pass: at each place the line there has its code under the names after the edit, or
--- gets it, and the bytes of the other lines stay. What is known before it, over lines that don't
--- wait, and where it is over.
+-- The second pass: at each place, the line there has its code under the names after the edit, or
+-- gets it, and the bytes of the other lines stay. The facts before this pass, over lines that don't
+-- wait, and when it is over.
 
 abbrev SameCode : Type 0
 SameCode = (line : Reading) (S T : Symbols) → agree_on S T line ≡ true → code_of line S ≡ code_of line T
@@ -439,7 +440,7 @@ written-anew e names lines place kept q placements new image to u s a noted writ
         ≡ get_or (bytes_in_code (code_under (placed e.now) s.at.x)) (IMAGE_START + k - s.at.x.here) 0
     bytes k covered accepted = rw (covered, accepted, code) (ap (λ (p : Found). get_or (bytes_in_code (code_under (placed e.now) s.at.x)) (IMAGE_START + k - p.here) 0) s.at.placement)
 
--- a line that doesn't wait has its code, where it has the same one under the names after the edit
+-- a line that doesn't wait has its code, if it has the same code under the names after the edit
 
 abbrev AlikeIn : Change → Reading → Type 0
 AlikeIn e line = code_with (names_of_lines e.was) line ≡ code_with (names_of_lines e.now) line
@@ -482,11 +483,11 @@ again-accepted q kept changed again = by q.status again
     by Done h = refl
     by (Uncoded f) h = refl
 
--- no line from a place up to another one waits, and where there is one, the names have their values
+-- no line from one place up to another waits, and if there is one, the names have kept their values
 abbrev pub AreQuiet : Tables → List Placement → (start end : ℕ) → Type 0
 AreQuiet names placements start end = (j : ℕ) (q : Placement) → start ≤ j → j < end → slice_get placements j ≡ Some q → (names.before ≡ values_of names.symbols) × (q.status ≡ Pending → ⊥)
 
--- where each line from a place up to another one doesn't wait and has the same code, they have
+-- if each line from one place up to another doesn't wait and has the same code, these lines have
 -- their codes
 kept-over : (e : Change) (placements : List Placement) (image : List ℕ) (start end : ℕ)
     → ((j : ℕ) (x : Placed) (q : Placement) → start ≤ j → j < end → placed_at e j ≡ Some x → slice_get placements j ≡ Some q → (q.status ≡ Pending → ⊥) × AlikeIn e x.line)
@@ -518,7 +519,7 @@ settled-coded law e names lines placements image start end u settled =
     (let still = settled j below from x.line q (ap (λ ls. slice_get ls j) (sym u.now) ∙ (at-line e.now j x there).line) noted in
     ((λ waits. false≢true (sym still.0 ∙ ap is_pending waits)), alike law e names lines x.line u still.1)))
 
--- how many lines are encoded again
+-- the number of lines that are encoded again
 
 pub again-later : (e : Change) (place next : ℕ) → place ≤ next → again_up_to e place ≤ again_up_to e next
 again-later e place next ordered =
@@ -589,7 +590,7 @@ image-coded e placements image a = record {
         let none = λ (n : ℕ) (x : Placed) (there : placed_at e n ≡ Some x). false_from_ne_true (is_byte_of x.here x.size k) (λ covered. differ (right k n x there covered)) in
         a.gaps k inside (λ n x below there. none n x there) ∙ sym (byte-outside e.now (IMAGE_START + k) none)
 
--- where the first pass is over, and each IF without ENDIF is marked
+-- the first pass is over, and each IF without ENDIF is marked
 
 pub record IsHalfWay (e : Change) (lines : List KeptLine) (pass : Pass) (placements : List Placement) (image : List ℕ) : Type 0 where
   pub many : length e.now ≡ length lines
@@ -598,7 +599,7 @@ pub record IsHalfWay (e : Change) (lines : List KeptLine) (pass : Pass) (placeme
   pub laid : map found placements ≡ placements_of e.now
   pub coded : AreCoded e placements image 0
 
--- a mark leaves what is noted of an accepted line
+-- a mark leaves the status of an accepted line as it is
 note-half : (e : Change) (j : ℕ) (x : Placed) (was q : Placement) (image : List ℕ) → q ≡ cond (is_unclosed (placed e.now) x) (unclosed was) was → IsHeld e j x was image → IsHalfDone e j x q image
 note-half e j x was q image is held taken =
     subst (λ (p : Placement). IsCarried e j x p.status image) (sym (is ∙ by (is_unclosed (placed e.now) x) taken)) (held (accepted-effect (placed e.now) x taken))
@@ -639,10 +640,10 @@ half-done e lines pass placements now tally from image u long marks = record {
     walked : HasPassed placements pass e.now
     walked = walked-all e lines pass placements tally from image u
 
--- Both passes over the lines after an edit: where the first one begins, and which places the second
--- one goes over.
+-- Both passes over the lines after an edit: the place where the first one begins, and the places
+-- that the second one goes over.
 
--- where the first pass begins
+-- the place where the first pass begins
 
 pub begun-way : (e : Change) (kept : Kept) (first start : ℕ) (pass : Pass) (lines : List KeptLine) (placements : List Placement) (tally : Tally) (from image : List ℕ) → IsExchanged e kept first start
     → lines ≡ kept.lines.items → placements ≡ kept.layout.placements.items → from ≡ kept.image.items → tally.faults ≡ kept.layout.faults → tally.end ≡ 0
@@ -696,7 +697,7 @@ begun-way e kept first start pass lines placements tally from image x lines_is p
     gap k none (inl less) = front k less ∙ ap (λ f. get_or f k 0) from_is ∙ x.gaps k (omega (arith, less)) none
     gap k none (inr past) = zeros k past
 
--- no line before these places waits, and none behind them, where the names have their values
+-- no line before or after these places waits, if the names have kept their values
 pub record ArePlaces (names : Tables) (placements : List Placement) (count start end : ℕ) : Type 0 where
   pub ordered : start ≤ end
   pub within : end ≤ count
@@ -712,7 +713,7 @@ all-places names placements count start end low high = record {
   behind = λ j q from to. absurd (omega arith);
 }
 
--- those of a tally
+-- the places of a tally
 pub tally-places : (names : Tables) (placements : List Placement) (tally : Tally) (count start end : ℕ) → IsTally placements tally → length placements ≡ count → names.before ≡ values_of names.symbols → start ≤ end → end ≤ tally.end
     → (tally.start < tally.end → start ≡ tally.start) → (tally.start < tally.end → end ≡ tally.end) → ArePlaces names placements count start end
 tally-places names placements tally count start end t many same ordered within low high = record {

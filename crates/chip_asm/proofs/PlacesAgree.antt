@@ -22,8 +22,8 @@ use Rattle.chip_lang.specs.Line.{Body, else_line, endif, Reading, bad, read, fau
 use Rattle.chip_asm.proofs.Placing.{onto}
 use Rattle.chip_asm.specs.Program.{is_unclosed}
 
--- The last line that passes a test, the IF lines that enclose what follows, and what stands before,
--- by place: the lists from the nearest line back have what the relations say.
+-- The last line that passes a test, the IF lines that enclose the lines that follow, and the lines
+-- before, by place: the lists from the nearest line back agree with the relations.
 
 -- places of a list with one element more
 
@@ -65,7 +65,7 @@ no-earlier test xs k x there passes = elim (cases_lt k (position_or_len test xs)
 
 -- the last line that passes a test
 
--- the last line that fits, and what is known then; or what is known where none does
+-- the last line that fits, and a fact about it; or a fact that holds if no line fits
 data Decided (Fits Known : ℕ → Placed → Type 0) (Otherwise : Type 0) : Type 0 where
   last : (j : ℕ) (p : Placed) → IsLast Fits j p → Known j p → Decided Fits Known Otherwise
   never : ((j : ℕ) (p : Placed) → Fits j p → ⊥) → Otherwise → Decided Fits Known Otherwise
@@ -113,7 +113,7 @@ search-last test r = by (find-first test r)
     by (missing past none) =
         never (λ k q s. (let later = no-later k q s in omega (arith, later.0, later.1, past))) (none, ap sizes (take_all at r past) ∙ sym (sum-turned (λ q. q.size) r))
 
--- the IF lines that enclose what follows
+-- the IF lines that enclose the lines that follow
 
 abbrev line_after : List Placed → Placed → List Placed × Placed
 line_after between p = (between, p)
@@ -180,7 +180,7 @@ from-between r k s h e = by (slice_get r k) refl (sym (between-at r k) ∙ h)
         let it : Encloses (reverse r) (back r k) s.1 = record { there = turned r k p there ∙ ap Some opener; opens = two.0; stays_open = subst Never tail (never-from s.0 two.1) } in
         (within, it)
 
--- the last one
+-- the last enclosing line
 
 abbrev openers_in : List (List Placed × Placed) → List Placed
 openers_in xs = map (λ s. s.1) (filter encloses xs)
@@ -212,7 +212,7 @@ last-opener r = by (find-first encloses (with_between r))
         last (back r at) s.1 (record { fits = here.1; latest = λ j o h. (let later = no-later j o h in omega (arith, later.0, later.2, here.0)) }) (first-opener (with_between r) ∙ ap (option_map (λ (t : List Placed × Placed). t.1)) is)
     by (missing past is) = never (λ j o h. (let later = no-later j o h in omega (arith, later.0, later.1, past))) (first-opener (with_between r) ∙ ap (option_map (λ (t : List Placed × Placed). t.1)) is)
 
--- one that passes, and all
+-- whether some enclosing line passes a test, and whether all do
 
 any-opener : (f : Placed → Bool) (xs : List (List Placed × Placed)) → list_any f (openers_in xs) ≡ list_any (λ s. encloses s && f s.1) xs
 any-opener f [] = refl
@@ -252,9 +252,10 @@ enclosing-all f r h = true_from_ne_false (list_all f (enclosing r)) (λ fails. b
 any-turned : (test : Placed → Bool) (r : List Placed) → list_any test (reverse r) ≡ list_any test r
 any-turned test r = sym (list_any-IsPermutation test r (reverse r) (IsPermutation-reverse r))
 
--- What is placed line by line is what holds of the lines by place, and nothing else is.
+-- The facts found line by line are the facts that hold of the lines by place, and no other facts
+-- are.
 
--- what the last such line gives
+-- the result that the last such line gives
 
 one-of-last : {X : Type 0} {Fits Known : ℕ → Placed → Type 0} {Otherwise : Type 0} (gives : ℕ → Placed → X) (otherwise x y : X) → Decided Fits Known Otherwise → IsFromLast Fits gives otherwise x → IsFromLast Fits gives otherwise y → x ≡ y
 one-of-last gives otherwise x y (last j p l k) a b = a.from_last j p l ∙ sym (b.from_last j p l)
@@ -408,7 +409,7 @@ abbrev with_parts : ℕ → Reading → Option ℕ → Bool → Bool → ℕ →
 with_parts number line block condition active here value fault size =
     record { number = number; line = line; block = block; condition = condition; active = active; here = here; value = value; fault = fault; size = size }
 
--- of the parts of a line that its fault depends on
+-- the parts of a line on which its fault depends
 abbrev looked_for : List Placed → Bool → Reading → Option ℕ → ℕ → ℤ → List (Option Fault)
 looked_for before aligning line block here value = first_pass_faults before aligning (with_parts 0 line block false false here value None 0)
 
@@ -483,7 +484,7 @@ agree-fold done r (line ∷ lines) a =
 none-placed : ArePlaced [] []
 none-placed = record { count = refl; each = λ i line p there holds. cc }
 
--- what is placed is so by place
+-- the facts found line by line hold by place
 pub agree : (lines : List Reading) → ArePlaced lines (reverse (placed lines))
 unfolding placed
 agree lines = agree-fold [] [] lines none-placed
@@ -515,7 +516,7 @@ only-fold done (line ∷ lines) r all a n e = by (slice_get all (length done)) r
         (ap length (reverse-cons (place r line) r) ∙ length-append (reverse r) (place r line ∷ []) ∙ ap (λ m. m + 1) n ∙ sym long)
         (ap (λ m. take m all) long ∙ front)
 
--- and nothing else is
+-- no other facts hold by place
 pub only : (lines : List Reading) (all : List Placed) → ArePlaced lines all → all ≡ reverse (placed lines)
 unfolding placed
 only lines all a = only-fold [] lines [] all a refl refl

@@ -1,4 +1,4 @@
--- Lists of lines, what is placed of them, and what one line more does.
+-- Lists of lines, the facts about them, and the effect of one more line.
 use Rattle.std.proofs.Common.{◌≡◌, ◌+◌, List, [], ◌∷◌, ◌++◌, length, reverse, fold, refl, ap, ◌∙◌, arith, option_map, ℕ, suc, Bool, true, false, cond, ◌&&◌, ◌||◌, take, Option, Some, None, option_to_list, filter_map, unsigned_abs, if◌then◌else◌}
 use Rattle.std.proofs.lemmas.Bool.{and_right}
 use Rattle.std.specs.List.{cons_option}
@@ -12,12 +12,12 @@ use Rattle.std.proofs.lemmas.List.Elements.{filter_map-append}
 use Rattle.chip_asm.specs.inner.Placements.{next_aligning}
 use Rattle.chip_asm.proofs.BlockSteps.{reverse-cons}
 
--- Lists of lines, and what is placed of them.
+-- Lists of lines, and the facts about them.
 
 abbrev pub onto : List Placed → Reading → List Placed
 onto before line = place before line ∷ before
 
--- a line's parts, of the line itself
+-- the parts of a placed line, given the line itself
 pub record Parts (before : List Placed) (line : Reading) : Type 0 where
   pub number : (place before line).number ≡ length before + 1
   pub block : (place before line).block ≡ option_map (λ o. o.number) (first_of (enclosing before))
@@ -49,7 +49,7 @@ pub numbered-place : (before : List Placed) (line : Reading) → IsNumbered befo
 unfolding place
 numbered-place before line n = (refl, ap (λ os. option_map (λ (o : Placed). o.number) (first_of os)) (enclosing-open before), n)
 
--- what holds of no lines, and of one line more where it holds of those before
+-- a fact that holds of no lines, and of one more line if it holds of the lines before
 fold-keeps : (P : List Placed → Type 0) → ((before : List Placed) (line : Reading) → P before → P (onto before line)) → (before : List Placed) (lines : List Reading) → P before → P (fold onto before lines)
 fold-keeps P step before [] h = h
 fold-keeps P step before (line ∷ lines) h = fold-keeps P step (onto before line) lines (step before line h)
@@ -75,7 +75,7 @@ length-placed lines = omega (arith, length-fold [] lines)
 pub length-numbered : (lines : List Reading) → length (reverse (placed lines)) ≡ length lines
 length-numbered lines = length-reverse (placed lines) ∙ length-placed lines
 
--- What one line more does to the address, the alignment, the END, the names and the blocks.
+-- The effect of one more line on the address, the alignment, the END, the names and the blocks.
 
 pub take_one_more : {X : Type 0} (n : ℕ) (x : X) (xs : List X) → take (1 + n) (x ∷ xs) ≡ x ∷ take n xs
 take_one_more n x xs = let e : 1 + n ≡ suc n = omega arith in rw e refl

@@ -1,4 +1,4 @@
--- Lines of which the first pass asks only the size and the name.
+-- Lines of which the first pass has to know only the size and the name.
 use Rattle.std.proofs.Common.{◌≡◌, ℕ, suc, ◌+◌, ℤ, pos, Bool, true, false, cond, ◌&&◌, ◌||◌, nat_lt, List, [], ◌∷◌, ◌++◌, length, refl, ap, sym, ◌∙◌, Option, Some, None, option_map, option_to_list, Ok, if◌then◌else◌, unsigned_abs, ◌<◌, ◌≤◌, get_or, subst, reverse, IfSome}
 use Rattle.std.specs.List.{list_all}
 use Rattle.std.specs.Option.{option_map_or}
@@ -28,8 +28,8 @@ use Rattle.chip_asm.proofs.Resumed.{placement-at, follows-push}
 
 -- statements
 
--- a plain statement is none of the blocks', has no value of its own, neither moves the address nor
--- switches the padding nor ends the source, and its name is that of an address
+-- a plain statement opens, turns and closes no block, has no value of its own, doesn't move the
+-- address, switch the padding or end the source, and gives its name the value of an address
 pub record Plain (b : Body) : Type 0 where
   pub no_if : is_if_body b ≡ false
   pub no_else : is_else_body b ≡ false
@@ -58,7 +58,7 @@ plain _ h = absurd (false≢true h)
 
 -- lines
 
--- the same line with another text
+-- a placed line with another reading
 abbrev pub with_line : Placed → Reading → Placed
 with_line p line = record p { line = line }
 
@@ -81,7 +81,7 @@ first-same before (read l b) (read m c) a =
     (plain b a.was_plain).first before l
     ∙ (rw (name, full-same (is_aligning before) (address before) (read l b) (read m c) a) (sym ((plain c a.now_plain).first before m)))
 
--- it stands where the other one stood
+-- the new line has the address of the line that it replaces
 pub place-swapped : (before : List Placed) (old new : Reading) → AreAlike old new → place before new ≡ with_line (place before old) new
 unfolding place
 place-swapped before old new e =
@@ -89,7 +89,7 @@ place-swapped before old new e =
     let b = plain-line new e.now_plain in
     rw (a.condition (symbols before), b.condition (symbols before), a.value (symbols before), b.value (symbols before), active-plain before (body_of old) (body_of new) a b, first-same before old new e, full-same (is_aligning before) (address before) old new e) refl
 
--- what lists of lines before have to share, so that the same lines may follow
+-- the parts that two lists of lines must share so that the same lines may follow
 pub record Same (xs ys : List Placed) : Type 0 where
   pub count : length xs ≡ length ys
   pub names : symbols xs ≡ symbols ys
@@ -135,7 +135,7 @@ side-same : (p o : Placed) (xs ys : List Placed) → has_else xs o ≡ has_else 
 unfolding has_else
 side-same p o xs ys e = rw e refl
 
--- the same line follows
+-- the two lists still share these parts when the same line follows both
 pub same-cons : (p : Placed) (xs ys : List Placed) → Same xs ys → Same (p ∷ xs) (p ∷ ys)
 same-cons p xs ys s = record {
   count = ap (λ n. suc n) s.count;
@@ -147,7 +147,7 @@ same-cons p xs ys s = record {
   sides = λ o. side-same p o xs ys (s.sides o);
 }
 
--- a line that does nothing to the next ones but by its name and its size
+-- a line that affects the next ones only by its name and its size
 pub record Quiet (p : Placed) : Type 0 where
   pub no_if : is_if p ≡ false
   pub no_else : is_else p ≡ false
@@ -200,9 +200,9 @@ pub same-swapped : (p : Placed) (new : Reading) (before : List Placed) → AreAl
 same-swapped p new before e =
     quiet-same p (with_line p new) before (quiet-old p new e) (quiet-new p new e) (symbol-same p new e) refl
 
--- What the first pass finds of a line of which it asks only the size and the name.
+-- The result of the first pass for a line of which it has to know only the size and the name.
 
--- the number of a name, if there is one, tells whether there is one
+-- the number of a name, if there is one, says whether there is a name
 named-so : (keys : List Name) (defines : Option NameId) (name : Option Name) → IsNumberOf keys defines name → name_of keys defines ≡ name
 named-so keys None name n = sym n
 named-so keys (Some id) None n = absurd n
@@ -212,7 +212,7 @@ given : (number here : ℕ) (value : ℤ) (body : Body) (name : Option Name) →
 given number here value body None p = refl
 given number here value body (Some name) p = ap (λ v. Some (name, record { value = v; line = number })) (sym (p.given here value))
 
--- where it has no fault it is passed, active or not
+-- a line without a fault is passed, active or not
 abbrev pub found-plain : ℕ → ℕ → Bool → Found
 found-plain here size active = record { value = pos 0; here = here; size = size; fault = None; active = active }
 
@@ -265,7 +265,7 @@ passed-plain pass names lines (read name body) at size defines active same f is 
     found_now =
         placement-at before line active pass.here None (pos 0) size (sym same ∙ active_here pass before body (rw (e.no_else, e.no_endif) refl) f) f.at_address (rw e.value refl) (faultless active b.named b.sized) (sizes active b.sized)
 
--- what is kept beside the line at a place
+-- the facts kept beside the line at a place
 pub info-here : (keys : List Name) (lines : List KeptLine) (place : ℕ) (kept : KeptLine) → AreInfos keys lines → place < length lines → kept ≡ get_or lines place kept → IsInfo keys kept.info kept.several (reading_in kept)
 info-here keys lines place kept infos inside is = subst (λ (k : KeptLine). IsInfo keys k.info k.several (reading_in k)) (sym is) (infos place kept inside)
 

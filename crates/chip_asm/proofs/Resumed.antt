@@ -1,4 +1,4 @@
--- The first lines of a source, the next one, and where each of all lines stands.
+-- The first lines of a source, the next one, and the address of each line.
 use Rattle.std.proofs.Common.{◌≡◌, ◌-◌, Bool, true, false, ◌&&◌, ◌||◌, List, [], ◌∷◌, ◌++◌, map, reverse, fold, length, length-append, refl, ap, sym, subst, ◌∙◌, Some, None, slice_get, arith, ℕ, ◌+◌, ℤ, not, is_none, if◌then◌else◌, Option, Ok, Err, option_to_list, Result, ◌<◌, ◌≤◌, cond, take, drop, get_or, filter_map, option_map, append_assoc, All, pos, negsuc, unsigned_abs}
 use Rattle.std.specs.List.{list_all}
 use Rattle.std.proofs.lemmas.List.Folds.{list_all-append, list_all-map}
@@ -36,9 +36,9 @@ use Rattle.chip_asm.proofs.LinesAfter.{Edited, edited-lines, first-within, same-
 
 -- The state of the pass after one line more.
 
--- An IF line is active just where the blocks around it hold, unless an END came.
+-- An IF line is active if and only if the blocks around it hold, unless an END came.
 
--- what holds of the open blocks where no END came
+-- a fact about the open blocks if no END came
 abbrev pub Nests : List Placed → Type 0
 Nests before = has_ended before ≡ false → AreNested (map (block_of before) (enclosing before))
 
@@ -85,7 +85,7 @@ nests-none : Nests []
 unfolding enclosing
 nests-none yet = tt
 
--- so it is after any lines
+-- the open blocks are nested after any lines
 pub nested-placed : (lines : List Reading) → Nests (placed lines)
 nested-placed lines = (placed-keeps (λ before. IsNumbered before × Nests before) (λ before line n. (numbered-place before line n.0, nests-place before line n.0 n.1)) (tt, nests-none) lines).1
 
@@ -94,7 +94,7 @@ and_true true true = refl
 and_true true false = refl
 and_true false b = refl
 
--- whether all hold, as the last one says
+-- the last block says whether all blocks hold
 pub all-by-last : (items nearest : List Block) (b : Block) → items ≡ reverse nearest → AreNested nearest → slice_get items (length items - 1) ≡ Some b
     → (b.active && b.holds) ≡ list_all (λ (o : Block). o.holds) items
 all-by-last items [] b e n at = let none : Some b ≡ None = sym at ∙ ap (λ (l : List Block). slice_get l (length items - 1)) e in cc
@@ -117,7 +117,7 @@ pub placement-at : (before : List Placed) (line : Reading) (active : Bool) (here
 unfolding place
 placement-at before line active here fault value size l h v f s = rw (s, f, v, h, l) refl
 
--- what the state is after a line of which this holds
+-- the state of the pass after a line with these facts
 pub record Advances (pass next : Pass) (line : Reading) (q : Found) (number : ℕ) : Type 0 where
   pub at_address : next.here ≡ next_address (is_accepted_found q) pass.here (body_of line) q.value q.size
   pub aligning : next.aligning ≡ next_aligning (is_accepted_found q) pass.aligning (body_of line)
@@ -171,15 +171,15 @@ pub none_from : (o : Option Fault) → is_none o ≡ true → o ≡ None
 none_from None h = refl
 none_from (Some x) h = cc
 
--- where the value has no fault, the line's own faults are those at the value
+-- if the value has no fault, the line's own faults are the faults at the value
 pub fits_at : (a : Bool) (here : ℕ) (body : Body) (read : Result ℤ Fault) (v : ℤ) → v ≡ value_or_zero read → fault_of_value a here body read ≡ None → fault_of_value a here body (Ok v) ≡ None
 unfolding fault_of_value
 fits_at a here body (Ok w) v e h = rw e h
 fits_at a here body (Err f) v e h = cc
 
--- The first lines of a source, and where each of all lines stands.
+-- The first lines of a source, and the address of each line.
 
--- What is placed of the first lines of a source is the first part of what is placed of all.
+-- The facts about the first lines of a source are the first part of the facts about all lines.
 
 -- the first part
 
@@ -320,7 +320,7 @@ next-placed lines n line d h e =
 entry : Placed → Name → Name × Symbol
 entry p name = (name, record { value = value_given p.here p.value (body_of p.line); line = p.number })
 
--- what a line with its own number gives is a symbol in that line
+-- the name that a line with its own number gives is a symbol of that line
 given : (P : ℕ → Type 0) (p : Placed) → P p.number → All (λ (e : Name × Symbol). P e.1.line) (option_to_list (symbol_of p))
 unfolding entry
 given P p h = by (takes_effect p) (name_defined p.line)
@@ -351,7 +351,7 @@ symbols-begin : (before all : List Placed) (b : Begins before all) → symbols a
 unfolding symbols
 symbols-begin before all b = ap (filter_map symbol_of) b.is ∙ filter_map-append symbol_of (reverse before) b.rest
 
--- the symbols that the first lines give, and those that the others do
+-- the symbols that the first lines give, and the symbols that the other lines give
 pub record NamesSplit (lines : List Reading) (n : ℕ) : Type 0 where
   pub later : List (Name × Symbol)
   pub is : names_of_lines lines ≡ symbols (placed (take n lines)) ++ later
@@ -369,13 +369,13 @@ names-split lines n h =
       late = given-over n b.rest (subst (λ (k : ℕ). Above k b.rest) long b.later);
     }
 
--- what is known of the first lines
+-- the facts about the first lines
 
 pub length-laid : (layout : Layout) (lines : List Reading) → IsLayoutOf layout lines → length layout.placements.items ≡ length lines
 unfolding placements_of
 length-laid layout lines laid = sym (length-map layout.placements.items found) ∙ ap length laid.placements ∙ length-map (reverse (placed lines)) (final_placement (placed lines)) ∙ length-numbered lines
 
--- the state in which the pass stands after steady lines
+-- the state of the pass after steady lines
 pub record Resumes (before : List Placed) : Type 0 where
   pub aligning : is_aligning before ≡ true
   pub ended : has_ended before ≡ false
@@ -386,13 +386,13 @@ resumes lines h =
     let s : AreSteadyLines (placed lines) = steady-placed lines h in
     record { aligning = still-aligning (placed lines) s; ended = not-ended (placed lines) s; open_blocks = no-blocks (placed lines) s }
 
--- an old layout has the placements of its first lines, where they are steady
+-- an old layout has the placements of its first lines, if they are steady
 pub first-laid : (layout : Layout) (lines : List Reading) (n : ℕ) → IsLayoutOf layout lines → n ≤ length lines → AllSteady (take n lines) → take n (map found layout.placements.items) ≡ first_placements (take n lines)
 first-laid layout lines n laid h steady = ap (take n) laid.placements ∙ placements-before lines n h (steady-placed (take n lines) steady)
 
--- Each line stands in memory, from where the image begins on.
+-- Each line is within the memory, from the start of the image on.
 
--- what an accepted line leaves room for
+-- the room that an accepted line leaves
 record Fits (here : ℕ) (body : Body) (value : ℤ) (size : ℕ) : Type 0 where
   after : here + size ≤ cond (is_org_body body) (unsigned_abs value) (here + size)
   high : cond (is_org_body body) (unsigned_abs value) (here + size) ≤ MEMORY_BYTES
@@ -410,7 +410,7 @@ no_fault : {A : Type 0} (b : Bool) (f : A) (rest : Option A) → cond b (Some f)
 no_fault true f rest e = cc
 no_fault false f rest e = (refl, e)
 
--- what holds of a line without a fault
+-- the facts about a line without a fault
 pub record Faultless (before : List Placed) (line : Reading) : Type 0 where
   pub new : is_redefinition (symbols before) (name_defined line) ≡ false
   pub value : value_at (symbols before) (body_of line) ≡ Ok (value_or_zero (value_at (symbols before) (body_of line)))
@@ -443,7 +443,7 @@ pub accepted-faultless : (before : List Placed) (line : Reading) → takes_effec
 unfolding place
 accepted-faultless before line e = active-faultless before line (is_active before (body_of line)) e
 
--- where a line stands after these
+-- the address of a line after these lines
 record Stands (before : List Placed) (p : Placed) : Type 0 where
   here : p.here ≡ address before
   fits : takes_effect p ≡ true → Fits (address before) (body_of p.line) p.value p.size
@@ -489,7 +489,7 @@ after-by : (before : List Placed) (p : Placed) (b : Bool) → takes_effect p ≡
 after-by before p true e s = rw (address-cons p before, e, s.here) (s.fits e).after
 after-by before p false e s = rw (address-cons p before, e, s.none e, s.here) (omega arith)
 
--- what follows a line stands past its end
+-- the lines after a line have addresses past its end
 pub passes : (before : List Placed) (line : Reading) → (place before line).here + (place before line).size ≤ address (place before line ∷ before)
 passes before line = after-by before (place before line) (takes_effect (place before line)) refl (stands before line)
 
@@ -509,9 +509,9 @@ end-high lines = (room lines).high
 pub within-memory : (lines : List Reading) (i : ℕ) (d : Placed) → i < length (reverse (placed lines)) → IsWithinMemory (get_or (reverse (placed lines)) i d)
 within-memory lines i d h = All-permutation IsWithinMemory (placed lines) (reverse (placed lines)) (IsPermutation-reverse (placed lines)) (room lines).lines i d h
 
--- The first lines, which an edit leaves as they are, and what is known of them before and after it.
+-- The first lines, which an edit leaves as they are, and the facts about them before and after it.
 
--- what is kept beside the first lines says that they are steady
+-- the facts kept beside the first lines say that they are steady
 pub steady-readings : (keys : List Name) (lines : List KeptLine) (first : ℕ) → AreInfos keys lines → first ≤ length lines → AreSteady lines first → AllSteady (take first (readings_in lines))
 steady-readings keys lines first infos h steady =
     subst (All (λ (line : Reading). is_steady (body_of line) ≡ true)) (sym (take-map reading_in first lines))
@@ -521,7 +521,7 @@ steady-readings keys lines first infos h steady =
     ∙ sym (infos place other (omega (arith, below, h))).steady
     ∙ steady place other below)))
 
--- one of them
+-- one of the first lines
 pub steady-at : (lines : List Reading) (first n : ℕ) (line : Reading) → AllSteady (take first lines) → n < first → slice_get lines n ≡ Some line → is_steady (body_of line) ≡ true
 steady-at lines first n line steady below there =
     let inside : n < length lines = slice_get_within lines n line there in
@@ -557,13 +557,13 @@ begun keys lines edit first where_is infos h steady =
       steady = steady-readings keys after first infos inside stays;
     }
 
--- they are placed as before
+-- the first lines are placed as before
 pub same-placed : (was now : List Reading) (first n : ℕ) → take first was ≡ take first now → first ≤ length was → first ≤ length now → n < first
     → slice_get (reverse (placed was)) n ≡ slice_get (reverse (placed now)) n
 same-placed was now first n same was_long now_long below =
     same-front (reverse (placed was)) (reverse (placed now)) first n (first-placed was first was_long ∙ ap (λ ls. reverse (placed ls)) same ∙ sym (first-placed now first now_long)) below
 
--- the symbols that are left of those before the edit
+-- the symbols that are left of the symbols before the edit
 pub begun-symbols : (was now : List Reading) (first : ℕ) → first ≤ length was → take first was ≡ take first now → (old left : List (Name × Symbol)) → old ≡ names_of_lines was
     → ((early later : List (Name × Symbol)) → old ≡ early ++ later → AreUpTo first early → AreOver first later → left ≡ early) → left ≡ symbols (placed (take first now))
 begun-symbols was now first long same old left names cut =

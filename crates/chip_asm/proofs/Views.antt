@@ -1,4 +1,4 @@
--- What the kept parts say of the texts.
+-- The facts about the texts that the kept parts give.
 use Rattle.std.proofs.Common.{◌≡◌, ℕ, List, map, ap, ◌∙◌, Option, subst, ◌≤◌, Bool, true, false, cond, count_by, refl, arith, ◌+◌, take, slice_get, Some, None}
 use Rattle.chip_lang.specs.Line.{Reading, reading_of}
 use Rattle.chip_asm.specs.declared.kept.Kept.{Kept}
@@ -27,7 +27,7 @@ pub needs-view : (old new : List Reading) (before after : List (List ℕ)) (orig
 unfolding lines_to_encode
 needs-view old new before after origin a b = ap (λ rs. needs_count rs new origin) a ∙ ap (λ rs. needs_count (map reading_of before) rs origin) b
 
--- What is encoded again is needed.
+-- Each line that is encoded again has to be encoded.
 
 pub count-step : (a b : Bool) → (a ≡ true → b ≡ true) → cond a 1 0 ≤ cond b 1 0
 count-step false b e = omega arith
@@ -40,7 +40,7 @@ again-needed : (old new : List Reading) (origin : ℕ → Option ℕ) (at : ℕ 
 unfolding is_encoded_again
 again-needed old new origin at h = (and_parts (has_code (body_of at.1)) (needs old new origin at) h).1
 
--- no more lines are encoded again than need it
+-- no more lines are encoded again than have to be encoded
 pub count-needed : (old new : List Reading) (origin : ℕ → Option ℕ) → count_again old new origin ≤ needs_count old new origin
 count-needed old new origin = count-le (is_encoded_again old new origin) (needs old new origin) (again-needed old new origin) (enumerate_from 0 new)
 
@@ -48,7 +48,7 @@ needs-accepted : (old new : List Reading) (origin : ℕ → Option ℕ) (at : �
 unfolding needs
 needs-accepted old new origin at h = (and_parts _ _ h).0
 
--- no more lines need it than are accepted
+-- no more lines have to be encoded than are accepted
 pub count-accepted : (old new : List Reading) (origin : ℕ → Option ℕ) → needs_count old new origin ≤ accepted_lines new
 count-accepted old new origin = count-le (needs old new origin) (λ (at : ℕ × Reading). is_accepted_at new at.0) (needs-accepted old new origin) (enumerate_from 0 new)
 

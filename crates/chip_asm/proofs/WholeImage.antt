@@ -73,7 +73,7 @@ coded-noted : (f : Option Fault) → fault_noted (status_coded f) ≡ f
 coded-noted None = refl
 coded-noted (Some f) = refl
 
--- the fault that is noted of a line is its fault
+-- the fault in the status of a line is the line's fault
 pub fault-kept : (layout : Layout) (lines : List Reading) (i : ℕ) (x : Placed) (q : Placement) → IsLayoutOf layout lines → slice_get (reverse (placed lines)) i ≡ Some x → slice_get layout.placements.items i ≡ Some q
     → fault_noted q.status ≡ fault_of (placed lines) x
 fault-kept layout lines i x q laid there noted = by (is_accepted q.status) refl
@@ -90,7 +90,7 @@ fault-kept layout lines i x q laid there noted = by (is_accepted q.status) refl
         ∙ sym (accepted-fault lines i (found q) a taken) ∙ ap (fault_of (placed lines)) is
     by false refused = refused-noted q.status refused ∙ refused-fault lines i (found q) a refused ∙ ap (fault_of (placed lines)) is
 
--- those of all lines
+-- the faults of all lines
 faults-kept : (layout : Layout) (lines : List Reading) → IsLayoutOf layout lines → map (λ (q : Placement). fault_noted q.status) layout.placements.items ≡ map (fault_of (placed lines)) (reverse (placed lines))
 faults-kept layout lines laid =
     same_lists _ _ (length-map qs noted ∙ length-laid layout lines laid ∙ sym (length-map all (fault_of (placed lines)) ∙ length-numbered lines)) (λ i other lt.
@@ -121,7 +121,7 @@ fault-there layout lines i there laid is =
     joined f None = refl
     joined f (Some x) = refl
 
--- how many they are
+-- the number of faults
 
 count-numbered : (all xs : List Placed) (qs : List Placement) → map (λ (q : Placement). fault_noted q.status) qs ≡ map (fault_of all) xs → sum_by count_of qs ≡ length (filter_map (numbered_fault all) xs)
 count-numbered all [] [] e = refl
@@ -168,7 +168,7 @@ bytes-found image lines i q a m k h =
     m.imaged (q.here - IMAGE_START + k) (omega (arith, high lines i q a)) ∙ ap (byte_at (placed lines)) at ∙ byte-line lines i q a (q.here + k) (covering q.here q.size (q.here + k) (omega arith) (omega arith))
     ∙ ap (λ n. get_or (bytes_in_code (code_under (placed lines) a.x)) n 0) own
 
--- What is told of each line, by what is kept of it.
+-- The facts reported about each line, given what is kept of it.
 
 zip-at : {X Y : Type 0} (xs : List X) (ys : List Y) (i : ℕ) (x : X) (y : Y) → slice_get xs i ≡ Some x → slice_get ys i ≡ Some y → slice_get (zip xs ys) i ≡ Some (x, y)
 zip-at [] ys i x y a b = cc
@@ -220,12 +220,12 @@ facts-kept kept i line q bytes k there noted long each =
         ∙ ap (told a.x.number line.text a.x.active a.x.here a.x.value (fault_of all a.x))
         (bytes-of lines i q a bytes long (λ n h. each n h ∙ bytes-found kept.image.items lines i (found q) a k.image n h))
 
--- what is told of the texts is what is told of what is kept
+-- the facts reported about the texts are the facts given by what is kept
 pub facts-view : (kept : Kept) (texts : List (List ℕ)) → IsKept kept → texts_in kept.lines.items ≡ texts → line_facts texts ≡ facts_of_lines (placed (readings_in kept.lines.items)) (texts_in kept.lines.items)
 unfolding line_facts
 facts-view kept texts k t = sym (ap (λ rs. facts_of_lines (placed rs) (texts_in kept.lines.items)) k.are_read ∙ ap (λ ts. facts_of_lines (placed (map reading_of ts)) ts) t)
 
--- a source tells of each line
+-- a source reports facts about each line
 pub length-facts : (texts : List (List ℕ)) → length (line_facts texts) ≡ length texts
 unfolding line_facts
 length-facts texts =
@@ -253,7 +253,7 @@ facts-at kept texts number line q bytes k t not_zero there noted long each =
     rw other
     (ap (λ fs. slice_get fs (number - 1)) (facts-view kept texts k t) ∙ facts-kept kept (number - 1) line q bytes k there noted long each ∙ ap (λ n. Some (facts_in n line.text q bytes)) again)
 
--- a source tells of no line of another number
+-- a source reports no facts about a line with another number
 pub none-at : (texts : List (List ℕ)) (number : ℕ) → (number ≡ 0 → ⊥) → length texts ≤ number - 1 → line_at texts number ≡ None
 none-at texts number not_zero past =
     let other : nat_eq number 0 ≡ false = ne_eqb number 0 not_zero in
@@ -269,20 +269,20 @@ line-at-place texts i =
     let same : i + 1 - 1 ≡ i = omega arith in
     rw (other, same) refl
 
--- Where the image stays as it is when a line is put in the place of one with the same effect.
+-- The places at which the image stays as it is when a line is replaced by one with the same effect.
 
 -- the image as it is kept
 abbrev pub kept-image : Kept → List ℕ
 kept-image kept = take (kept.layout.end - IMAGE_START) kept.image.items
 
--- it is the image of the lines where none has a fault
+-- the kept image is the image of the lines if no line has a fault
 pub image-kept : (kept : Kept) → IsKept kept → kept.layout.faults ≡ 0 → image_of (texts_kept kept) ≡ Some (kept-image kept)
 unfolding image_of
 image-kept kept k none =
     sym (image-made (lines_kept kept) kept.image.items (kept.layout.end - IMAGE_START) (omega (arith, image-room kept k, kept.image.ok.0)) (ap (λ n. n - IMAGE_START) k.laid_out.end_address)
     (sym none ∙ faults-counted kept.layout (lines_kept kept) k.laid_out) k.image.imaged ∙ ap image_of_lines k.are_read)
 
--- and else there is none
+-- if a line has a fault, there is no image
 image-after : (kept : Kept) → IsKept kept → (image : List ℕ) → image_of (texts_kept kept) ≡ Some image → image ≡ kept-image kept
 unfolding image_of
 image-after kept k image there =
@@ -321,7 +321,7 @@ module _ (old new : Kept) (q : Placement) (bytes : List ℕ) (was : IsKept old) 
           get_or_past (take size old.image.items) k 0 (omega (arith, length-take size old.image.items))
           ∙ sym (get_or_past (take size new.image.items) k 0 (omega (arith, length-take size new.image.items)))
 
-  -- if there was an image, that after it agrees with it outside the places that were written
+  -- if there was an image, the image after it agrees with it outside the places that were written
   pub agrees-outside : old.layout.faults ≡ 0 → AgreesOutside (q.here - IMAGE_START) (q.here - IMAGE_START + q.size) (image_of (texts_kept old)) (image_of (texts_kept new))
   unfolding IsOutside
   agrees-outside none = rw (image-kept old was none) (by (image_of (texts_kept new)) refl)

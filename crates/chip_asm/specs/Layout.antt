@@ -1,6 +1,6 @@
--- Words for what holds of a line of a source: what it says, what it gives, how much it takes, what
--- can be wrong with it (Chipper manual; own where it is silent). What holds of which line says
--- Places.
+-- Terms for the facts about a line of a source: its statement, the name that it gives, the bytes
+-- that it takes, and its possible faults (Chipper manual; where the manual is silent, chosen by
+-- this project). The file Places states which facts hold of which line.
 use Rattle.std.specs.Prelude.{ℕ, ◌+◌, ◌*◌, ◌%◌, ℤ, pos, unsigned_abs, int_lt, Bool, true, false, not, ◌&&◌, ◌||◌, List, [], ◌∷◌, length, Option, Some, None, is_some, is_none, Result, Ok, Err, if◌then◌else◌, nat_eq, nat_lt, ◌==◌, option_map}
 use Rattle.std.specs.List.{list_any}
 use Rattle.chip_lang.specs.declared.limits.TheConstants.{MEMORY_BYTES}
@@ -11,24 +11,24 @@ use Rattle.chip_lang.specs.Uses.{name_defined}
 use Rattle.chip_symbols.specs.declared.table.Symbol.{Symbol}
 use Rattle.chip_symbols.specs.Names.{Name, lookup_name, values_of}
 
--- what holds of a line in its source
+-- the facts about a line in its source
 pub record Placed : Type 0 where
   pub number : ℕ
   pub line : Reading
   -- the number of the last IF line that encloses it
   pub block : Option ℕ
-  -- of an IF line: whether its condition holds
+  -- for an IF line, whether its condition holds
   pub condition : Bool
   pub active : Bool
   pub here : ℕ
-  -- the value of its expression, where it is an EQU, ORG or DS line
+  -- the value of its expression, if it is an EQU, ORG or DS line
   pub value : ℤ
   pub fault : Option Fault
   pub size : ℕ
 
 -- kinds of lines
 
--- what the line says; one with a reading fault defines and encodes nothing
+-- the statement of a line; a line with a reading fault defines and encodes nothing
 abbrev pub body_of : Reading → Body
 body_of (bad fault) = empty
 body_of (read label body) = body
@@ -63,8 +63,8 @@ is_else p = is_else_body (body_of p.line)
 abbrev pub is_endif : Placed → Bool
 is_endif p = is_endif_body (body_of p.line)
 
--- an active line without a fault gives its name, moves the address and switches the alignment; an
--- IF without ENDIF, whose fault is found at the end, does none of it
+-- true for an active line without a fault: it gives its name, moves the address and switches the
+-- alignment; an IF without ENDIF, whose fault is found at the end, does none of this
 abbrev pub takes_effect : Placed → Bool
 takes_effect p = p.active && is_none p.fault
 
@@ -75,7 +75,7 @@ value_given here value (equ e) = value
 value_given here value define = pos 0
 value_given here value _ = pos here
 
--- the name that a line gives, with its value and the line's number
+-- the name that a line gives, with its value and the number of the line
 abbrev pub symbol_given : ℕ → ℕ → ℤ → Reading → Option (Name × Symbol)
 symbol_given number here value line =
     option_map
@@ -95,15 +95,15 @@ abbrev pub is_number : ℕ → Option ℕ → Bool
 is_number n None = false
 is_number n (Some m) = m == n
 
--- an ELSE that belongs to the IF stands before
+-- true if an ELSE that belongs to the IF comes before
 unfoldable pub has_else : List Placed → Placed → Bool
 has_else before opener = list_any (λ p. is_else p && is_number opener.number p.block) before
 
--- the condition of the IF holds on the side that is reached
+-- true if the condition of the IF holds on the side that is reached
 abbrev pub holds : List Placed → Placed → Bool
 holds before opener = if has_else before opener then not opener.condition else opener.condition
 
--- what the next line is, after the lines before it
+-- the next line, given the lines before it
 
 abbrev pub condition_of : List (Name × Symbol) → Body → Bool
 condition_of names (ifdef n) = is_some (lookup_name names n)
@@ -130,14 +130,14 @@ abbrev pub is_align_off_body : Body → Bool
 is_align_off_body (align on) = not on
 is_align_off_body _ = false
 
--- the value of the expression of an EQU, ORG or DS line; 0 for another line
+-- the value of the expression of an EQU, ORG or DS line; 0 for any other line
 unfoldable pub value_at : List (Name × Symbol) → Body → Result ℤ Fault
 value_at names (equ e) = value e (values_of names)
 value_at names (org e) = value e (values_of names)
 value_at names (ds e) = value e (values_of names)
 value_at names _ = Ok (pos 0)
 
--- the bytes of the line itself
+-- the number of bytes of the line itself
 abbrev pub own_size : Body → ℤ → ℕ
 own_size (code form operands) value = 2
 own_size (db es) value = length es
@@ -152,7 +152,7 @@ is_padded (da bytes) = true
 is_padded (ds e) = true
 is_padded _ = false
 
--- with one zero byte more where data would end at an odd address
+-- the number of padding bytes: one zero byte if data would end at an odd address, or else none
 abbrev pub padding : Bool → ℕ → Body → ℤ → ℕ
 padding aligning here body value =
     if aligning && is_padded body && nat_eq ((here + own_size body value) % 2) 1 then 1 else 0
@@ -160,7 +160,7 @@ padding aligning here body value =
 abbrev pub full_size : Bool → ℕ → Body → ℤ → ℕ
 full_size aligning here body value = own_size body value + padding aligning here body value
 
--- what can be wrong with a name or a value
+-- possible faults of a name or a value
 
 abbrev pub is_negative_space : Body → ℤ → Bool
 is_negative_space (ds e) value = int_lt value (pos 0)

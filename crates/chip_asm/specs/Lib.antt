@@ -1,18 +1,17 @@
--- What whole sources are: a reader believes these files.
+-- The definitions of whole sources, which a reader has to believe.
 --     Lines        the lines of a source, and whether it opens
 --     Edits        when an edit is refused
---     Layout       words for a line: what it says, which name it gives, how much it takes
---     Places       what holds of each line: whether it is active, where it stands, what is wrong with
---                  it
+--     Layout       terms for a line: its statement, the name that it gives, the bytes that it takes
+--     Places       the facts about each line: whether it is active, its address, its fault
 --     Program      names, faults and image of a source
---     LineViews    what a source tells of each line
+--     LineViews    the facts that a source reports about each line
 --     Listing      the listing
---     Work         which lines an edit makes encode anew
---     Sources      what contracts see of a source
+--     Work         the lines that are encoded anew because of an edit
+--     Sources      a source as contracts see it
 --     computed     functions that find what Places states as a relation; laws say that the two
 --                  agree
---     inner        what the functions inside say of what they keep; no public clause cites it, and
---                  a reader may skip it
+--     inner        definitions for private functions; no public clause cites them, and a reader may
+--                  skip them
 pub mod Edits
 pub mod Layout
 pub mod LineViews

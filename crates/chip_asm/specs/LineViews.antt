@@ -1,4 +1,5 @@
--- What a source tells of each of its lines (Chipper manual; own where it is silent).
+-- The facts that a source reports about each of its lines (Chipper manual; where the manual is
+-- silent, chosen by this project).
 use Rattle.std.specs.Prelude.{ℕ, ◌-◌, ℤ, pos, Bool, ◌&&◌, List, map, reverse, zip, Option, Some, None, is_none, if◌then◌else◌, nat_eq, slice_get, slice_index}
 use Rattle.std.specs.List.{range_with_len}
 use Rattle.chip_lang.specs.declared.fault.Fault.{Fault}
@@ -7,25 +8,25 @@ use Rattle.chip_asm.specs.Layout.{Placed, body_of}
 use Rattle.chip_asm.specs.Program.{bytes_in_code, code_under, fault_of}
 use Rattle.chip_asm.specs.computed.Walk.{placed}
 
--- what is told of a line
+-- the facts about a line
 pub record LineFacts : Type 0 where
-  -- counted from 1
+  -- the number of the line, counted from 1
   pub number : ℕ
   pub text : List ℕ
   pub active : Bool
-  -- where it stands, or would if it were active
+  -- the address of the line, or the one that it would have if it were active
   pub address : ℕ
-  -- the value of its expression, where it is an EQU, ORG or DS line
+  -- the value of the line's expression, if it is an EQU, ORG or DS line
   pub value : ℤ
   pub fault : Option Fault
-  -- those that it takes in the image
+  -- the bytes that the line takes in the image
   pub bytes : List ℕ
 
--- so many bytes: a line's own, and zeros past them
+-- a line's own bytes, and zeros after them, up to a size
 abbrev pub with_zeros : (size : ℕ) → (own : List ℕ) → List ℕ
 with_zeros size own = map (slice_index own) (range_with_len 0 size)
 
--- by what holds of a line among all, and its text
+-- the facts about a line, given how it is placed among all lines, and given its text
 abbrev pub facts_of : List Placed → Placed → (text : List ℕ) → LineFacts
 facts_of all p text =
     record {
@@ -41,22 +42,23 @@ facts_of all p text =
 abbrev pub facts_of_lines : List Placed → (texts : List (List ℕ)) → List LineFacts
 facts_of_lines all texts = map (λ e. facts_of all e.0 e.1) (zip (reverse all) texts)
 
--- of each line of the texts of a source, in line order
+-- the facts about each line, in line order, given the texts of a source
 unfoldable pub line_facts : (texts : List (List ℕ)) → List LineFacts
 line_facts texts = facts_of_lines (placed (map reading_of texts)) texts
 
--- of the line of a number, if there is one
+-- the facts about the line with a number, if there is one
 abbrev pub line_at : (texts : List (List ℕ)) → (number : ℕ) → Option LineFacts
 line_at texts number =
     if nat_eq number 0 then None else slice_get (line_facts texts) (number - 1)
 
--- the value that a body gives the name before it by EQU or DEFINE
+-- the value that a statement gives its name by EQU or DEFINE
 abbrev pub value_defined : ℤ → Body → Option ℤ
 value_defined value (equ e) = Some value
 value_defined value define = Some (pos 0)
 value_defined value _ = None
 
--- the value that an active line without a fault gives a name by EQU or DEFINE
+-- the value that an active line without a fault gives a name by EQU or DEFINE; none for any other
+-- line
 abbrev pub definition_of : LineFacts → Option ℤ
 definition_of f =
     if f.active && is_none f.fault

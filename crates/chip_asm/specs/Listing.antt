@@ -1,5 +1,5 @@
--- The listing of a source: a line for each line, with its number, its address, its bytes or value
--- or fault, and its text (own).
+-- The listing of a source: a row for each line, with its number, its address, its bytes or value or
+-- fault, and its text (chosen by this project).
 use Rattle.std.specs.Prelude.{ℕ, ◌-◌, ℤ, Bool, ◌&&◌, List, ◌∷◌, [], ◌++◌, length, map, min, replicate, Option, Some, None, is_none, if◌then◌else◌, nat_lt, codes, option_map, slice_index}
 use Rattle.std.specs.List.{flat_map, range_with_len}
 use Rattle.std.specs.Fmt.{decimal, signed_decimal}
@@ -8,7 +8,8 @@ use Rattle.chip_lang.specs.FaultNumber.{number_of_fault}
 use Rattle.chip_lang.specs.Show.{two_hex_digits, four_hex_digits}
 use Rattle.chip_asm.specs.LineViews.{LineFacts, definition_of, line_facts}
 
--- a text at the right of so many places, and at the left
+-- a text at the right of so many places, with spaces before it, and a text at the left, with spaces
+-- after it
 abbrev pub at_right : ℕ → List ℕ → List ℕ
 at_right places text = replicate (places - length text) 32 ++ text
 
@@ -19,28 +20,29 @@ at_left places text = text ++ replicate (places - length text) 32
 abbrev pub address_shown : Bool → ℕ → List ℕ
 address_shown active address = if active then four_hex_digits address else codes "----"
 
--- so many of the first bytes, with zeros past the last one
+-- the first `count` bytes in hexadecimal, with zeros past the last one
 abbrev pub bytes_shown : ℕ → List ℕ → List ℕ
 bytes_shown count bytes = flat_map two_hex_digits (map (slice_index bytes) (range_with_len 0 count))
 
--- what stands in the field of a line: its fault, the text of a value, or its first six bytes
+-- the field of a line: its fault, the text of a value, or its first six bytes
 abbrev pub field_shown : Option Fault → (value : Option (List ℕ)) → (bytes : List ℕ) → List ℕ
 field_shown (Some fault) value bytes = codes "F" ++ decimal (number_of_fault fault)
 field_shown None (Some text) bytes = codes "=" ++ text
 field_shown None None bytes = bytes_shown (min 6 (length bytes)) bytes
 
--- `+` where a line without a fault has more than six bytes
+-- `+` if a line without a fault has more than six bytes, or else a space
 abbrev pub more_shown : Option Fault → (size : ℕ) → ℕ
 more_shown fault size = if is_none fault && nat_lt 6 size then 43 else 32
 
--- the listing's line for a line, where the text of a value, if there is one, stands for its bytes
+-- the listing's row for a line, in which the text of a value, if there is one, replaces the line's
+-- bytes
 unfoldable pub row : (value : Option (List ℕ)) → LineFacts → List ℕ
 row value f =
     at_right 4 (decimal f.number) ++ 32 ∷ address_shown f.active f.address
     ++ 32 ∷ at_left 12 (field_shown f.fault value f.bytes)
     ++ more_shown f.fault (length f.bytes) ∷ 32 ∷ f.text ++ 10 ∷ []
 
--- the listing's line for a line, where the value of a definition is written so
+-- the listing's row for a line, in which `write` gives the text of a definition's value
 abbrev pub row_by : (write : ℤ → List ℕ) → LineFacts → List ℕ
 row_by write f = row (option_map write (definition_of f)) f
 

@@ -1,7 +1,7 @@
--- What holds of each line of a source, by its place in the list of all (Chipper manual; own where
--- it is silent): a relation between the lines and what holds of them. The laws say that what
--- `computed/Walk` finds line by line is in it, and nothing else. `before` has the lines before a
--- line, the first one first.
+-- The facts about each line of a source, by its place in the list of all lines (Chipper manual;
+-- where the manual is silent, chosen by this project): a relation between the lines and the facts
+-- about them. Laws say that the facts that `computed/Walk` finds line by line satisfy this
+-- relation, and that no other facts do. `before` has the lines before a line, the first one first.
 use Rattle.std.specs.Prelude.{◌≡◌, ℕ, ◌+◌, ◌-◌, ◌<◌, ◌≤◌, ◌⊎◌, ℤ, unsigned_abs, Bool, true, false, not, ◌&&◌, List, [], ◌∷◌, length, take, drop, Option, Some, None, is_some, Result, Ok, Err, if◌then◌else◌, sum_by, count_by, filter_map, slice_get, slice_index, Decides}
 use Rattle.std.specs.List.{list_any}
 use Rattle.chip_lang.specs.declared.limits.TheConstants.{IMAGE_START}
@@ -14,17 +14,17 @@ use Rattle.chip_symbols.specs.declared.table.Symbol.{Symbol}
 use Rattle.chip_symbols.specs.Names.{Name, values_of, is_redefinition}
 use Rattle.chip_asm.specs.Layout.{Placed, body_of, is_if, is_else, is_endif, is_else_body, is_side_or_end, is_number, is_origin, is_align, is_align_off_body, takes_effect, symbol_of, holds, has_ended, condition_of, value_at, value_or_zero, full_size, is_negative_space, is_backwards, is_past_end}
 
--- the line at place j is this one, and passes the test
+-- the line p is at place j, and passes the test
 pub record Passes (test : Placed → Bool) (before : List Placed) (j : ℕ) (p : Placed) : Type 0 where
   pub there : slice_get before j ≡ Some p
   pub passes : test p ≡ true
 
--- this line at place j fits, and no later one does
+-- the line p at place j fits, and no later line does
 pub record IsLast (Fits : ℕ → Placed → Type 0) (j : ℕ) (p : Placed) : Type 0 where
   pub fits : Fits j p
   pub latest : (k : ℕ) (q : Placed) → Fits k q → k ≤ j
 
--- x is what the last line that fits gives, and `other` where none does
+-- x is what the last line that fits gives; if no line fits, x is `other`
 pub record IsFromLast {X : Type 0} (Fits : ℕ → Placed → Type 0) (gives : ℕ → Placed → X)
     (other x : X) : Type 0 where
   pub from_last : (j : ℕ) (p : Placed) → IsLast Fits j p → x ≡ gives j p
@@ -32,8 +32,8 @@ pub record IsFromLast {X : Type 0} (Fits : ℕ → Placed → Type 0) (gives : �
 
 -- blocks
 
--- The IF line at place j encloses what follows: of the first n lines after it, for each n, no more
--- are ENDIF lines than IF lines.
+-- The IF line at place j encloses the lines that follow: for each n, the first n lines after it
+-- have at most as many ENDIF lines as IF lines.
 pub record Encloses (before : List Placed) (j : ℕ) (opener : Placed) : Type 0 where
   pub there : slice_get before j ≡ Some opener
   pub opens : is_if opener ≡ true
@@ -41,9 +41,9 @@ pub record Encloses (before : List Placed) (j : ℕ) (opener : Placed) : Type 0 
       → count_by is_endif (take n (drop (j + 1) before))
       ≤ count_by is_if (take n (drop (j + 1) before))
 
--- No line before is an active END. An ELSE or ENDIF is active where the last IF that encloses it
--- is, or none does; another line where the condition of each IF that encloses it holds on the side
--- that is reached.
+-- No line before is an active END. An ELSE or ENDIF is active if the last IF that encloses it is
+-- active, or if none encloses it. Any other line is active if the condition of each IF that
+-- encloses it holds on the side that is reached.
 pub record IsActive (before : List Placed) (body : Body) : Type 0 where
   pub not_ended : has_ended before ≡ false
   pub side_or_end : is_side_or_end body ≡ true
@@ -56,8 +56,8 @@ pub record IsActive (before : List Placed) (body : Body) : Type 0 where
 abbrev pub sizes : List Placed → ℕ
 sizes = sum_by (λ p. p.size)
 
--- the address after these lines: the value of the last ORG that takes effect, or where the image
--- stands, and the sizes since
+-- the address after these lines: the value of the last ORG that takes effect, or else the start of
+-- the image, plus the sizes of the lines since
 abbrev pub IsAfter : List Placed → ℕ → Type 0
 IsAfter before address =
     IsFromLast (Passes is_origin before)
@@ -78,13 +78,13 @@ abbrev pub fault_in_value : Result ℤ Fault → Option Fault
 fault_in_value (Err fault) = Some fault
 fault_in_value (Ok value) = None
 
--- an ELSE or ENDIF that no IF encloses, or an ELSE after another one of the same IF
+-- true for an ELSE or ENDIF that no IF encloses, and for an ELSE after another ELSE of the same IF
 abbrev pub is_stray : List Placed → Option ℕ → Body → Bool
 is_stray before None body = is_side_or_end body
 is_stray before (Some number) body =
     is_else_body body && list_any (λ q. is_else q && is_number number q.block) before
 
--- those of a line, in the order in which they are looked for
+-- the faults of a line, in the order in which they are looked for
 abbrev pub first_pass_faults : List Placed → Bool → Placed → List (Option Fault)
 first_pass_faults before aligning p =
     fault_of_reading p.line
@@ -96,7 +96,7 @@ first_pass_faults before aligning p =
     ∷ fault_if (is_past_end aligning p.here (body_of p.line) p.value) PastMemory
     ∷ []
 
--- what holds of a line after the lines before it
+-- the facts about a line, given the lines before it
 pub record IsPlaced (before : List Placed) (line : Reading) (p : Placed) : Type 0 where
   pub number : p.number ≡ length before + 1
   pub is_line : p.line ≡ line
@@ -106,7 +106,7 @@ pub record IsPlaced (before : List Placed) (line : Reading) (p : Placed) : Type 
   pub active : Decides p.active (IsActive before (body_of line))
   pub here : IsAfter before p.here
   pub value : p.value ≡ value_or_zero (value_at (names_given before) (body_of line))
-  -- the last ALIGN that takes effect is not OFF
+  -- whether the last ALIGN that takes effect is not OFF
   pub aligning : Bool
   pub is_aligning : IsFromLast (Passes is_align before)
       (λ j p. not (is_align_off_body (body_of p.line))) true aligning
@@ -114,7 +114,7 @@ pub record IsPlaced (before : List Placed) (line : Reading) (p : Placed) : Type 
   pub size : p.size
       ≡ (if takes_effect p then full_size aligning p.here (body_of line) p.value else 0)
 
--- what holds of each line of a source, in line order
+-- the facts about each line of a source, in line order
 pub record ArePlaced (lines : List Reading) (all : List Placed) : Type 0 where
   pub count : length all ≡ length lines
   pub each : (i : ℕ) (line : Reading) (p : Placed)
@@ -139,13 +139,13 @@ bytes_in_code (Err fault) = []
 abbrev pub code_with : List (Name × Symbol) → Reading → Result (List ℕ) Fault
 code_with names line = own_bytes (body_of line) (values_of names)
 
--- the same under all names
+-- the line's own bytes under the names of all lines, or its fault of the second pass
 abbrev pub code_among : List Placed → Placed → Result (List ℕ) Fault
 code_among all p = code_with (names_given all) p.line
 
 -- the image of a whole source, if no line has a fault: it reaches up to the address after the last
--- line; each line's own bytes stand at its address, zeros behind them up to its size, and zeros
--- where no line stands
+-- line; the own bytes of each line are at the line's address, with zeros after them up to the
+-- line's size; and there are zeros where no line is
 pub record IsImage (all : List Placed) (bytes : List ℕ) : Type 0 where
   pub up_to : IsAfter all (IMAGE_START + length bytes)
   pub of_line : (i k : ℕ) (p : Placed) → slice_get all i ≡ Some p → k < p.size
@@ -157,8 +157,8 @@ pub record IsImage (all : List Placed) (bytes : List ℕ) : Type 0 where
       → slice_index bytes k ≡ 0
 
 -- the fault of the line at place i of a whole source, if it has one: a line that isn't active has
--- none; else it is that of an IF without ENDIF, or that of the first pass, or that of the line's
--- own bytes
+-- none; an active line has the fault of an IF without ENDIF, or else the fault of the first pass,
+-- or else the fault of its own bytes
 pub record IsFaultOf (all : List Placed) (i : ℕ) (p : Placed) (fault : Option Fault) : Type 0 where
   pub not_active : p.active ≡ false → fault ≡ None
   pub unclosed : IsUnclosed all i p → fault ≡ Some UnclosedIf

@@ -1,4 +1,5 @@
--- What contracts see of a source: the texts of its lines, and the work done so far (own).
+-- A source as contracts see it: the texts of its lines, and the work done so far (chosen by this
+-- project).
 use Rattle.std.specs.Prelude.{ℕ, List}
 use Rattle.chip_lang.specs.declared.meter.Meter.{Meter}
 

@@ -1,3 +1,3 @@
--- Functions that find what the manual states as a relation; public laws say that the two agree,
--- both ways.
+-- Functions that compute what the manual states as a relation. Public laws say that the two agree
+-- in both directions.
 pub mod Walk

@@ -1,6 +1,6 @@
--- What the functions inside say: of the first pass in Blocks and Placements; of
--- kept lines in HeldText, KeptLine, Facts, Infos and Records; of their codes in Codes; of both passes
--- in Passes; of all of it in Kept.
+-- Definitions for private functions. Blocks and Placements are about the first pass; HeldText,
+-- KeptLine, Facts, Infos and Records are about kept lines; Codes is about the codes of lines;
+-- Passes is about both passes; and Kept is about all of it.
 pub mod Blocks
 pub mod Codes
 pub mod Facts

@@ -1,4 +1,4 @@
-//! The code of a line, in its place in the image.
+//! The code of a line and its place in the image.
 ghost use Rattle.std.specs.Prelude.{◌≡◌, ℕ, true, ◌+◌, ◌-◌, ◌<◌, ◌≤◌, ◌++◌, drop, if◌then◌else◌, length, slice_index, take};
 ghost use Rattle.chip_lang.specs.Code.{bytes_coded, code_length, code_of, fault_coded};
 ghost use Rattle.chip_lang.specs.Meter.{one_more};
@@ -17,7 +17,7 @@ use chip_lang::{Fault, Meter, encode_into};
 use chip_symbols::{OneName, Scope, Table};
 use std::ops::Range;
 
-/// The places of the bytes of a line in the image.
+/// The range of indexes in the image of the bytes of a line.
 pub(crate) fn places_of(placement: &Placement) -> Range<usize>
     requires { IMAGE_START ≤ placement.now.here }
     ensures start { result.start ≡ placement.now.here - IMAGE_START }
@@ -49,8 +49,8 @@ pub(crate) fn byte_or_zero(bytes: &[u8], index: usize) -> u8
     }
 }
 
-/// Encodes a line in its place: its own bytes, with zeros behind them, or zeros alone where it has a
-/// fault, which is answered.
+/// Encodes a line into `bytes`: its own bytes, and zeros after them. If the line has a fault, all
+/// bytes become zeros, and the fault is returned.
 #[inline(always)]
 fn encode_kept(
     meter: &mut Meter,
@@ -74,8 +74,8 @@ fn encode_kept(
     }
 }
 
-/// Encodes a line in its place in an image, or puts zeros there where it isn't accepted or has no
-/// code. The fault of its code, if it has one.
+/// Encodes a line at its place in an image, and returns the fault of its code, if it has one.
+/// Writes zeros there if the line isn't accepted or has no code.
 pub(crate) fn write_line(
     meter: &mut Meter,
     names: &Table,
@@ -105,7 +105,7 @@ pub(crate) fn write_line(
     }
 }
 
-/// Puts some items in the stead of those from a place on.
+/// Overwrites the items from index `at` on with these items.
 #[inline(never)]
 pub(crate) fn copy_to<T: Copy>(all: &mut [T], at: usize, items: &[T])
     requires { at + length items.now ≤ length all.old }
@@ -114,7 +114,7 @@ pub(crate) fn copy_to<T: Copy>(all: &mut [T], at: usize, items: &[T])
     all[at..at + items.len()].copy_from_slice(items);
 }
 
-/// Copies two bytes, those of an instruction, from one place to another.
+/// Copies the two bytes of an instruction from one place to another.
 #[inline(always)]
 pub(crate) fn copy_two(image: &mut [u8], to: usize, from: &[u8], at: usize)
     requires to { to + 2 ≤ length image.old }
@@ -127,8 +127,8 @@ pub(crate) fn copy_two(image: &mut [u8], to: usize, from: &[u8], at: usize)
     image[to + 1] = second;
 }
 
-/// Copies the code of a line from where it stood in one image to where it stands in another one, as
-/// far as there is room for it in both.
+/// Copies the code of a line from its place in one image to its place in another, as far as both
+/// have room for it.
 #[inline(never)]
 pub(crate) fn copy_code(was: &Placement, now: &Placement, from: &[u8], image: &mut [u8])
     requires was_low { IMAGE_START ≤ was.now.here }
@@ -150,8 +150,8 @@ pub(crate) fn copy_code(was: &Placement, now: &Placement, from: &[u8], image: &m
     }
 }
 
-/// Moves an accepted line, which takes its code along. Only data may have had another size. The
-/// address behind the line.
+/// Moves an accepted line, copies its code to its new place, and returns the address after it. Only
+/// data may have had another size.
 #[inline(always)]
 pub(crate) fn move_line(
     line: &mut Placement,
@@ -186,7 +186,8 @@ pub(crate) fn move_line(
     here
 }
 
-/// Copies so many first bytes of an image into another one, of which the others become zeros.
+/// Copies the first `end` bytes of an image into another one, and sets all other bytes there to
+/// zero.
 pub(crate) fn copy_front(image: &mut [u8], from: &[u8], end: usize)
     requires long { length image.old ≡ length from.now }
     requires end { end ≤ length from.now }

@@ -1,4 +1,4 @@
-//! Bytes cut into lines.
+//! Cutting bytes into lines.
 ghost use Rattle.std.specs.Prelude.{◌≡◌, ◌+◌, ◌<◌, ◌≤◌, ◌==◌, ◌++◌, ◌∷◌, [], ◌⊎◌, IfOk, IfErr, OnOk, length, None, Some, map};
 ghost use Rattle.std.specs.List.{position_or_len, after_first};
 ghost use Rattle.std.specs.Str.Lines.{strip_carriage_return};
@@ -21,7 +21,7 @@ use memchr::memchr;
 use std::alloc::{AllocError, Global};
 use std::rc::Rc;
 
-/// How many bytes stand before the first newline, or how many there are.
+/// The number of bytes before the first newline; of all bytes if there is no newline.
 fn line_length(bytes: &[u8]) -> usize
     ensures length { result ≡ position_or_len is_newline bytes.now }
     ensures bound { result ≤ length bytes.now }
@@ -44,7 +44,7 @@ fn without_return(text: &[u8]) -> &[u8]
     }
 }
 
-/// The text of the first line of bytes, and what follows that line.
+/// The text of the first line of some bytes, and the bytes after that line.
 fn first_line(bytes: &[u8]) -> (&[u8], &[u8])
     ensures text { result.0.now ≡ first_text bytes.now }
     ensures front { StartsWith bytes.now result.0.now }
@@ -60,7 +60,8 @@ fn first_line(bytes: &[u8]) -> (&[u8], &[u8])
     }
 }
 
-/// Reads a text that stands at a place of a shared source, as one more line.
+/// Reads a text, which begins at index `start` of a shared source, and appends it as a line. Fails
+/// only if memory runs out.
 fn push_line(
     alloc: Global,
     meter: &mut Meter,
@@ -88,7 +89,8 @@ fn push_line(
     Ok(())
 }
 
-/// Reads the lines of a source, in order, until one is too long or one too many.
+/// Reads the lines of a source in order. Fails at the first line that is too long or one too many,
+/// or if memory runs out.
 pub(crate) fn read_lines(
     alloc: Global,
     meter: &mut Meter,

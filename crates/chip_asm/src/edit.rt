@@ -1,24 +1,24 @@
-//! A change of one line, seen before it is made.
+//! Edits of the lines of a source, and what they change in lists with an item for each line.
 ghost use Rattle.std.specs.Prelude.{◌≡◌, ◌+◌, ◌<◌, ◌≤◌, slice_set, vec_len, vec_capacity};
 ghost use Rattle.chip_asm.specs.inner.Records.{IsPlaceWithin, count_after, items_after, lines_after, first_changed};
 
 use crate::kept_line::BoxedLine;
 use crate::limits::MOST_LINES;
 
-/// A change of one line; places count from 0.
+/// A change of one line, or the opening of a source. Places count from 0.
 #[derive(Drop)]
 pub(crate) enum Edit {
-    /// The line comes before the one at the place.
+    /// Puts the line before the line at the place.
     Insert(usize, BoxedLine),
-    /// The line takes the place of the one there.
+    /// Puts the line in the place of the line there.
     Replace(usize, BoxedLine),
-    /// The line at the place goes.
+    /// Removes the line at the place.
     Delete(usize),
-    /// There were no lines, and these come.
+    /// Puts these lines into a source that has none.
     Open(Vec<BoxedLine>),
 }
 
-/// How many lines there are after the edit.
+/// The number of lines after the edit.
 pub(crate) fn count_after(count: usize, edit: &Edit) -> usize
     requires { count ≤ MOST_LINES }
     ensures { result ≡ count_after count edit.now }
@@ -31,7 +31,7 @@ pub(crate) fn count_after(count: usize, edit: &Edit) -> usize
     }
 }
 
-/// A place before which the edit changes no line.
+/// The place where the edit begins; the lines before it stay.
 pub(crate) fn first_changed(edit: &Edit) -> usize
     ensures { result ≡ first_changed edit.now }
 {
@@ -41,8 +41,8 @@ pub(crate) fn first_changed(edit: &Edit) -> usize
     }
 }
 
-/// Makes the edit in what is kept of each line, in a list with room for it. What is known of a new
-/// line is handed in.
+/// Makes the edit in a list with one item for each line, which has room for the edit. `new` is the
+/// item for each new line.
 pub(crate) fn edit_items<T: Copy>(items: &mut Vec<T>, edit: &Edit, new: T)
     requires within { IsPlaceWithin (vec_len items.old) edit.now }
     requires room { vec_len items.old + count_after (vec_len items.old) edit.now
@@ -64,7 +64,7 @@ pub(crate) fn edit_items<T: Copy>(items: &mut Vec<T>, edit: &Edit, new: T)
     }
 }
 
-/// Makes the edit in a list with room for one line more.
+/// Makes the edit in a list of lines, which has room for one more line.
 pub(crate) fn make_edit(lines: &mut Vec<BoxedLine>, edit: Edit)
     requires within { IsPlaceWithin (vec_len lines.old) edit }
     requires room { vec_len lines.old < vec_capacity lines.old }

@@ -1,4 +1,4 @@
-//! What is kept of a source, and the one way in which an edit changes it.
+//! All that is kept of a source, and the one way in which an edit changes it.
 ghost use Rattle.std.specs.Prelude.{◌≡◌, List, ◌+◌, ◌<◌, ◌≤◌, [], slice_index_or, slice_set, OnOk, OnErr, IfOk, IfSome, length, vec_len};
 ghost use Rattle.chip_lang.specs.Line.{reading_of};
 ghost use Rattle.chip_asm.specs.Edits.{before_replace};
@@ -28,13 +28,13 @@ use std::alloc::{AllocError, Global};
 use std::mem;
 use std::ops::Range;
 
-/// Names are numbered anew where more than so many have a number, for each line and for so many
-/// lines more.
+/// Names are numbered anew if more names have a number than this many for each line and for each of
+/// `SPARE_LINES` more lines.
 const NAMES_A_LINE: usize = 4;
 
 const SPARE_LINES: usize = 16;
 
-/// Puts what is kept of some lines under other numbers in its place.
+/// Gives each line what is kept of it under another numbering of the names.
 fn set_infos(lines: &mut [BoxedLine], infos: &mut [Numbered])
     requires { length infos.old ≡ length lines.old }
     ensures texts { texts_in lines.new ≡ texts_in lines.old }
@@ -47,24 +47,24 @@ fn set_infos(lines: &mut [BoxedLine], infos: &mut [Numbered])
     }
 }
 
-/// The lines of a source, with all that is known of them.
+/// The lines of a source, and everything known about them.
 #[derive(Drop)]
 pub(crate) struct Kept {
     pub(crate) lines: Vec<BoxedLine>,
     pub(crate) names: Table,
     pub(crate) layout: Layout,
-    /// The byte at each address from `IMAGE_START` on, also where a line has a fault. Empty until
+    /// The byte at each address from `IMAGE_START` on, even if a line has a fault. Empty until
     /// there is a line.
     pub(crate) image: Vec<u8>,
-    /// Room for the image after an edit, and for the open blocks of a pass.
+    /// Room for the image after an edit. `blocks` is room for the open blocks of a pass.
     spare_image: Vec<u8>,
     blocks: Vec<Block>,
-    /// So many first lines are steady.
+    /// The number of lines at the front that are known to be steady.
     settled: usize,
 }
 
 impl Kept {
-    /// No lines, and a table without symbols.
+    /// A source without lines, with a table without symbols.
     pub(crate) fn new(alloc: Global, names: Table) -> Self
         requires { names.symbols ≡ [] }
         ensures names { result.names ≡ names }
@@ -82,8 +82,9 @@ impl Kept {
         }
     }
 
-    /// Makes an edit, and then numbers the names anew where there are many without a line. The
-    /// places that it wrote in the image, if they are known.
+    /// Makes an edit, and then numbers the names anew if many of them are in no line. Returns the
+    /// range of indexes that it wrote in the image, if that is known. Fails only if memory runs
+    /// out, and then changes no line.
     pub(crate) fn edit(
         &mut self,
         alloc: Global,
@@ -119,8 +120,8 @@ impl Kept {
         Ok(written)
     }
 
-    /// Numbers the names anew, where most of those with a number stand in no line any more. Where
-    /// memory runs out, the numbers stay.
+    /// Numbers the names anew if most names with a number are in no line any more. If memory runs
+    /// out, the numbers stay.
     fn renumber(&mut self, alloc: Global)
         requires { IsKept self.old }
         ensures kept { IsKept self.new }
@@ -136,7 +137,8 @@ impl Kept {
         }
     }
 
-    /// The table of the names that stand in lines, and what is kept of these lines under it.
+    /// A table of the names that are in lines, and what is kept of these lines under it. Fails only
+    /// if memory runs out.
     fn numbered_anew(&self, alloc: Global) -> Result<(Table, Vec<Numbered>), AllocError>
         ensures symbols { IfOk result (λ made. made.0.symbols ≡ self.now.names.symbols) }
         ensures infos { IfOk result (λ made. AreInfosOf made.0.keys made.1.items
@@ -151,8 +153,8 @@ impl Kept {
         Ok((names, infos))
     }
 
-    /// Puts a line in the place of one that is alike: its bytes, and whether it has a fault, are all
-    /// that changes. The places of its bytes in the image, if there was one.
+    /// Replaces a line by one that is alike, so that only its bytes change, and whether it has a
+    /// fault. Returns the range of indexes of its bytes in the image, if there was an image.
     fn rewrite(&mut self, meter: &mut Meter, at: usize, added: BoxedLine) -> Option<Range<usize>>
         requires kept { IsKept self.old }
         requires inside { at < vec_len self.old.lines }
@@ -188,7 +190,7 @@ impl Kept {
         }
     }
 
-    /// Takes the room for an edit after which there are so many lines.
+    /// Takes room for an edit after which there are `count` lines. Fails only if memory runs out.
     fn reserve(&mut self, count: usize) -> Result<(), AllocError>
         requires { IsKept self.old }
         ensures kept { IsKept self.new }
@@ -203,7 +205,8 @@ impl Kept {
         self.blocks.reserve(count)
     }
 
-    /// Makes an edit by both passes. Each allocation comes before the first change.
+    /// Makes an edit by both passes. Each allocation comes before the first change, so a failed
+    /// edit changes no line.
     pub(crate) fn remake(
         &mut self,
         alloc: Global,
@@ -230,7 +233,7 @@ impl Kept {
         Ok(())
     }
 
-    /// Makes an edit in the lines and in what is kept of each, where there is room for it.
+    /// Makes an edit in the lines and in what is kept of each line. There is room for it.
     fn exchange(&mut self, edit: Edit)
         requires within { IsPlaceWithin (vec_len self.old.lines) edit }
         requires placed_many { vec_len self.old.layout.placements ≡ vec_len self.old.lines }
@@ -253,8 +256,9 @@ impl Kept {
         make_edit(&mut self.lines, edit);
     }
 
-    /// The first pass, where the lines up to a place stay, and the next one stands at an address.
-    /// The image is that of before, as far as lines take their codes along.
+    /// Makes the first pass from the line `first` on, which has the address `here`; the lines
+    /// before it stay. The image then has the bytes from before the edit, as far as lines keep
+    /// their codes.
     fn first_pass(&mut self, alloc: Global, first: usize, here: usize) -> (Pass, Tally)
         requires { (e : Change) × IsExchanged e self.old first here }
         ensures lines { self.new.lines ≡ self.old.lines }
@@ -282,8 +286,8 @@ impl Kept {
         (pass, tally)
     }
 
-    /// Makes layout and codes by both passes, where the lines up to a place stay, and the next one
-    /// stands at an address.
+    /// Makes layout and codes by both passes from the line `first` on, which has the address
+    /// `here`; the lines before it stay.
     fn assemble(&mut self, alloc: Global, meter: &mut Meter, first: usize, here: usize)
         requires { (e : Change) × IsExchanged e self.old first here }
         ensures lines { self.new.lines ≡ self.old.lines }

@@ -1,4 +1,4 @@
-//! What is kept of a line.
+//! All that is kept of a line.
 ghost use Rattle.std.specs.Prelude.{◌≡◌, ◌+◌, ◌≤◌, List, Ok, IfOk, length};
 ghost use Rattle.chip_lang.specs.Line.{reading_of};
 ghost use Rattle.chip_lang.specs.SeenLine.{seen_line};
@@ -24,24 +24,24 @@ use std::{mem, slice};
 pub(crate) struct ReadLine {
     pub(crate) text: LineText,
     pub(crate) line: Line,
-    /// The numbers of the names that it uses, where there are several, or of the one that it asks
-    /// for.
+    /// The numbers of the names that the line uses, if it uses several, or of the name that its
+    /// IFDEF or IFUND asks for.
     pub(crate) several: Vec<NameId>,
 }
 
-/// How a line is held.
+/// The way in which a line is stored.
 #[derive(Drop)]
 pub(crate) enum HeldLine {
-    /// A line that is blank or only a comment, as so many bytes of those that were read together,
-    /// from a place on.
+    /// A line that is blank or only a comment: the number of its bytes, and the index where they
+    /// begin in the bytes that were read together.
     Nothing(u16, u32, Rc<SharedSource>),
     /// Any line.
     Boxed(Box<ReadLine>),
 }
 
-/// A line of the source. It stands behind a pointer, so that an edit, which moves lines, moves little.
-/// Many lines are blank or of a comment alone: where these were read with others, they take no room of
-/// their own.
+/// A line of the source. The line is stored behind a pointer, so an edit, which moves lines, moves
+/// little. Many lines are blank or only a comment: if they were read with others, they take no room
+/// of their own.
 #[derive(Drop)]
 pub(crate) struct BoxedLine {
     held: HeldLine,
@@ -64,7 +64,8 @@ impl Model for BoxedLine {
 }
 
 impl BoxedLine {
-    /// A line of a text and its reading, whose names get their numbers.
+    /// A line with this text and this reading, whose names get numbers. Fails only if memory runs
+    /// out.
     #[inline(always)]
     fn new(alloc: Global, table: &mut Table, text: LineText, line: Line) -> Result<Self, AllocError>
         ensures text { IfOk result (λ kept. kept.text ≡ text) }
@@ -106,7 +107,7 @@ impl BoxedLine {
         }
     }
 
-    /// What steps over all lines ask of it.
+    /// The facts about the line that steps over all lines need.
     #[inline]
     pub(crate) fn info(&self) -> LineInfo
         ensures { result ≡ self.now.info }
@@ -114,7 +115,8 @@ impl BoxedLine {
         self.info
     }
 
-    /// The numbers of the names that it uses, or else of the one that it asks for.
+    /// The numbers of the names that the line uses, or else of the name that its IFDEF or IFUND
+    /// asks for.
     #[inline]
     pub(crate) fn numbers(&self) -> &[NameId]
         ensures { self.now.info.uses ≡ Several → result.now ≡ numbers_in self.now }
@@ -128,7 +130,7 @@ impl BoxedLine {
         }
     }
 
-    /// Puts other numbers in the place of those of its names.
+    /// Replaces the numbers of the line's names.
     pub(crate) fn renumber(&mut self, made: &mut Numbered)
         ensures text { self.new.text ≡ self.old.text }
         ensures line { self.new.line ≡ self.old.line }
@@ -143,7 +145,7 @@ impl BoxedLine {
     }
 }
 
-/// Reads a text, of which a copy is kept. Its names get their numbers.
+/// Reads a text and keeps a copy of it. The names in it get numbers. Fails only if memory runs out.
 pub(crate) fn read_kept(
     alloc: Global,
     meter: &mut Meter,
@@ -163,7 +165,8 @@ pub(crate) fn read_kept(
     BoxedLine::new(alloc, table, text, line)
 }
 
-/// Reads a text that stands at a place of a shared source. Its names get their numbers.
+/// Reads a text that begins at index `start` of a shared source. The names in it get numbers. Fails
+/// only if memory runs out.
 #[inline]
 pub(crate) fn read_part(
     alloc: Global,

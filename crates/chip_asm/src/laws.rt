@@ -8,7 +8,7 @@ ghost use Rattle.chip_asm.specs.computed.Walk.{placed};
 ghost use Rattle.chip_asm.specs.Places.{ArePlaced, IsFaultOf, IsImage, IsUnclosed, names_given};
 ghost use Rattle.chip_asm.specs.Program.{symbols_of, fault_at, image_of, covers, is_unclosed};
 
-/// No name stands twice among the names that a source gives.
+/// No name occurs twice among the names that a source gives.
 pub fn names_differ()
     ensures { (texts : List (List ℕ))
         → IsDistinct bytes_eq (map (λ symbol. symbol.0) (symbols_of texts)) }
@@ -20,37 +20,38 @@ pub fn one_line_covers()
         → length (filter (covers address) (placed (map reading_of texts))) ≤ 1 }
 {}
 
-/// What holds of the lines of a source one after another is what holds of them by place.
+/// The facts that `placed` finds about lines, line by line, satisfy the relation `ArePlaced`, which
+/// states them by place.
 pub fn lines_are_placed()
     ensures { (lines : List Reading) → ArePlaced lines (reverse (placed lines)) }
 {}
 
-/// Nothing else holds of them by place.
+/// No other facts satisfy `ArePlaced`.
 pub fn only_these_are_placed()
     ensures { (lines : List Reading) (all : List Placed) → ArePlaced lines all
         → all ≡ reverse (placed lines) }
 {}
 
-/// The IF lines without ENDIF, by place.
+/// The IF lines without ENDIF are those that `IsUnclosed` states by place.
 pub fn unclosed_by_place()
     ensures { (lines : List Reading) (i : ℕ) (p : Placed)
         → slice_get (reverse (placed lines)) i ≡ Some p
         → Decides (is_unclosed (placed lines) p) (IsUnclosed (reverse (placed lines)) i p) }
 {}
 
-/// The names that a source gives, by place.
+/// The names that a source gives are those that its lines give, by place.
 pub fn names_by_place()
     ensures { (texts : List (List ℕ)) (all : List Placed) → ArePlaced (map reading_of texts) all
         → symbols_of texts ≡ names_given all }
 {}
 
-/// The image of a source, by place.
+/// The image of a source is the one that `IsImage` states by place.
 pub fn image_by_place()
     ensures { (texts : List (List ℕ)) (bytes : List ℕ) (all : List Placed)
         → image_of texts ≡ Some bytes → ArePlaced (map reading_of texts) all → IsImage all bytes }
 {}
 
-/// The fault of a line of a source, by place.
+/// The fault of a line of a source is the one that `IsFaultOf` states by place.
 pub fn fault_by_place()
     ensures { (texts : List (List ℕ)) (all : List Placed) (i : ℕ) (p : Placed)
         → ArePlaced (map reading_of texts) all → slice_get all i ≡ Some p

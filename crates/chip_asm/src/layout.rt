@@ -1,4 +1,4 @@
-//! What the passes find of all lines.
+//! The results of the passes for all lines.
 ghost use Rattle.std.specs.Prelude.{◌≡◌, ◌<◌, ◌≤◌, [], List, Some, length, slice_index_or, slice_set, take, true};
 ghost use Rattle.std.specs.List.{list_all};
 ghost use Rattle.chip_lang.specs.Line.{Reading};
@@ -14,12 +14,12 @@ use chip_lang::limits::IMAGE_START;
 use std::alloc::Global;
 use std::ops::Range;
 
-/// What the passes find: what holds of each line, and the address after the last line.
+/// The results of the passes: the placement of each line, and the address after the last line.
 #[derive(Drop)]
 pub(crate) struct Layout {
     pub(crate) placements: Vec<Placement>,
     pub(crate) end: usize,
-    /// How many lines have a fault.
+    /// The number of lines with a fault.
     pub(crate) faults: usize,
 }
 
@@ -36,7 +36,7 @@ impl Layout {
         }
     }
 
-    /// The address at which the line at a place stands, or that after the last line.
+    /// The address of the line at a place; past the last line, the address after it.
     pub(crate) fn address_at(&self, place: usize) -> usize
         ensures { (lines : List Reading) → IsLayoutOf self.now lines → place ≤ length lines
             → result ≡ address (placed (take place lines)) }
@@ -48,7 +48,8 @@ impl Layout {
     }
 }
 
-/// How many lines have a fault, and between which places all lines stand that wait for their codes.
+/// The number of lines with a fault, and a range of places that contains all lines that wait for
+/// their codes.
 #[derive(Clone, Copy)]
 pub(crate) struct Tally {
     pub(crate) faults: usize,
@@ -57,7 +58,7 @@ pub(crate) struct Tally {
 }
 
 impl Tally {
-    /// The tally of lines of which so many have a fault and none waits.
+    /// The tally of lines of which `faults` have a fault and none waits.
     pub(crate) fn new(faults: usize) -> Tally
         ensures faults { result.faults ≡ faults }
         ensures end { result.end ≡ 0 }
@@ -69,8 +70,7 @@ impl Tally {
         }
     }
 
-    /// Puts what is found of a line, which may wait for its code, in the place of what was known of
-    /// it.
+    /// Replaces the placement of a line, which may wait for its code, by a new one.
     #[inline(always)]
     pub(crate) fn put(&mut self, placements: &mut [Placement], at: usize, new: Placement)
         requires there { at < length placements.old }
@@ -87,7 +87,7 @@ impl Tally {
         self.faults = others + new.count();
     }
 
-    /// Puts the fault of the code of an accepted line, or none, in the place of what was known of it.
+    /// Sets the fault of the code of an accepted line, or that it has none.
     #[inline(always)]
     pub(crate) fn put_code(&mut self, placements: &mut [Placement], at: usize, fault: Option<Fault>)
         requires there { at < length placements.old }
@@ -105,7 +105,7 @@ impl Tally {
         self.put(placements, at, Placement { status, ..was });
     }
 
-    /// The places between which all lines stand that wait.
+    /// A range of places that contains all waiting lines.
     pub(crate) fn range(&self) -> Range<usize>
         ensures ordered { result.start ≤ result.end }
         ensures within { result.end ≤ self.now.end }
@@ -120,8 +120,8 @@ impl Tally {
     }
 }
 
-/// Gives the active IF lines that no ENDIF closes their fault. The line of a number stands at the
-/// place before it.
+/// Marks each active IF that lacks an ENDIF, unless an active END came. Lines count from 1,
+/// placements from 0.
 pub(crate) fn mark_unclosed(
     placements: &mut [Placement],
     tally: &mut Tally,

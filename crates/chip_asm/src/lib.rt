@@ -1,4 +1,5 @@
-//! Whole sources of the Chipper assembler: layout, names, faults and image, kept under edits.
+//! Whole sources of the Chipper assembler: layout, names, faults and image, kept up to date under
+//! edits.
 #![tactic(auto)]
 
 mod assemble;

@@ -1,10 +1,11 @@
-//! The limits of a source, each under one name. Those of its image stand in chip_lang.
+//! The limits of a source, each under one name. The limits of its image are in chip_lang.
 
-/// How many lines a source has at most.
+/// The greatest number of lines of a source.
 pub const MOST_LINES: usize = 4000;
 
-/// How many bytes a line has at most.
+/// The greatest number of bytes of a line.
 pub const LINE_BYTES: usize = 200;
 
-/// How many bytes a source has at most, where each line ends with a carriage return and a newline.
+/// The greatest number of bytes of a source in which each line ends with a carriage return and a
+/// newline.
 pub const SOURCE_BYTES: usize = MOST_LINES * (LINE_BYTES + 2);

@@ -1,4 +1,4 @@
-//! What is kept of a line beside its reading, for steps over all lines.
+//! Facts that are kept of a line beside its reading, for steps over all lines.
 ghost use Rattle.std.specs.Prelude.{◌≡◌, ◌+◌, ◌++◌, ◌-◌, ◌<◌, ◌≤◌, ◌^◌, ◌%◌, ◌&&◌, if◌then◌else◌, nat_eq, List, IfOk, IfSome, OnOk, true, false};
 ghost use Rattle.chip_lang.specs.Line.{Reading};
 ghost use Rattle.chip_lang.specs.SeenLine.{seen_body, seen_line};
@@ -14,44 +14,44 @@ use chip_lang::{Body, Line, UsedNames, defines, used_names};
 use chip_symbols::{NameId, Table};
 use std::alloc::{AllocError, Global};
 
-/// What is known of the names in a line's expressions.
+/// The names in a line's expressions.
 #[derive(Clone, Copy)]
 pub(crate) enum Uses {
-    /// There is none.
+    /// No name.
     Nothing,
-    /// There is this one, once.
+    /// Only this name, once.
     One(NameId),
-    /// There are several.
+    /// Several names, or one name several times.
     Several,
 }
 
 /// The space that a line takes.
 #[derive(Clone, Copy)]
 pub(crate) enum Space {
-    /// Two bytes, if it has any of its own.
+    /// Two bytes, if the line has any of its own.
     Short,
-    /// So many bytes of data, and whether there is one more where it would end at an odd address.
+    /// Data of so many bytes, and whether one more byte is added if it would end at an odd address.
     Data(u16, bool),
-    /// The first pass asks more than its size and its name.
+    /// The first pass has to know more than the line's size and its name.
     Asked,
 }
 
-/// What steps over all lines ask of a line.
+/// The facts about a line that steps over all lines need.
 #[derive(Clone, Copy)]
 pub(crate) struct LineInfo {
-    /// The space that it takes.
+    /// The space that the line takes.
     pub(crate) space: Space,
-    /// Whether it has bytes of its own.
+    /// Whether the line has bytes of its own.
     pub(crate) is_coded: bool,
-    /// Whether it opens no block, ends no source and switches no alignment.
+    /// Whether the line opens no block, ends no source and switches no alignment.
     pub(crate) is_steady: bool,
-    /// The name that it gives, if it is accepted.
+    /// The name that the line gives, if it is accepted.
     pub(crate) defines: Option<NameId>,
-    /// What is known of the names that it uses.
+    /// The names that the line uses.
     pub(crate) uses: Uses,
 }
 
-/// The bytes of a statement itself.
+/// The number of bytes of a statement itself, without padding.
 pub(crate) fn size_of_body(body: &Body, value: i32) -> usize
     ensures size { result ≡ own_size (seen_body body.now) value }
     ensures bound { result < 2 ^ 64 - 1 }
@@ -116,7 +116,7 @@ fn is_steady(line: &Line) -> bool
     )
 }
 
-/// The number of the name that a line gives.
+/// The number of the name that a line gives, if it gives one. Fails only if memory runs out.
 fn number_defined(
     alloc: Global,
     table: &mut Table,
@@ -137,7 +137,7 @@ fn number_defined(
     }
 }
 
-/// Adds the numbers of names.
+/// Appends the numbers of names. Fails only if memory runs out.
 fn push_numbers(
     alloc: Global,
     table: &mut Table,
@@ -157,8 +157,8 @@ fn push_numbers(
     Ok(())
 }
 
-/// What is known of the names that a line uses, and the numbers of several, or of the one that it
-/// asks for.
+/// The names that a line uses, and the numbers of several names, or of the name that its IFDEF or
+/// IFUND asks for. Fails only if memory runs out.
 fn uses_of(alloc: Global, table: &mut Table, line: &Line) -> Result<(Uses, Vec<NameId>), AllocError>
     ensures keys { Extends table.old.keys table.new.keys }
     ensures symbols { table.new.symbols ≡ table.old.symbols }
@@ -187,7 +187,8 @@ fn uses_of(alloc: Global, table: &mut Table, line: &Line) -> Result<(Uses, Vec<N
     Ok((Uses::Several, numbers))
 }
 
-/// The size at an address of what may be padded.
+/// The size of a statement at an address: one more byte if `is_padded` and the statement would end
+/// at an odd address.
 pub(crate) fn padded_size(size: usize, is_padded: bool, here: usize) -> usize
     requires here { here ≤ MEMORY_BYTES }
     requires size { size < 2 ^ 64 - 1 }
@@ -200,17 +201,17 @@ pub(crate) fn padded_size(size: usize, is_padded: bool, here: usize) -> usize
     }
 }
 
-/// What is known of a line whose names have numbers.
+/// The facts about a line whose names have numbers.
 #[derive(Drop)]
 pub(crate) struct Numbered {
     pub(crate) info: LineInfo,
-    /// The numbers of the names that it uses, where there are several, or of the one that it asks
-    /// for.
+    /// The numbers of the names that the line uses, if it uses several, or of the name that its
+    /// IFDEF or IFUND asks for.
     pub(crate) several: Vec<NameId>,
 }
 
 impl LineInfo {
-    /// What is kept of a line that is blank or only a comment.
+    /// The facts about a line that is blank or only a comment.
     pub(crate) const NOTHING: LineInfo = LineInfo {
         space: Space::Short,
         is_coded: false,
@@ -219,7 +220,7 @@ impl LineInfo {
         uses: Uses::Nothing,
     };
 
-    /// What is kept of a line, whose names get their numbers.
+    /// The facts about a line, whose names get numbers. Fails only if memory runs out.
     pub(crate) fn of(alloc: Global, table: &mut Table, line: &Line) -> Result<Numbered, AllocError>
         ensures keys { Extends table.old.keys table.new.keys }
         ensures symbols { table.new.symbols ≡ table.old.symbols }
@@ -239,9 +240,10 @@ impl LineInfo {
         Ok(Numbered { info, several })
     }
 
-    /// The size that a line takes at an address, active or not, and the name that it gives then, if
-    /// the first pass asks nothing else of it, and there is room for it. Of active lines only short
-    /// ones are asked for, or only data.
+    /// The size that a line takes at an address, active or not, and the name that it then gives.
+    /// None if the first pass has to know more about the line, or if there is no room for it. For
+    /// an active line the result is also none unless the line is short, if `short`, or data, if
+    /// not.
     #[inline(always)]
     pub(crate) fn plain(
         self,
@@ -278,8 +280,8 @@ impl LineInfo {
         }
     }
 
-    /// Whether two lines give the same name, take the same space, and the first pass asks nothing
-    /// else of them. Then one in the place of the other changes nothing else.
+    /// Whether two lines give the same name and take the same space, and the first pass has to know
+    /// nothing else about them. Replacing one by the other then changes nothing else.
     pub(crate) fn is_alike(self, other: LineInfo) -> bool
         ensures { (keys : List Name) (few several : List NameId) (old new : Reading)
             → IsInfo keys self few old → IsInfo keys other several new → result ≡ true

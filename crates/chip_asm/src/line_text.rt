@@ -1,4 +1,4 @@
-//! The text of a line: bytes of its own, or a part of those that were read together.
+//! The text of a line: bytes of its own, or a part of the bytes that were read together.
 ghost use Rattle.std.specs.Prelude.{◌≡◌, ◌+◌, ◌≤◌, IfOk, length};
 ghost use Rattle.chip_asm.specs.inner.HeldText.{SaysNothing, part_from};
 
@@ -7,8 +7,8 @@ use std::alloc::{AllocError, Global};
 use std::marker::Model;
 use std::rc::Rc;
 
-/// What lines that are read together share: the bytes with their texts, and a line that says
-/// nothing.
+/// The data shared by lines that were read together: the bytes with their texts, and a line that
+/// says nothing.
 #[derive(Drop)]
 pub(crate) struct SharedSource {
     pub(crate) bytes: Bytes,
@@ -16,7 +16,7 @@ pub(crate) struct SharedSource {
 }
 
 impl SharedSource {
-    /// These bytes, to be shared.
+    /// A shared source of these bytes. Fails only if memory runs out.
     pub(crate) fn new(alloc: Global, bytes: Vec<u8>) -> Result<Rc<SharedSource>, AllocError>
         ensures bytes { IfOk result (λ source. source.value.bytes ≡ bytes.items) }
         ensures nothing { IfOk result (λ source. SaysNothing source.value.nothing) }
@@ -31,7 +31,7 @@ impl SharedSource {
         Ok(Rc::new(alloc, source)?)
     }
 
-    /// So many of the bytes, from a place on.
+    /// The part of the bytes with `count` bytes from index `start` on.
     pub(crate) fn part(&self, start: u32, count: u16) -> &[u8]
         requires { start + count ≤ length self.now.bytes }
         ensures { result.now ≡ part_from self.now.bytes start count }
@@ -41,12 +41,13 @@ impl SharedSource {
     }
 }
 
-/// How a text is held.
+/// The way in which a text is stored.
 #[derive(Drop)]
 pub(crate) enum HeldText {
-    /// By itself.
+    /// Bytes of its own.
     Own(Bytes),
-    /// As so many bytes of those that were read together, from a place on.
+    /// A part of the bytes that were read together: the index where it begins, and its number of
+    /// bytes.
     Part(Rc<SharedSource>, u32, u16),
 }
 
@@ -68,7 +69,7 @@ impl Model for LineText {
 }
 
 impl LineText {
-    /// A copy of these bytes.
+    /// A copy of these bytes. Fails only if memory runs out.
     pub(crate) fn own(alloc: Global, text: &[u8]) -> Result<LineText, AllocError>
         ensures { IfOk result (λ copy. copy ≡ text.now) }
     {
@@ -78,7 +79,7 @@ impl LineText {
         })
     }
 
-    /// So many of the bytes that were read together, from a place on.
+    /// The part with `count` bytes, from index `start` on, of bytes that were read together.
     pub(crate) fn part(source: Rc<SharedSource>, start: u32, count: u16) -> LineText
         requires { start + count ≤ length source.value.bytes }
         ensures { result ≡ part_from source.value.bytes start count }

@@ -1,4 +1,4 @@
-//! What a source tells of a line.
+//! The facts that a source reports about a line.
 ghost use Rattle.std.specs.Prelude.{◌≡◌, ◌<◌, ◌≤◌, IfOk, length};
 ghost use Rattle.chip_lang.specs.FaultPlace.{mnemonic_of, span_of_fault};
 ghost use Rattle.chip_lang.specs.Line.{reading_of};
@@ -16,7 +16,7 @@ use chip_lang::{Body, Bytes, Fault, Line, Span, Token, fault_span, mnemonic_of, 
 use std::alloc::{AllocError, Global};
 use std::marker::Model;
 
-/// A line of a source, and what holds of it there. It is lent by the source.
+/// A line of a source and the facts about it there, borrowed from the source.
 #[derive(Drop)]
 pub struct LineView<'a> {
     pub(crate) number: usize,
@@ -38,7 +38,8 @@ impl<'a> Model for LineView<'a> {
 }
 
 impl<'a> LineView<'a> {
-    /// The view of a kept line of a number, which is placed so and takes these bytes of the image.
+    /// The view of the kept line with this number and placement, which takes these bytes of the
+    /// image.
     pub(crate) fn of(
         number: usize,
         kept: &'a BoxedLine,
@@ -67,22 +68,22 @@ impl<'a> LineView<'a> {
         self.number
     }
 
-    /// The text of the line, without its end.
+    /// The text of the line, without its line end.
     pub fn text(&self) -> &'a [u8]
         ensures { result.now ≡ self.now.text }
     {
         self.text
     }
 
-    /// What the text says.
+    /// The reading of the text.
     pub fn reading(&self) -> &'a Line
         ensures { seen_line result.now ≡ reading_of self.now.text }
     {
         self.reading
     }
 
-    /// The tokens of the text: one list, each token at its place, in rising order. Err where memory
-    /// ran out.
+    /// The tokens of the text in rising order, each with its place. A text has exactly one such
+    /// list. Fails only if memory runs out.
     pub fn tokens(&self, alloc: Global) -> Result<Vec<Token>, AllocError>
         ensures list { IfOk result (λ tokens. tokens.items ≡ tokens_of self.now.text) }
         ensures placed { IfOk result (λ tokens. AreTokens self.now.text 0 tokens.items) }
@@ -90,16 +91,16 @@ impl<'a> LineView<'a> {
         tokens(alloc, self.text)
     }
 
-    /// The mnemonic with which the statement begins, in upper case, if it begins with one. Err where
-    /// memory ran out.
+    /// The mnemonic that the statement begins with, in upper case; none if it begins with no
+    /// mnemonic. Fails only if memory runs out.
     pub fn mnemonic(&self, alloc: Global) -> Result<Option<Bytes>, AllocError>
         ensures { IfOk result (λ mnemonic. mnemonic ≡ mnemonic_of self.now.text) }
     {
         mnemonic_of(alloc, self.text)
     }
 
-    /// Where in the text a fault of it lies, as the table `place_of_fault` says. Err where memory ran
-    /// out.
+    /// The part of the text at which a fault of it lies, as the table `place_of_fault` says. Fails
+    /// only if memory runs out.
     pub fn span_of(&self, alloc: Global, fault: Fault) -> Result<Span, AllocError>
         ensures span { IfOk result (λ span. span ≡ span_of_fault fault self.now.text) }
         ensures rises { IfOk result (λ span. span.start ≤ span.end) }
@@ -108,14 +109,14 @@ impl<'a> LineView<'a> {
         fault_span(alloc, self.text, fault)
     }
 
-    /// Whether the line is active: no IF block leaves it out, and no END stands before it.
+    /// Whether the line is active: no IF block leaves it out, and no END comes before it.
     pub fn is_active(&self) -> bool
         ensures { result ≡ self.now.active }
     {
         self.placement.is_active()
     }
 
-    /// The address at which the line stands, or would if it were active.
+    /// The address of the line, or the one that it would have if it were active.
     pub fn address(&self) -> usize
         ensures value { result ≡ self.now.address }
         ensures bound { result ≤ MEMORY_BYTES }
@@ -123,37 +124,38 @@ impl<'a> LineView<'a> {
         self.placement.address()
     }
 
-    /// The value of the expression of an EQU, ORG or DS line; 0 where it has none, and for another
-    /// line.
+    /// The value of the expression of an EQU, ORG or DS line; 0 if the expression has no value, and
+    /// for any other line.
     pub fn value(&self) -> i32
         ensures { result ≡ self.now.value }
     {
         self.placement.value
     }
 
-    /// The fault of the line.
+    /// The fault of the line, if it has one.
     pub fn fault(&self) -> Option<Fault>
         ensures { result ≡ self.now.fault }
     {
         self.placement.status.fault()
     }
 
-    /// The bytes that the line takes in the image: its own, and zeros up to its size. An inactive
-    /// line and one with a fault of the first pass take none.
+    /// The bytes that the line takes in the image: its own bytes, and zeros up to its size. An
+    /// inactive line and a line with a fault of the first pass take none.
     pub fn bytes(&self) -> &'a [u8]
         ensures { result.now ≡ self.now.bytes }
     {
         self.bytes
     }
 
-    /// How many bytes the line takes.
+    /// The number of bytes that the line takes.
     pub fn size(&self) -> usize
         ensures { result ≡ length self.now.bytes }
     {
         self.bytes.len()
     }
 
-    /// The value that an active line without a fault gives a name by EQU or DEFINE.
+    /// The value that an active line without a fault gives a name by EQU or DEFINE; none for any
+    /// other line.
     pub fn definition(&self) -> Option<i32>
         ensures { result ≡ definition_of self.now }
     {

@@ -1,4 +1,4 @@
-//! The lines of a listing.
+//! The rows of a listing.
 ghost use Rattle.std.specs.Prelude.{◌≡◌, ◌+◌, ◌<◌, ◌≤◌, ◌++◌, ◌∷◌, [], OnOk, length};
 ghost use Rattle.std.specs.Fmt.{decimal, signed_decimal};
 ghost use Rattle.std.specs.Option.{option_copied};
@@ -11,10 +11,10 @@ use chip_lang::{Fault, byte_digits, word_digits};
 use itoa::Buffer;
 use std::alloc::AllocError;
 
-// As many spaces as the field of a listing has places.
+// As many spaces as the field of a row is wide.
 const SPACES: [u8; 12] = [b' '; 12];
 
-/// A digit below 10.
+/// The digit of a number below 10.
 fn digit(value: usize) -> u8
     requires { value ≤ 9 }
     ensures { result ≡ 48 + value }
@@ -22,7 +22,7 @@ fn digit(value: usize) -> u8
     b'0' + value as u8
 }
 
-/// A number below 10,000 in decimal, at the right of four places.
+/// A number below 10,000 in decimal, right-aligned in four columns.
 fn number_text(number: usize) -> [u8; 4]
     requires { number < 10000 }
     ensures text { result ≡ at_right 4 (decimal number) }
@@ -43,7 +43,7 @@ fn number_text(number: usize) -> [u8; 4]
     [digit(thousands), third, second, ones]
 }
 
-/// The address of a line.
+/// The address of a line in four hexadecimal digits; four dashes if the line isn't active.
 fn address_text(active: bool, here: u16) -> [u8; 4]
     ensures text { result ≡ address_shown active here }
     ensures places { length result ≡ 4 }
@@ -51,7 +51,7 @@ fn address_text(active: bool, here: u16) -> [u8; 4]
     if active { word_digits(here) } else { *b"----" }
 }
 
-/// Appends a sign and digits, at the left of the field, the sign after it, and a space.
+/// Appends a sign and digits, left-aligned in the field, then the sign `more` and a space.
 fn push_left(out: &mut Vec<u8>, sign: u8, digits: &[u8], more: u8) -> Result<(), AllocError>
     ensures { OnOk result (out.new.items
         ≡ out.old.items ++ (at_left 12 (sign ∷ digits.now) ++ more ∷ 32 ∷ [])) }
@@ -63,8 +63,8 @@ fn push_left(out: &mut Vec<u8>, sign: u8, digits: &[u8], more: u8) -> Result<(),
     Ok(())
 }
 
-/// Appends so many of the first bytes, with zeros past the last one, at the left of the field, the
-/// sign after it, and a space. Most lines have no byte, or the two of an instruction.
+/// Appends the first `count` bytes, with zeros past the last one, left-aligned in the field, then
+/// the sign `more` and a space. Most lines have no bytes, or the two of an instruction.
 fn push_bytes(out: &mut Vec<u8>, count: usize, bytes: &[u8], more: u8) -> Result<(), AllocError>
     requires { count ≤ 6 }
     ensures { OnOk result (out.new.items
@@ -93,8 +93,8 @@ fn push_bytes(out: &mut Vec<u8>, count: usize, bytes: &[u8], more: u8) -> Result
     Ok(())
 }
 
-/// Appends the field of a line, the sign after it, and a space. The text of a value, if there is one,
-/// stands for its bytes.
+/// Appends the field of a line, the sign after it, and a space. The text of a value, if there is
+/// one, replaces the bytes of a line without a fault.
 fn push_field(
     out: &mut Vec<u8>,
     fault: Option<Fault>,
@@ -121,7 +121,7 @@ fn push_field(
 }
 
 impl<'a> LineView<'a> {
-    /// Appends the line's line of the listing. The text of a value, if there is one, stands for the
+    /// Appends the line's row of the listing. The text of a value, if there is one, replaces the
     /// bytes of a line without a fault.
     #[tactic(auto, unfolding(crate::specs::Listing::row))]
     pub fn push_row(&self, out: &mut Vec<u8>, value: Option<&[u8]>) -> Result<(), AllocError>
@@ -136,7 +136,7 @@ impl<'a> LineView<'a> {
         Ok(())
     }
 
-    /// Appends the line's line of the listing, with the value of a definition in decimal.
+    /// Appends the line's row of the listing, with the value of a definition in decimal.
     pub fn push_decimal_row(&self, out: &mut Vec<u8>) -> Result<(), AllocError>
         ensures { OnOk result (out.new.items ≡ out.old.items ++ row_by signed_decimal self.now) }
     {
@@ -150,11 +150,11 @@ impl<'a> LineView<'a> {
     }
 }
 
-// How many bytes a line of the listing has beside its text, where its number has four digits at
-// most.
+// The number of bytes of a row of the listing beside the line's text, if the line's number has at
+// most four digits.
 const BESIDE_TEXT: usize = 25;
 
-/// How many bytes the listing of some lines has, at least.
+/// The least number of bytes of the listing of these lines.
 pub(crate) fn listing_bytes(lines: &[BoxedLine]) -> usize {
     let mut bytes = lines.len().saturating_mul(BESIDE_TEXT);
     for kept in lines {

@@ -37,7 +37,7 @@ pub(crate) struct Pass {
     ghost within: { here ≤ MEMORY_BYTES },
 }
 
-/// The statement of a line; that of an unreadable one is the empty one, which is handed in.
+/// The statement of a line; for an unreadable line, the empty statement, which the caller hands in.
 fn body_or<'a>(line: &'a Line, empty: &'a Body) -> &'a Body
     requires { seen_body empty.now ≡ empty_body }
     ensures { seen_body result.now ≡ body_of (seen_line line.now) }
@@ -56,8 +56,8 @@ impl Pass {
     ghost use Rattle.chip_asm.specs.inner.Placements.{found, is_accepted, Follows, placement_of, next_address, next_aligning};
     ghost use Rattle.chip_asm.specs.inner.Passes.{Change, HasRoom, IsUnderWay};
 
-    /// At an address, after lines that give these names, where no block is open, in the room of
-    /// other blocks.
+    /// The pass at an address, after lines that give these names, where no block is open. The list
+    /// of blocks is emptied, and its room is used again.
     pub(crate) fn resume(here: usize, names: Table, blocks: Vec<Block>) -> Self
         ensures follows { (before : List Placed) → here ≡ address before → here ≤ MEMORY_BYTES
             → is_aligning before ≡ true → has_ended before ≡ false → enclosing before ≡ []
@@ -109,8 +109,8 @@ impl Pass {
         }
     }
 
-    /// The value of the expression of an EQU, ORG or DS line, under the names so far. It may be
-    /// known.
+    /// The value of the expression of an EQU, ORG or DS line under the names so far, or the fault
+    /// of that expression; 0 for any other line. The caller may know the value.
     #[tactic(auto, unfolding(crate::specs::Layout::value_at))]
     fn value_at(&self, known: Option<i32>, body: &Body, numbers: &[NameId]) -> Result<i32, Fault>
         requires { IfSome known (λ value. value_at self.now.names.symbols (seen_body body.now) ≡ Ok value) }
@@ -127,7 +127,7 @@ impl Pass {
         }
     }
 
-    /// Whether the name of a number, if there is one, has a symbol already.
+    /// Whether the name with this number, if a number is given, already has a symbol.
     fn is_redefinition(&self, defines: Option<NameId>) -> bool
         requires { IfSome defines (λ id. id.number < length self.now.names.keys) }
         ensures { (name : Option Name) → IsNumberOf self.now.names.keys defines name
@@ -170,7 +170,7 @@ impl Pass {
         }
     }
 
-    /// The first fault of the line, where it is active, but for an IF without ENDIF.
+    /// The first fault of the line if it is active, except the fault of an IF without ENDIF.
     #[tactic(auto, unfolding(crate::specs::computed::Walk::first_fault))]
     fn fault_of(
         &self,
@@ -204,7 +204,7 @@ impl Pass {
         }
     }
 
-    /// The size of the line, where it is accepted.
+    /// The size of the line if it is accepted, or else 0.
     #[tactic(auto, unfolding(crate::specs::computed::Walk::fault_of_value))]
     fn size_of(&self, accepted: bool, body: &Body, value: i32) -> usize
         requires { accepted ≡ true
@@ -222,7 +222,7 @@ impl Pass {
         }
     }
 
-    /// What holds of the next line. The value of its expression may be known.
+    /// The placement of the next line. The caller may know the value of its expression.
     fn place(
         &self,
         known: Option<i32>,
@@ -263,9 +263,9 @@ impl Pass {
         }
     }
 
-    /// Goes on by the line at a place. What it finds of it; an accepted line is to be encoded. The
-    /// value of its expression may be known; it is found fastest where the numbers are those of the
-    /// names that the line uses or asks for.
+    /// Makes the pass over the line at a place and returns its placement; an accepted line is still
+    /// to be encoded. The caller may know the value of its expression, which is otherwise found
+    /// fastest if `numbers` has the numbers of the names that the line uses or asks for.
     #[inline(never)]
     pub(crate) fn step(
         &mut self,
@@ -308,7 +308,7 @@ impl Pass {
         placement
     }
 
-    /// Notes whether a line other than ELSE or ENDIF is active here.
+    /// Notes whether a line other than ELSE or ENDIF would be active here.
     fn note_active(&mut self)
         ensures active { (nearest : List Block) → self.new.blocks.items ≡ reverse nearest
             → (self.new.ended ≡ false → AreNested nearest)
@@ -318,11 +318,10 @@ impl Pass {
         self.active = !self.ended && all_hold(&self.blocks);
     }
 
-    /// Goes on by the lines from a place on, and notes what holds of them, up to the first one of
-    /// which more is asked than its size and its name, or which has a fault, or where an
-    /// instruction has no room. A line that was accepted and still is takes its code along from the
-    /// image before; another one that is accepted waits for its code. The place behind the last of
-    /// them.
+    /// Places lines from `first` on until one needs more than its size and its name (EQU, ORG, DS,
+    /// IF ..), has a fault or has no room, and returns the place after the last one. A line that
+    /// was accepted and still is gets its code copied from the image before the edit. A line that
+    /// is accepted now but wasn't before waits for its code.
     #[inline(never)]
     pub(crate) fn run(
         &mut self,
@@ -354,8 +353,8 @@ impl Pass {
         }
     }
 
-    /// Goes on as `run` does, over lines that aren't active, over short ones, or over data: there is a
-    /// loop for each.
+    /// Places lines as `run` does, but only inactive lines, only short lines or only data; each of
+    /// the three has a loop of its own.
     #[inline(always)]
     fn run_as(
         &mut self,
@@ -412,7 +411,7 @@ impl Pass {
         place
     }
 
-    /// Whether the condition of an IF line holds.
+    /// Whether the condition of an IF line holds; false for any other line.
     fn condition(&self, body: &Body, numbers: &[NameId]) -> bool
         ensures { result ≡ condition_of self.now.names.symbols (seen_body body.now) }
     {
@@ -424,7 +423,7 @@ impl Pass {
         }
     }
 
-    /// Notes the name that a line gives, where it is accepted.
+    /// Adds the symbol of the name that a line gives, if the line is accepted.
     fn define(
         &mut self,
         accepted: bool,

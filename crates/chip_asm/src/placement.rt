@@ -1,27 +1,27 @@
-//! What the passes find of a line.
+//! The results of the passes for one line.
 ghost use Rattle.std.specs.Prelude.{◌≡◌};
 
 use chip_lang::Fault;
 
-/// Whether a line is active and accepted, and what became of its code.
+/// The status of a line: whether it is active and accepted, and the state of its code.
 #[derive(Clone, Copy)]
 pub(crate) enum Status {
     /// The line is not active.
     Skipped,
-    /// It is active, and has this fault in the first pass.
+    /// The line is active and has this fault in the first pass.
     Refused(Fault),
-    /// It is accepted, and is to be encoded.
+    /// The line is accepted and still has to be encoded.
     Pending,
-    /// It is accepted. Its bytes stand in the image, if it has any.
+    /// The line is accepted. Its bytes, if it has any, are in the image.
     Done,
-    /// It is accepted, and its code has this fault.
+    /// The line is accepted, and its code has this fault.
     Uncoded(Fault),
 }
 
 impl Status {
     ghost use Rattle.chip_asm.specs.inner.Placements.{bare_status, fault_noted, first_status, is_accepted, is_pending, status_coded};
 
-    /// What the first pass finds of a line that is active or not, and of its fault.
+    /// The status after the first pass of a line that is active or not and has this fault or none.
     pub(crate) fn first(active: bool, fault: Option<Fault>) -> Status
         ensures { result ≡ first_status active fault }
     {
@@ -32,7 +32,8 @@ impl Status {
         }
     }
 
-    /// The status of a line without a fault that wasn't accepted before, and has code or none.
+    /// The status of a line that wasn't accepted before and has no fault in the first pass.
+    /// `is_coded` says whether it has code.
     pub(crate) fn bare(active: bool, is_coded: bool) -> Status
         ensures { result ≡ bare_status active is_coded }
     {
@@ -66,7 +67,7 @@ impl Status {
         matches!(self, Status::Pending)
     }
 
-    /// The fault of the line.
+    /// The fault of the line, if it has one.
     pub(crate) fn fault(self) -> Option<Fault>
         ensures { result ≡ fault_noted self }
     {
@@ -77,7 +78,7 @@ impl Status {
     }
 }
 
-/// What the passes find of a line. All lines have one each, so it is small: 12 bytes.
+/// The results of the passes for a line. Each line has one, so the type is small: 12 bytes.
 #[derive(Clone, Copy)]
 pub(crate) struct Placement {
     pub(crate) value: i32,
@@ -89,7 +90,7 @@ pub(crate) struct Placement {
 impl Placement {
     ghost use Rattle.chip_asm.specs.inner.Placements.{count_of, is_active_status};
 
-    /// Stands where nothing is found yet.
+    /// The placement of a line of which nothing is known yet.
     pub(crate) const NOTHING: Placement = Placement {
         value: 0,
         here: 0,
@@ -97,7 +98,7 @@ impl Placement {
         status: Status::Skipped,
     };
 
-    /// The address at which the line stands.
+    /// The address of the line.
     pub(crate) fn address(&self) -> usize
         ensures { result ≡ self.now.here }
     {
@@ -111,7 +112,7 @@ impl Placement {
         !matches!(self.status, Status::Skipped)
     }
 
-    /// 1 for a fault, 0 for none.
+    /// 1 if the line has a fault, or else 0.
     pub(crate) fn count(&self) -> usize
         ensures { result ≡ count_of self.now }
     {

@@ -1,39 +1,39 @@
-//! Why an edit is refused, or a source does not open.
+//! The reasons why an edit is refused or a source doesn't open.
 ghost use Rattle.std.specs.Prelude.{◌≡◌};
 
 use std::alloc::AllocError;
 use thiserror::Error;
 
-/// Why an edit is refused.
+/// The reason why an edit is refused.
 #[derive(Clone, Copy, Debug, PartialEq, Eq, Error)]
 pub enum Refusal {
-    /// N1: there is no line of this number.
+    /// N1: no line has this number.
     #[error("no such line")]
     NoSuchLine,
-    /// N2: the text has over `LINE_BYTES` bytes.
+    /// N2: the text has more than `LINE_BYTES` bytes.
     #[error("text too long")]
     TextTooLong,
-    /// N3: there are `MOST_LINES` lines already.
+    /// N3: there are already `MOST_LINES` lines.
     #[error("too many lines")]
     TooManyLines,
-    /// N4: the text holds a carriage return or a newline.
+    /// N4: the text contains a carriage return or a newline.
     #[error("line break in the text")]
     LineBreak,
-    /// N10: memory was refused.
+    /// N10: out of memory.
     #[error("out of memory")]
     OutOfMemory,
 }
 
-/// Why a source does not open.
+/// The reason why a source doesn't open.
 #[derive(Clone, Copy, Debug, PartialEq, Eq, Error)]
 pub enum OpenError {
-    /// O1: the line of this number, counted from 1, has over `LINE_BYTES` bytes.
+    /// O1: the line with this number, counted from 1, has more than `LINE_BYTES` bytes.
     #[error("line {0} is too long")]
     LineTooLong(usize),
     /// O2: there are more than `MOST_LINES` lines.
     #[error("too many lines")]
     TooManyLines,
-    /// O3: memory was refused.
+    /// O3: out of memory.
     #[error("out of memory")]
     OutOfMemory,
 }

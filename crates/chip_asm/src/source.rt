@@ -1,4 +1,4 @@
-//! A source that is edited, with its layout, codes and image kept.
+//! A source under edits, with its layout, codes and image.
 ghost use Rattle.std.specs.Prelude.{◌≡◌, ◌+◌, ◌-◌, ◌<◌, ◌≤◌, ◌⊎◌, OnOk, OnErr, IfOk, IfErr, IsSome, IfSome, [], length, insert, remove, slice_set, Option, Some, None, map, option_map, slice_get};
 ghost use Rattle.std.specs.Option.{option_copied};
 ghost use Rattle.chip_lang.specs.Line.{upper};
@@ -25,13 +25,14 @@ use std::alloc::{AllocError, Global};
 use std::marker::Model;
 use std::ops::Range;
 
-/// The lines of a source, with all that is known of them kept under edits.
+/// The lines of a source, and everything known about them, kept up to date under edits.
 pub struct Source {
     kept: Kept,
     meter: Meter,
 }
 
-// It goes by one call, and not part by part in each function that lets one go.
+// Dropping is one call. A derived `Drop` would be expanded, and proved, in every function that
+// drops a value.
 impl Drop for Source {
     fn drop(self) {
         let Source { kept: _, meter: _ } = self;
@@ -59,7 +60,7 @@ impl Source {
     ghost use Rattle.chip_asm.specs.declared.refusal.OpenError.{OpenError};
     ghost use Rattle.chip_asm.specs.Lines.{lines_of, open_fault};
 
-    /// The source without lines.
+    /// A source without lines.
     pub fn new(alloc: Global) -> Self
         ensures lines { result.lines ≡ [] }
         ensures parsed { result.work.parsed ≡ 0 }
@@ -72,7 +73,7 @@ impl Source {
         }
     }
 
-    /// Opens a source, by a copy of its bytes, as `open_bytes` does.
+    /// Opens a source from a copy of its bytes, as `open_bytes` does.
     pub fn open(alloc: Global, source: &[u8]) -> Result<Source, OpenError>
         ensures ok { IfOk result (λ s. (open_fault source.now ≡ None)
             × (s.lines ≡ lines_of source.now)) }
@@ -84,7 +85,7 @@ impl Source {
         Source::open_bytes(alloc, Vec::from_slice(alloc, source)?)
     }
 
-    /// Opens a source, by its bytes, as `open_hashed` does with the hasher of the seed 0.
+    /// Opens a source from its bytes, as `open_hashed` does with the hasher of the seed 0.
     pub fn open_bytes(alloc: Global, source: Vec<u8>) -> Result<Source, OpenError>
         ensures ok { IfOk result (λ s. (open_fault source.items ≡ None)
             × (s.lines ≡ lines_of source.items)) }
@@ -96,9 +97,9 @@ impl Source {
         Source::open_hashed(alloc, NameHasher::new(0), source)
     }
 
-    /// Opens a source, by its bytes, whose names are hashed so. A line ends at a newline, a carriage
-    /// return directly before which is dropped; the first line that is over `LINE_BYTES` bytes or
-    /// one more than `MOST_LINES` is answered as a fault.
+    /// Opens a source from its bytes and hashes names with this hasher. A line ends at a newline,
+    /// and a carriage return directly before that newline is dropped. Fails at the first line that
+    /// has more than `LINE_BYTES` bytes or is one more than `MOST_LINES`, or if memory runs out.
     pub fn open_hashed(
         alloc: Global,
         hasher: NameHasher,
@@ -119,7 +120,7 @@ impl Source {
         Ok(Source { kept, meter })
     }
 
-    /// How many lines there are. The source tells of each.
+    /// The number of lines. The source reports facts about each of them.
     pub fn lines(&self) -> usize
         ensures value { result ≡ length self.now.lines }
         ensures told { length (line_facts self.now.lines) ≡ result }
@@ -127,14 +128,14 @@ impl Source {
         self.kept.lines.len()
     }
 
-    /// What was read and encoded so far, by opening and by edits.
+    /// The counts of lines read and encoded so far, by opening and by edits.
     pub fn work(&self) -> Meter
         ensures { result ≡ self.now.work }
     {
         self.meter
     }
 
-    /// The bytes from `IMAGE_START` on; none where a line has a fault.
+    /// The bytes from `IMAGE_START` on; none if a line has a fault.
     pub fn image(&self) -> Option<&[u8]>
         ensures value { option_copied result ≡ image_of self.now.lines }
         ensures fits { IfSome result (λ image. length image.now ≤ IMAGE_BYTES) }
@@ -147,15 +148,16 @@ impl Source {
         }
     }
 
-    /// The value of a name, in either case, and the number of the line that gives it.
+    /// The value of a name, which may be in either case, and the number of the line that gives it;
+    /// none if no line gives it.
     pub fn symbol(&self, name: &[u8]) -> Option<Symbol>
         ensures { result ≡ lookup_name (symbols_of self.now.lines) (map upper name.now) }
     {
         self.kept.names.symbol_in_any_case(name)
     }
 
-    /// The line of this number, counted from 1, with all that holds of it; none where there is no
-    /// such line.
+    /// The line with this number, counted from 1, and all facts about it; none if there is no such
+    /// line.
     pub fn line(&self, number: usize) -> Option<LineView<'_>>
         ensures value { result ≡ line_at self.now.lines number }
         ensures number { IfSome result (λ line. line.number ≡ number) }
@@ -171,8 +173,8 @@ impl Source {
         Some(LineView::of(number, kept, placement, bytes))
     }
 
-    /// The fault of the line of this number, counted from 1; none where the line has none or there
-    /// is no such line.
+    /// The fault of the line with this number, counted from 1; none if the line has no fault or
+    /// there is no such line.
     pub fn fault(&self, number: usize) -> Option<Fault>
         ensures { result ≡ fault_at self.now.lines number }
     {
@@ -186,22 +188,22 @@ impl Source {
     }
 
     /// The names that the source gives, in line order, each with its value and the number of its
-    /// line. Err where memory ran out.
+    /// line. Fails only if memory runs out.
     pub fn symbols(&self, alloc: Global) -> Result<Vec<(Bytes, Symbol)>, AllocError>
         ensures { IfOk result (λ symbols. symbols.items ≡ symbols_of self.now.lines) }
     {
         self.kept.names.symbols(alloc)
     }
 
-    /// How many names the source gives.
+    /// The number of names that the source gives.
     pub fn symbol_count(&self) -> usize
         ensures { result ≡ length (symbols_of self.now.lines) }
     {
         self.kept.names.symbol_count()
     }
 
-    /// The name at a place, from 0 on, of those that the source gives, in line order, with its value
-    /// and the number of its line. None past the last.
+    /// The name at an index, counted from 0, among the names that the source gives, in line order,
+    /// with its value and the number of its line. None past the last name.
     pub fn symbol_at(&self, place: usize) -> Option<(&[u8], Symbol)>
         ensures { option_map (λ found. (found.0.now, found.1)) result
             ≡ slice_get (symbols_of self.now.lines) place }
@@ -209,7 +211,7 @@ impl Source {
         self.kept.names.symbol_at(place)
     }
 
-    /// All faults, in line order, each with the number of its line. Err where memory ran out.
+    /// All faults in line order, each with the number of its line. Fails only if memory runs out.
     pub fn faults(&self, alloc: Global) -> Result<Vec<(usize, Fault)>, AllocError>
         ensures { IfOk result (λ faults. faults.items ≡ faults_of self.now.lines) }
     {
@@ -223,8 +225,8 @@ impl Source {
         Ok(faults)
     }
 
-    /// The listing: a line for each line, with its number, its address, its bytes or value or
-    /// fault, and its text. Err where memory ran out.
+    /// The listing: a row for each line, with its number, its address, its bytes or value or fault,
+    /// and its text. Fails only if memory runs out.
     pub fn listing(&self, alloc: Global) -> Result<Vec<u8>, AllocError>
         ensures { IfOk result (λ listing. listing.items ≡ listing_of self.now.lines) }
     {
@@ -237,8 +239,8 @@ impl Source {
         Ok(listing)
     }
 
-    /// Puts a line before line `number`, counted from 1, or after the last one. A refused edit
-    /// changes nothing but the work, where memory ran out.
+    /// Inserts a line before line `number`, counted from 1, or after the last line. A refused edit
+    /// changes no line; it changes the work only if memory ran out.
     pub fn insert(&mut self, alloc: Global, number: usize, text: &[u8]) -> Result<(), Refusal>
         ensures ok { OnOk result ((insert_refusal (length self.old.lines) number text.now ≡ None)
             × (self.new.lines ≡ insert self.old.lines (number - 1) text.now)) }
@@ -266,9 +268,9 @@ impl Source {
         Ok(())
     }
 
-    /// Puts a text in the place of line `number`, counted from 1. The answer is which places of the
-    /// image it wrote, if they are known. A refused edit changes nothing but the work, where memory
-    /// ran out.
+    /// Replaces the text of line `number`, counted from 1, and returns the range of indexes that it
+    /// wrote in the image, if that is known. A refused edit changes no line; it changes the work
+    /// only if memory ran out.
     pub fn replace(
         &mut self,
         alloc: Global,
@@ -304,8 +306,8 @@ impl Source {
         )
     }
 
-    /// Takes out line `number`, counted from 1. A refused edit changes nothing but the work, where
-    /// memory ran out.
+    /// Removes line `number`, counted from 1. A refused edit changes no line; it changes the work
+    /// only if memory ran out.
     pub fn delete(&mut self, alloc: Global, number: usize) -> Result<(), Refusal>
         ensures ok { OnOk result ((delete_refusal (length self.old.lines) number ≡ None)
             × (self.new.lines ≡ remove self.old.lines (number - 1))) }

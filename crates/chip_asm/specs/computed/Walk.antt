@@ -1,5 +1,6 @@
--- What holds of each line, found line by line (own). The lines before a line are listed from the
--- nearest one back. Laws say that this is what Places states, and that nothing else is.
+-- The facts about each line, found line by line (chosen by this project). The lines before a line
+-- are listed from the nearest one back. Laws say that these facts are the ones that Places states,
+-- and that no other facts are.
 use Rattle.std.specs.Prelude.{ℕ, ◌+◌, ℤ, unsigned_abs, Bool, true, false, not, ◌&&◌, List, [], ◌∷◌, reverse, map, length, Option, Some, None, is_none, Result, Ok, Err, if◌then◌else◌, nat_le, fold, sum_by, count_by, filter, find, take_while, filter_map, option_map}
 use Rattle.std.specs.List.{list_all}
 use Rattle.std.specs.Option.{option_map_or}
@@ -15,19 +16,20 @@ use Rattle.chip_symbols.specs.Names.{Name, is_redefinition}
 unfoldable pub symbols : List Placed → List (Name × Symbol)
 symbols before = filter_map symbol_of (reverse before)
 
--- the earlier lines, each with the lines between
+-- the earlier lines, each with the lines between it and the next line
 abbrev pub with_between : List Placed → List (List Placed × Placed)
 with_between [] = []
 with_between (p ∷ before) = ([], p) ∷ map (λ s. (p ∷ s.0, s.1)) (with_between before)
 
--- in no run of these lines from the first on are there more ENDIF lines than IF lines
+-- true if no run of these lines, from the first one on, has more ENDIF lines than IF lines
 abbrev pub closes_no_more : List Placed → Bool
 closes_no_more [] = true
 closes_no_more (p ∷ earlier) =
     nat_le (count_by is_endif (p ∷ earlier)) (count_by is_if (p ∷ earlier))
     && closes_no_more earlier
 
--- an IF line encloses what follows while no run of lines after it closes more than it opens
+-- true for an IF line that encloses the next line: no run of lines after it closes more blocks than
+-- it opens
 abbrev pub encloses : List Placed × Placed → Bool
 encloses s = is_if s.1 && closes_no_more s.0
 
@@ -42,18 +44,19 @@ is_active before body =
     then option_map_or (λ opener. opener.active) (first_of (enclosing before)) true
     else list_all (holds before) (enclosing before))
 
--- the value of the last ORG that takes effect, or where the image stands, and the sizes since
+-- the value of the last ORG that takes effect, or else the start of the image, plus the sizes of
+-- the lines since
 unfoldable pub address : List Placed → ℕ
 address before =
     option_map_or (λ p. unsigned_abs p.value) (find is_origin before) IMAGE_START
     + sum_by (λ p. p.size) (take_while (λ p. not (is_origin p)) before)
 
--- the last ALIGN that takes effect is not OFF
+-- true if the last ALIGN that takes effect is not OFF
 unfoldable pub is_aligning : List Placed → Bool
 is_aligning before =
     option_map_or (λ p. not (is_align_off_body (body_of p.line))) (find is_align before) true
 
--- an ELSE or ENDIF that no IF encloses, or an ELSE after another one of its IF
+-- true for an ELSE or ENDIF that no IF encloses, and for an ELSE after another ELSE of its IF
 abbrev pub is_misplaced : List Placed → Body → Bool
 is_misplaced before else_line = option_map_or (has_else before) (first_of (enclosing before)) true
 is_misplaced before endif = is_none (first_of (enclosing before))
@@ -66,7 +69,7 @@ fault_of_value aligning here body (Ok value) =
     else (if is_backwards here body value then Some OrgBelowHere
     else (if is_past_end aligning here body value then Some PastMemory else None))
 
--- the first fault of an active line, but for an IF without ENDIF
+-- the first fault of an active line, except the fault of an IF without ENDIF
 unfoldable pub first_fault : List Placed → Reading → Option Fault
 first_fault before (bad fault) = Some fault
 first_fault before (read label body) =
@@ -74,7 +77,7 @@ first_fault before (read label body) =
     else (if is_redefinition (symbols before) label then Some DefinedTwice
     else fault_of_value (is_aligning before) (address before) body (value_at (symbols before) body))
 
--- what holds of a line that follows these
+-- the facts about a line that follows these lines
 unfoldable pub place : List Placed → Reading → Placed
 place before line =
     let body = body_of line in
@@ -96,6 +99,6 @@ place before line =
           else 0;
     }
 
--- what holds of each line, the last one first
+-- the facts about each line, the last line first
 unfoldable pub placed : List Reading → List Placed
 placed lines = fold (λ before line. place before line ∷ before) [] lines

@@ -1,4 +1,5 @@
--- Open blocks: what a line does to them, the last one first, and IF lines without ENDIF (own).
+-- Open blocks, the last one first: the effect of a line on them, and IF lines without ENDIF (chosen
+-- by this project).
 use Rattle.std.specs.Prelude.{◌≡◌, ℕ, ◌+◌, ◌<◌, Bool, not, ◌&&◌, List, length, nat_eq, nat_lt, nat_le, slice_index_or, if◌then◌else◌, true, [], ◌∷◌}
 use Rattle.std.specs.List.{list_any, list_all}
 use Rattle.chip_lang.specs.declared.fault.Fault.TheVariants.{UnclosedIf}
@@ -7,30 +8,30 @@ use Rattle.chip_asm.specs.declared.placement.Status.TheVariants.{Refused}
 use Rattle.chip_asm.specs.declared.placement.Placement.{Placement}
 use Rattle.chip_lang.specs.Line.{Body, ifdef, ifund, else_line, endif}
 
--- the block was opened by one of so many lines
+-- true if one of the first `count` lines opened the block
 abbrev pub is_among : ℕ → Block → Bool
 is_among count b = nat_lt 0 b.number && nat_le b.number count
 
--- the block was opened by the line at a place, which is active
+-- true if the line at a place opened the block, and is active
 abbrev pub is_opened_at : ℕ → Block → Bool
 is_opened_at place b = b.active && nat_eq b.number (place + 1)
 
--- an active IF line whose block is open at the end
+-- an active IF line, with the fault that its block is open at the end
 abbrev pub unclosed : Placement → Placement
 unclosed q = record q { status = Refused UnclosedIf }
 
--- the line at a place, with the fault of an IF whose block is open at the end
+-- the line at a place, with the fault of an IF if its block is open at the end
 abbrev pub marked : Bool → List Block → ℕ → Placement → Placement
 marked ended blocks place q =
     if not ended && list_any (is_opened_at place) blocks then unclosed q else q
 
--- each of some lines, marked
+-- the new list has the lines of the old one, each of them marked
 abbrev pub AreMarked : Bool → List Block → (old new : List Placement) → Type 0
 AreMarked ended blocks old new =
     (place : ℕ) (other : Placement) → place < length old
     → slice_index_or new place other ≡ marked ended blocks place (slice_index_or old place other)
 
--- the other side of a block, once
+-- the other side of a block; a block that already had an ELSE stays as it is
 abbrev pub turned : Block → Block
 turned b =
     if b.has_else then b
@@ -44,12 +45,12 @@ abbrev pub close_first : List Block → List Block
 close_first [] = []
 close_first (b ∷ bs) = bs
 
--- each open block, the last one first, was opened active just where those around it held
+-- each open block, the last one first, was opened active if and only if the blocks around it held
 abbrev pub AreNested : List Block → Type 0
 AreNested [] = Unit
 AreNested (b ∷ outer) = (b.active ≡ list_all (λ o. o.holds) outer) × AreNested outer
 
--- the open blocks, the last one first, after a line
+-- the open blocks after a line, the last one first
 abbrev pub moved : Body → Block → List Block → List Block
 moved (ifdef n) opened bs = opened ∷ bs
 moved (ifund n) opened bs = opened ∷ bs

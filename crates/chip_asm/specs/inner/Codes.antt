@@ -1,4 +1,4 @@
--- The code of a line, and the image (own).
+-- The code of a line, and the image (chosen by this project).
 use Rattle.std.specs.Prelude.{◌≡◌, ℕ, ◌+◌, ◌-◌, ◌<◌, ◌≤◌, ◌&&◌, ◌++◌, Bool, List, [], drop, length, min, take, Option, None, Result, nat_le, nat_lt, if◌then◌else◌, slice_index}
 use Rattle.chip_lang.specs.declared.fault.Fault.{Fault}
 use Rattle.chip_lang.specs.declared.limits.TheConstants.{IMAGE_BYTES, IMAGE_START}
@@ -13,11 +13,11 @@ use Rattle.chip_asm.specs.inner.Records.{reading_in}
 use Rattle.chip_asm.specs.computed.Walk.{placed}
 use Rattle.chip_asm.specs.Program.{byte_at, bytes_in_code, code_with, fault_in_code}
 
--- the code of a kept line under a table
+-- the code of a kept line under a table of names
 abbrev pub code_kept : Table → KeptLine → Result (List ℕ) Fault
 code_kept names kept = code_with names.symbols (reading_in kept)
 
--- its bytes, the fault of its code, and whether it is encoded, where this is found of it
+-- the bytes of a kept line with a placement, the fault of its code, and whether it is encoded
 abbrev pub kept_bytes : Table → KeptLine → Placement → List ℕ
 kept_bytes names kept q = if is_accepted q.status then bytes_in_code (code_kept names kept) else []
 
@@ -27,22 +27,22 @@ kept_fault names kept q = if is_accepted q.status then fault_in_code (code_kept 
 abbrev pub is_coded : KeptLine → Placement → Bool
 is_coded kept q = is_accepted q.status && has_code (body_of (reading_in kept))
 
--- the byte at a place of the image
+-- the byte at an index of the image
 abbrev pub right_byte : List Reading → ℕ → ℕ
 right_byte lines k = byte_at (placed lines) (IMAGE_START + k)
 
--- each byte is that at its address, also where a line has a fault; past the kept bytes they are
--- zeros
+-- each byte of the image is the byte at its address, even if a line has a fault; past the kept
+-- bytes there are zeros
 pub record IsImageOf (image : List ℕ) (lines : List Reading) : Type 0 where
   pub imaged : (k : ℕ) → k < IMAGE_BYTES → slice_index image k ≡ right_byte lines k
   pub short : length image ≤ IMAGE_BYTES
   pub long : 0 < length lines → length image ≡ IMAGE_BYTES
 
--- the line covers the byte
+-- true if the line covers the byte
 abbrev pub covers_byte : Placement → ℕ → Bool
 covers_byte q k = nat_le q.here (IMAGE_START + k) && nat_lt (IMAGE_START + k) (q.here + q.size)
 
--- the bytes of a line are written, and no others
+-- the bytes of a line are written, and no other byte changes
 abbrev pub IsWritten : Placement → (bytes old new : List ℕ) → Type 0
 IsWritten q bytes old new =
     (k : ℕ)
@@ -50,8 +50,8 @@ IsWritten q bytes old new =
     ≡ (if covers_byte q k then slice_index bytes (IMAGE_START + k - q.here)
     else slice_index old k)
 
--- the bytes of a line are copied from where it stood to where it stands, as far as there is room in
--- both places
+-- the bytes of a line, copied from its place before to its place now, as far as both places have
+-- room for them
 abbrev pub copied_bytes : (was now : Placement) → (from : List ℕ) → List ℕ
 copied_bytes was now from = take (min was.size now.size) (drop (was.here - IMAGE_START) from)
 

@@ -1,4 +1,4 @@
--- What is told of a line, by what is kept of it (own).
+-- The facts that are reported about a line, given what is kept of it (chosen by this project).
 use Rattle.std.specs.Prelude.{◌≡◌, ℕ, ◌<◌, ◌≤◌, List}
 use Rattle.chip_lang.specs.declared.limits.TheConstants.{MEMORY_BYTES}
 use Rattle.chip_lang.specs.declared.line.Line.{Line}
@@ -20,8 +20,8 @@ facts_in number text q bytes =
       bytes = bytes;
     }
 
--- the number has four digits at most, the reading is that of the text, and the address is one of the
--- memory or that after its end
+-- the number has at most four digits, the reading is the reading of the text, and the address is in
+-- the memory or is the one after its end
 pub record IsView (number : ℕ) (text : List ℕ) (line : Line) (q : Placement) : Type 0 where
   pub few : number < 10000
   pub is_read : seen_line line ≡ reading_of text

@@ -1,5 +1,5 @@
--- The text of a line, from how it is held: bytes of its own, or a part of those that were read
--- together (own).
+-- The text of a line as it is stored: bytes of its own, or a part of the bytes that were read
+-- together (chosen by this project).
 use Rattle.std.specs.Prelude.{◌≡◌, ℕ, ◌+◌, ◌-◌, ◌≤◌, List, None, drop, length, slice_range}
 use Rattle.chip_lang.specs.Line.{empty, read}
 use Rattle.chip_lang.specs.SeenLine.{seen_line}
@@ -11,7 +11,7 @@ use Rattle.chip_asm.specs.declared.line_text.HeldText.TheVariants.{Own, Part}
 abbrev pub SaysNothing : Line → Type 0
 SaysNothing line = seen_line line ≡ read None empty
 
--- so many bytes from a place on
+-- the part of some bytes that begins at index `start` and has `count` bytes
 abbrev pub part_from : List ℕ → ℕ → ℕ → List ℕ
 part_from bytes start count = slice_range bytes start (start + count)
 
@@ -23,7 +23,7 @@ abbrev pub IsTextHeld : HeldText → Type 0
 IsTextHeld (Own bytes) = 0 ≤ 0
 IsTextHeld (Part source start count) = start + count ≤ length source.value.bytes
 
--- some bytes stand at the back of others
+-- the first list is the end of the second one
 pub record IsBack (back bytes : List ℕ) : Type 0 where
   pub within : length back ≤ length bytes
   pub is : back ≡ drop (length bytes - length back) bytes

@@ -1,5 +1,5 @@
--- What is kept of a line beside its reading, so that steps over all lines needn't look into most of
--- them (own).
+-- Facts that are kept of a line beside its reading, so that steps over all lines needn't look into
+-- most of them (chosen by this project).
 use Rattle.std.specs.Prelude.{◌≡◌, ℕ, pos, length, slice_get, Bool, true, false, not, if◌then◌else◌, ◌&&◌, List, [], ◌∷◌, All, Option, Some, None, ◌<◌, slice_index_or, ⊤}
 use Rattle.chip_lang.specs.Line.{Body, empty, code, options, used, xref, Reading, bad, read, db, dw, da}
 use Rattle.chip_lang.specs.Uses.{names_used, name_defined}
@@ -16,7 +16,7 @@ use Rattle.chip_asm.specs.inner.Records.{reading_in}
 use Rattle.chip_symbols.specs.Tables.{AreNumbers, IsNumber}
 use Rattle.chip_asm.specs.Layout.{body_of, full_size, is_padded, own_size, is_if_body, is_end_body, is_align_body}
 
--- all that the first pass asks of the statement is its size
+-- true for a statement of which the first pass has to know only the size
 abbrev pub is_plain : Body → Bool
 is_plain empty = true
 is_plain options = true
@@ -32,7 +32,7 @@ abbrev pub is_plain_line : Reading → Bool
 is_plain_line (bad fault) = false
 is_plain_line (read label body) = is_plain body
 
--- the line has bytes of its own
+-- true for a statement with bytes of its own
 abbrev pub has_code : Body → Bool
 has_code (db es) = true
 has_code (dw es) = true
@@ -40,7 +40,7 @@ has_code (da bytes) = true
 has_code (code form operands) = true
 has_code _ = false
 
--- the line is plain, and takes so many bytes, padded or not
+-- the line is plain, and takes `size` bytes, padded or not
 abbrev pub Takes : ℕ → Bool → Reading → Type 0
 Takes size padded line =
     (is_plain_line line ≡ true) × (size ≡ own_size (body_of line) (pos 0)) × (padded ≡ is_padded (body_of line))
@@ -51,8 +51,8 @@ IsSpaceOf Short line = Takes (if has_code (body_of line) then 2 else 0) false li
 IsSpaceOf (Data size padded) line = Takes size padded line
 IsSpaceOf Asked line = ⊤
 
--- two plain lines that give the same name and take the same space: one in the place of the other
--- changes nothing else
+-- two plain lines give the same name and take the same space; replacing one by the other changes
+-- nothing else
 pub record AreAlike (old new : Reading) : Type 0 where
   pub was_plain : is_plain_line old ≡ true
   pub now_plain : is_plain_line new ≡ true
@@ -60,7 +60,7 @@ pub record AreAlike (old new : Reading) : Type 0 where
   pub size : own_size (body_of old) (pos 0) ≡ own_size (body_of new) (pos 0)
   pub padded : is_padded (body_of old) ≡ is_padded (body_of new)
 
--- it opens no block, ends no source and switches no alignment
+-- true for a statement that opens no block, ends no source and switches no alignment
 abbrev pub is_steady : Body → Bool
 is_steady body = not (is_if_body body) && not (is_end_body body) && not (is_align_body body)
 
@@ -70,7 +70,7 @@ IsNumberOf keys None name = name ≡ None
 IsNumberOf keys (Some id) None = ⊥
 IsNumberOf keys (Some id) (Some name) = IsNumber keys id name
 
--- the numbers of the names that a line uses, where those of several are kept apart
+-- the numbers of the names that a line uses; those of several names are kept apart
 abbrev pub numbers_of : Uses → (several : List NameId) → List NameId
 numbers_of Nothing several = []
 numbers_of (One id) several = id ∷ []
@@ -79,7 +79,7 @@ numbers_of Several several = several
 abbrev pub numbers_in : KeptLine → List NameId
 numbers_in kept = numbers_of kept.info.uses kept.several
 
--- what is kept beside a line is right of it
+-- the facts that are kept beside a line are right
 pub record IsInfo (keys : List Name) (info : LineInfo) (several : List NameId)
     (line : Reading) : Type 0 where
   pub space : IsSpaceOf info.space line
@@ -88,25 +88,25 @@ pub record IsInfo (keys : List Name) (info : LineInfo) (several : List NameId)
   pub defines : IsNumberOf keys info.defines (name_defined line)
   pub uses : AreNumbers keys (numbers_of info.uses several) (names_used line)
 
--- a plain line, which takes this size at an address, active or not, and gives this name then
+-- a plain line takes this size at an address, active or not, and then gives this name
 pub record IsPlain (keys : List Name) (active aligning : Bool) (here : ℕ) (line : Reading) (size : ℕ)
     (defines : Option NameId) : Type 0 where
   pub plain : is_plain_line line ≡ true
   pub sized : size ≡ (if active then full_size aligning here (body_of line) (pos 0) else 0)
   pub named : IsNumberOf keys defines (if active then name_defined line else None)
 
--- each of these is kept beside the line at its place
+-- the facts in this list are right for the lines at their places
 abbrev pub AreInfosOf : List Name → List Numbered → List Reading → Type 0
 AreInfosOf keys infos lines =
     (length infos ≡ length lines) × ((place : ℕ) (made : Numbered) (line : Reading)
     → slice_get infos place ≡ Some made → slice_get lines place ≡ Some line
     → IsInfo keys made.info made.several.items line)
 
--- what is kept beside each line
+-- the facts that are kept beside each line are right
 abbrev pub AreInfos : List Name → List KeptLine → Type 0
 AreInfos keys lines = All (λ kept. IsInfo keys kept.info kept.several (reading_in kept)) lines
 
--- of the first lines each is steady
+-- each of the first `many` lines is steady
 abbrev pub AreSteady : List KeptLine → (many : ℕ) → Type 0
 AreSteady lines many =
     (place : ℕ) (other : KeptLine) → place < many

@@ -1,4 +1,5 @@
--- What a source keeps beside the texts of its lines, and what an edit of it needs (own).
+-- All that a source keeps beside the texts of its lines, and all that an edit of it requires
+-- (chosen by this project).
 use Rattle.std.specs.Prelude.{◌≡◌, ℕ, ◌+◌, ◌<◌, ◌≤◌, false, List, length, map, Some, slice_get, slice_index, take, vec_len, vec_capacity}
 use Rattle.chip_asm.specs.declared.limits.TheConstants.{MOST_LINES}
 use Rattle.chip_lang.specs.Line.{Reading, reading_of}
@@ -18,7 +19,7 @@ use Rattle.chip_asm.specs.inner.Placements.{IsCounted, IsLayoutOf, first_placeme
 use Rattle.chip_asm.specs.inner.Passes.{Change, IsChange, IsHeld, IsSlot, is_byte_of, placed_at}
 use Rattle.chip_asm.specs.inner.Records.{AllAdded, IsPlaceWithin, IsRead, count_after, lines_after, place_before, reading_in, readings_in, texts_after, texts_in}
 
--- what is kept is right for the texts
+-- all that is kept is right for the texts
 pub record IsKept (kept : Kept) : Type 0 where
   pub few : length kept.lines.items ≤ MOST_LINES
   pub are_read : readings_in kept.lines.items ≡ map reading_of (texts_in kept.lines.items)
@@ -28,7 +29,7 @@ pub record IsKept (kept : Kept) : Type 0 where
   pub image : IsImageOf kept.image.items (readings_in kept.lines.items)
   pub settled : AreSteady kept.lines.items kept.settled
 
--- the texts of the lines, and what the lines say before and after an edit
+-- the texts of the lines, and the readings of the lines before and after an edit
 abbrev pub texts_kept : Kept → List (List ℕ)
 texts_kept kept = texts_in kept.lines.items
 
@@ -38,7 +39,8 @@ lines_kept kept = readings_in kept.lines.items
 abbrev pub lines_then : Kept → Edit → List Reading
 lines_then kept edit = readings_in (lines_after kept.lines.items edit)
 
--- the edit is one of these lines, leaves no more than there may be, and its lines were read
+-- the place of the edit is within these lines, the edit leaves no more lines than a source may
+-- have, and its new lines were read
 pub record MayEdit (old : Kept) (edit : Edit) : Type 0 where
   pub kept : IsKept old
   pub within : IsPlaceWithin (vec_len old.lines) edit
@@ -46,7 +48,7 @@ pub record MayEdit (old : Kept) (edit : Edit) : Type 0 where
   pub are_read : AllAdded IsRead edit
   pub infos : AllAdded (λ line. IsInfo old.names.keys line.info line.several (reading_in line)) edit
 
--- how many lines an edit makes encode
+-- the number of lines that are encoded because of an edit
 abbrev pub needed_by : Kept → Edit → ℕ
 needed_by kept edit =
     lines_to_encode (texts_kept kept) (texts_after (texts_kept kept) edit) (place_before edit)
@@ -61,7 +63,8 @@ change_of kept edit =
       keys = kept.names.keys;
     }
 
--- nothing that is kept changed, and there is room for an edit after which there are so many lines
+-- nothing that is kept has changed, and there is room for an edit after which there are `count`
+-- lines
 pub record HasRoomFor (old new : Kept) (count : ℕ) : Type 0 where
   pub lines : new.lines.items ≡ old.lines.items
   pub names : new.names ≡ old.names
@@ -74,8 +77,8 @@ pub record HasRoomFor (old new : Kept) (count : ℕ) : Type 0 where
   pub placements_room : vec_len new.layout.placements + count ≤ vec_capacity new.layout.placements
   pub blocks_room : count ≤ vec_capacity new.blocks
 
--- the edit is made in the lines and in what is kept of each, and the first lines, after which stands
--- an address, stay: all is ready for the two passes
+-- all is ready for the two passes: the edit is made in the lines and in what is kept of each, and
+-- the first lines, which end at the address `start`, stay
 pub record IsExchanged (e : Change) (kept : Kept) (first start : ℕ) : Type 0 where
   pub now : e.now ≡ readings_in kept.lines.items
   pub change : IsChange e
@@ -107,7 +110,7 @@ pub record IsExchanged (e : Change) (kept : Kept) (first start : ℕ) : Type 0 w
       → is_byte_of x.here x.size k ≡ false)
       → slice_index kept.image.items k ≡ 0
 
--- the layout and the codes of the lines after an edit are made
+-- the passes have made the layout and the codes of the lines after an edit
 pub record IsAssembled (e : Change) (kept : Kept) : Type 0 where
   pub infos : AreInfos kept.names.keys kept.lines.items
   pub symbols : kept.names.symbols ≡ names_of_lines e.now

@@ -1,4 +1,4 @@
--- What contracts see of a kept line, and how it is held (own).
+-- A kept line as contracts see it, and the way in which it is stored (chosen by this project).
 use Rattle.std.specs.Prelude.{ℕ, List, ◌≡◌, ◌+◌, ◌≤◌, [], ℤ, IfSome, Ok, Option, length}
 use Rattle.chip_lang.specs.declared.line.Line.{Line}
 use Rattle.chip_asm.specs.declared.line_info.LineInfo.{LineInfo}
@@ -11,19 +11,19 @@ use Rattle.chip_asm.specs.declared.kept_line.HeldLine.{HeldLine}
 use Rattle.chip_asm.specs.declared.kept_line.HeldLine.TheVariants.{Nothing, Boxed}
 use Rattle.chip_asm.specs.inner.HeldText.{SaysNothing, part_from}
 
--- its text, its reading, what steps over all lines ask of it, and the numbers of the names that it
--- uses, where there are several
+-- the text of a line, its reading, the facts that steps over all lines need, and the numbers of the
+-- names that it uses, if it uses several
 pub record KeptLine : Type 0 where
   pub text : List ℕ
   pub line : Line
   pub info : LineInfo
   pub several : List NameId
 
--- a value that the line's own expression has under these names, if it is known
+-- if the value is known, it is the value of the line's own expression under these names
 abbrev pub IsKnownUnder : List (Name × Symbol) → Option ℤ → Reading → Type 0
 IsKnownUnder names known line = IfSome known (λ value. value_at names (body_of line) ≡ Ok value)
 
--- a line that is blank or only a comment has no box
+-- a stored line as contracts see it; a line that is blank or only a comment has no box
 abbrev pub kept_held : HeldLine → LineInfo → KeptLine
 kept_held (Nothing count start source) info =
     record {

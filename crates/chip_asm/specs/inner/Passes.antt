@@ -1,4 +1,5 @@
--- What is known while the two passes go over the lines after an edit (own).
+-- The facts that hold while the two passes go over the lines after an edit (chosen by this
+-- project).
 use Rattle.std.specs.Prelude.{◌≡◌, ℕ, ◌+◌, ◌-◌, ◌<◌, ◌≤◌, ◌⊎◌, ◌&&◌, Bool, true, false, List, length, reverse, Option, Some, Result, nat_le, nat_lt, slice_get, slice_index, sum_by, vec_len, vec_capacity, count_by, take}
 use Rattle.std.specs.Option.{option_map_or}
 use Rattle.chip_lang.specs.declared.fault.Fault.{Fault}
@@ -23,20 +24,20 @@ use Rattle.chip_asm.specs.inner.Records.{readings_in}
 use Rattle.chip_symbols.specs.Tables.{Tables}
 use Rattle.std.specs.List.{enumerate_from}
 
--- an edit: the lines before and after it, where the line at a place stood, and the names that have
--- numbers
+-- an edit: the lines before and after it, the place that the line at a place had before, and the
+-- names that have numbers
 pub record Change : Type 0 where
   pub was : List Reading
   pub now : List Reading
   pub origin : ℕ → Option ℕ
   pub keys : List Name
 
--- a line that stood somewhere is the same
+-- each line that was there before the edit is the same line after it
 abbrev pub IsChange : Change → Type 0
 IsChange e =
     (j b : ℕ) → e.origin j ≡ Some b → j < length e.now → slice_get e.was b ≡ slice_get e.now j
 
--- the line at a place stood before the edit, and was accepted there
+-- true if the line at a place was there before the edit, and was accepted then
 abbrev pub stood : Change → ℕ → Bool
 stood e j = option_map_or (is_accepted_at e.was) (e.origin j) false
 
@@ -48,48 +49,49 @@ placed_at e j = slice_get (reverse (placed e.now)) j
 abbrev pub code_before : Change → Reading → Result (List ℕ) Fault
 code_before e line = code_with (names_of_lines e.was) line
 
--- the byte at a place of an image is one of so many from an address on
+-- true if the byte at an index of an image is one of `size` bytes from an address on
 abbrev pub is_byte_of : (here size k : ℕ) → Bool
 is_byte_of here size k = nat_le here (IMAGE_START + k) && nat_lt (IMAGE_START + k) (here + size)
 
--- a code stands at an address of an image, with zeros behind it, or its fault is noted
+-- the code of a line is at an address of an image, with zeros after it, and the line's status has
+-- the fault of the code, if any
 pub record HasCode (code : Result (List ℕ) Fault) (here size : ℕ) (status : Status) (image : List ℕ) : Type 0 where
   pub bytes : (k : ℕ) → is_byte_of here size k ≡ true
       → slice_index image k ≡ slice_index (bytes_in_code code) (IMAGE_START + k - here)
   pub noted : status ≡ status_coded (fault_in_code code)
 
--- what is known of the line at a place that the first pass has yet to pass: `q` is what was known
--- of it before the edit, if it was accepted then
+-- the facts about the line at a place that the first pass has yet to pass: `q` is its placement
+-- before the edit, if it was accepted then
 pub record IsSlot (e : Change) (from : List ℕ) (j : ℕ) (line : Reading) (q : Placement) : Type 0 where
   pub accepted : is_accepted q.status ≡ stood e j
   pub was : is_accepted q.status ≡ true
       → (b : ℕ) × (e.origin j ≡ Some b) × (slice_get (placements_of e.was) b ≡ Some (found q))
   pub code : is_accepted q.status ≡ true → HasCode (code_before e line) q.here q.size q.status from
 
--- an accepted line with code, which wasn't accepted before, waits for it
+-- an accepted line with code, which wasn't accepted before, waits for that code
 pub record Waits (e : Change) (j : ℕ) (x : Placed) (status : Status) (image : List ℕ) : Type 0 where
   pub pending : status ≡ Pending
   pub coded : has_code (body_of x.line) ≡ true
   pub new : stood e j ≡ false
   pub zeros : (k : ℕ) → is_byte_of x.here x.size k ≡ true → slice_index image k ≡ 0
 
--- an accepted line waits for its code, or has the one that it had before the edit
+-- an accepted line waits for its code, or has the code that it had before the edit
 abbrev pub IsCarried : Change → (j : ℕ) (x : Placed) (status : Status) (image : List ℕ) → Type 0
 IsCarried e j x status image =
     Waits e j x status image ⊎ HasCode (code_before e x.line) x.here x.size status image
 
--- what is known of a line that the first pass has passed
+-- the facts about a line that the first pass has passed
 abbrev pub IsHeld : Change → (j : ℕ) (x : Placed) (q : Placement) (image : List ℕ) → Type 0
 IsHeld e j x q image = takes_effect x ≡ true → IsCarried e j x q.status image
 
--- the bytes of an image that none of the lines up to a place covers are zeros
+-- each byte of an image that none of the lines before a place covers is zero
 abbrev pub AreGapsZero : Change → (place : ℕ) (image : List ℕ) → Type 0
 AreGapsZero e place image =
     (k : ℕ) → k < IMAGE_BYTES
     → ((j : ℕ) (x : Placed) → j < place → placed_at e j ≡ Some x → is_byte_of x.here x.size k ≡ false)
     → slice_index image k ≡ 0
 
--- the faults are counted, and the lines that wait stand between these places
+-- the faults are counted, and all waiting lines are between these places
 pub record IsTally (placements : List Placement) (tally : Tally) : Type 0 where
   pub counted : tally.faults ≡ sum_by count_of placements
   pub low : (j : ℕ) (q : Placement) → slice_get placements j ≡ Some q → q.status ≡ Pending
@@ -98,12 +100,12 @@ pub record IsTally (placements : List Placement) (tally : Tally) : Type 0 where
       → j < tally.end
   pub within : tally.end ≤ length placements
 
--- so many lines can be passed without another allocation
+-- `left` more lines can be passed without another allocation
 pub record HasRoom (pass : Pass) (left : ℕ) : Type 0 where
   pub blocks : vec_len pass.blocks + left ≤ vec_capacity pass.blocks
   pub names : length pass.names.symbols + left ≤ pass.names.room
 
--- the first pass stands at a place
+-- the first pass has come to a place
 pub record IsUnderWay (e : Change) (lines : List KeptLine) (pass : Pass) (placements : List Placement)
     (tally : Tally) (from image : List ℕ) (place : ℕ) : Type 0 where
   pub now : e.now ≡ readings_in lines
@@ -125,7 +127,7 @@ pub record IsUnderWay (e : Change) (lines : List KeptLine) (pass : Pass) (placem
       → placed_at e j ≡ Some x → slice_get placements j ≡ Some q → IsHeld e j x q image
   pub gaps : AreGapsZero e place image
 
--- what is known of a line that has its code, and of one that the second pass has yet to look at
+-- the facts about a line that has its code, and about one that the second pass has yet to look at
 abbrev pub IsDone : Change → (x : Placed) (q : Placement) (image : List ℕ) → Type 0
 IsDone e x q image =
     is_accepted_in (placed e.now) x ≡ true
@@ -135,7 +137,7 @@ abbrev pub IsHalfDone : Change → (j : ℕ) (x : Placed) (q : Placement) (image
 IsHalfDone e j x q image =
     is_accepted_in (placed e.now) x ≡ true → IsCarried e j x q.status image
 
--- the second pass stands at a place
+-- the second pass has come to a place
 pub record AreCoded (e : Change) (placements : List Placement) (image : List ℕ) (place : ℕ) : Type 0 where
   pub placed_many : length placements ≡ length e.now
   pub image_long : length image ≡ IMAGE_BYTES
@@ -145,31 +147,31 @@ pub record AreCoded (e : Change) (placements : List Placement) (image : List ℕ
       → placed_at e j ≡ Some x → slice_get placements j ≡ Some q → IsHalfDone e j x q image
   pub gaps : AreGapsZero e (length e.now) image
 
--- the second pass is over the lines of the edit, under their symbols
+-- the second pass goes over the lines of the edit, under their symbols
 pub record IsEncodedUnder (e : Change) (names : Tables) (lines : List KeptLine) : Type 0 where
   pub now : e.now ≡ readings_in lines
   pub change : IsChange e
   pub symbols : names.symbols ≡ names_of_lines e.now
   pub before : names.before ≡ values_of (names_of_lines e.was)
 
--- the line with its place has bytes of its own, and has to be encoded
+-- true for a line, with its place, that has bytes of its own and has to be encoded
 unfoldable pub is_encoded_again : (old new : List Reading) → (ℕ → Option ℕ) → ℕ × Reading → Bool
 is_encoded_again old new origin at = has_code (body_of at.1) && needs old new origin at
 
--- how many lines have to be encoded
+-- the number of lines that have to be encoded
 abbrev pub count_again : (old new : List Reading) → (ℕ → Option ℕ) → ℕ
 count_again old new origin = count_by (is_encoded_again old new origin) (enumerate_from 0 new)
 
--- how many of the lines before a place have to be encoded
+-- the number of lines before a place that have to be encoded
 abbrev pub count_up_to : (old new : List Reading) → (ℕ → Option ℕ) → ℕ → ℕ
 count_up_to old new origin place =
     count_by (is_encoded_again old new origin) (take place (enumerate_from 0 new))
 
--- how many of the lines before a place are encoded again
+-- the number of lines before a place that are encoded again
 abbrev pub again_up_to : Change → ℕ → ℕ
 again_up_to e place = count_up_to e.was e.now e.origin place
 
--- the lines from a place up to another one don't wait, and their names keep their values
+-- the lines from one place up to another don't wait, and their names keep their values
 abbrev pub AreSettled : Tables → List KeptLine → List Placement → (start end : ℕ) → Type 0
 AreSettled names lines placements start end =
     (j : ℕ) → j < end → start ≤ j → (line : Reading) (q : Placement)

@@ -1,4 +1,4 @@
--- What is kept of each line, before and after a change of one line (own).
+-- All that is kept of each line, before and after a change of one line (chosen by this project).
 use Rattle.std.specs.Prelude.{◌≡◌, ℕ, ◌+◌, ◌-◌, ◌<◌, ◌≤◌, All, List, length, map, insert, remove, replicate, slice_set, Option, None}
 use Rattle.chip_lang.specs.Line.{Reading, reading_of}
 use Rattle.chip_lang.specs.SeenLine.{seen_line}
@@ -16,11 +16,11 @@ readings_in lines = map reading_in lines
 abbrev pub texts_in : List KeptLine → List (List ℕ)
 texts_in lines = map (λ kept. kept.text) lines
 
--- what is kept of a line was read from its text
+-- the reading that is kept of a line is the reading of its text
 abbrev pub IsRead : KeptLine → Type 0
 IsRead kept = reading_in kept ≡ reading_of kept.text
 
--- the place that the edit names is there
+-- the place of the edit is within the lines
 abbrev pub IsPlaceWithin : ℕ → Edit → Type 0
 IsPlaceWithin count (Insert at line) = at ≤ count
 IsPlaceWithin count (Replace at line) = at < count
@@ -41,14 +41,14 @@ texts_after texts (Replace at line) = slice_set texts at line.text
 texts_after texts (Delete at) = remove texts at
 texts_after texts (Open all) = texts_in all.items
 
--- this holds of each line that comes with the edit
+-- a property holds of each line that comes with the edit
 abbrev pub AllAdded : (KeptLine → Type 0) → Edit → Type 0
 AllAdded P (Insert at line) = P line
 AllAdded P (Replace at line) = P line
 AllAdded P (Delete at) = Unit
 AllAdded P (Open all) = All P all.items
 
--- what is kept of each line after the edit, where this is known of a new one
+-- the item for each line after the edit, where `new` is the item for each new line
 abbrev pub items_after : {X : Type 0} → List X → Edit → (new : X) → List X
 items_after items (Insert at line) new = insert items at new
 items_after items (Replace at line) new = slice_set items at new
@@ -68,7 +68,7 @@ place_before (Replace at line) place = before_replace at place
 place_before (Delete at) place = before_delete at place
 place_before (Open all) place = None
 
--- the lines before this place stay as they are
+-- the place where the edit begins; the lines before it stay
 abbrev pub first_changed : Edit → ℕ
 first_changed (Insert at line) = at
 first_changed (Replace at line) = at

@@ -11,7 +11,8 @@ fn has_line_break(text: &[u8]) -> bool
     text.iter().any(|byte| *byte == b'\n' || *byte == b'\r')
 }
 
-/// Why a text can't be put before the line of this number, among so many lines.
+/// The reason why a text can't be inserted before the line with this number, if there are `count`
+/// lines; none if it can be.
 pub(crate) fn insert_refusal(count: usize, number: usize, text: &[u8]) -> Option<Refusal>
     ensures { result ≡ insert_refusal count number text.now }
 {
@@ -30,7 +31,8 @@ pub(crate) fn insert_refusal(count: usize, number: usize, text: &[u8]) -> Option
     None
 }
 
-/// Why a text can't be put in the place of the line of this number.
+/// The reason why a text can't replace the line with this number, if there are `count` lines; none
+/// if it can.
 pub(crate) fn replace_refusal(count: usize, number: usize, text: &[u8]) -> Option<Refusal>
     ensures { result ≡ replace_refusal count number text.now }
 {
@@ -46,7 +48,8 @@ pub(crate) fn replace_refusal(count: usize, number: usize, text: &[u8]) -> Optio
     None
 }
 
-/// Why the line of this number can't be taken out.
+/// The reason why the line with this number can't be removed, if there are `count` lines; none if
+/// it can be.
 pub(crate) fn delete_refusal(count: usize, number: usize) -> Option<Refusal>
     ensures { result ≡ delete_refusal count number }
 {

@@ -4,7 +4,7 @@ use Rattle.std.proofs.lemmas.List.{get_or-append_right, get_or_append_left, get_
 use borrow.Rule.Slice.PartMut.{put_mid}
 use Rattle.chip_asm.proofs.codes.copy_front.Goals as goal
 
--- zeros behind the first bytes
+-- zeros after the first bytes
 behind : (old part : List ℕ) (end n m k : ℕ) → end ≤ length old → n ≡ length old - end → part ≡ replicate m 0 → end ≤ k → get_or (put_mid end n old part) k 0 ≡ 0
 behind old part end n m k h all zeros past =
     get_or-append_right (take end old) (part ++ drop n (drop end old)) end k 0 (length-take-le end old h) past

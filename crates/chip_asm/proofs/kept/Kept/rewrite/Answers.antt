@@ -54,7 +54,7 @@ put-requires c =
 swap : (c : After-replace_line) → Exchange (readings_in c.args.self.now.lines.items) c.args.at (reading_in c.args.added) c.index.result.now
 swap c = exchange-kept c.args.self.now c.args.at c.args.added c.index.result.now c.requires.kept c.requires.inside c.index.ensures c.requires.alike
 
--- what is noted of it
+-- the placement of the line
 noted : (c : After-replace_line) → IsNoted c.args.self.now c.if-is_accepted.self c.args.at c.args.added c.index.result.now c.if-is_accepted.placement
 noted c =
     let old : Kept = c.args.self.now in
