@@ -50,7 +50,7 @@ module _ (bits start column : ℕ) (fits : bits < 2 ^ 16) (on_screen : column < 
   pub stripe_right : start + 16 ≤ column → bit_at (bits * 2 ^ 112 % 2 ^ 128 / 2 ^ start) (127 - column) ≡ 0
   stripe_right out = whole ∙ bit_at_cat_low bits 112 0 (start + (127 - column)) (omega arith) ∙ bit_at-zero _
 
--- the shift by its part under 64, where the bits are put into the half in which they start
+-- the shift by its part under 64, if the bits are put into the half in which they start
 pub placed_within : (bits start : ℕ) → bits < 2 ^ 16 → start + 16 ≤ 64 → bits * 2 ^ 48 % 2 ^ 64 / 2 ^ (start % 64) * 2 ^ 64 % 2 ^ 128 ≡ bits * 2 ^ 112 % 2 ^ 128 / 2 ^ start
 placed_within bits start fits left =
     let rest = 48 - start in
@@ -77,12 +77,12 @@ placed_right bits start fits right on_screen =
     ∙ (λ i. whole i / 2 ^ e i)
     ∙ ap (λ n. n / 2 ^ start) (sym (shl_whole bits 16 112 128 fits (omega arith)))
 
--- ---- an exclusive or turns the columns that the other row lights
+-- ---- an exclusive or inverts the columns that the other row lights
 
 one_or_zero : (a : ℕ) → a < 2 → (a ≡ 0) ⊎ (a ≡ 1)
 one_or_zero a h = ⊎_elim (λ z. inl z) (λ n. inr (omega arith)) (cases_eq a 0)
 
--- what holds at 0 and 1 holds of each bit
+-- anything that holds at 0 and at 1 holds for each bit
 at_bits : (P : ℕ → ℕ → Type 0) → P 0 0 → P 0 1 → P 1 0 → P 1 1 → (a b : ℕ) → a < 2 → b < 2 → P a b
 at_bits P z00 z01 z10 z11 a b p q =
     ⊎_elim
@@ -114,7 +114,7 @@ lights-bit_and a b column =
     ap (λ bit. bit == 1) (bit_at_and a b (127 - column))
     ∙ both_one (bit_at a (127 - column)) (bit_at b (127 - column)) (bit_at-lt a (127 - column)) (bit_at-lt b (127 - column))
 
--- ---- a row is zero exactly where no column is lit
+-- ---- a row is zero if and only if no column is lit
 
 dark_bit : (bits i : ℕ) → (bit_at bits i == 1) ≡ false → bit_at bits i ≡ 0
 dark_bit bits i e = let small = bit_at-lt bits i in let not_one = eqb-false _ _ e in ⊎_elim (λ z. z) (λ one. absurd (not_one one)) (one_or_zero (bit_at bits i) small)
@@ -132,13 +132,13 @@ some_lit bits fits =
     (λ (no : any_below (lights bits) 128 ≡ false). ap not (eq-eqb bits 0 (dark_row bits fits (any_below-false (lights bits) 128 no))) ∙ sym no)
     (cases_Bool (any_below (lights bits) 128))
 
--- a mask of two rows is not zero exactly where they light a column in common
+-- the mask of two rows is nonzero if and only if they light a column in common
 pub common_column : (a b : ℕ) → b < 2 ^ 128 → not (nat_eq (bit_and a b) 0) ≡ any_below (λ column. lights a column && lights b column) 128
 common_column a b fits =
     some_lit (bit_and a b) (omega (arith, and_le_r a b))
     ∙ any_below_same (lights (bit_and a b)) (λ column. lights a column && lights b column) 128 (λ column h. lights-bit_and a b column)
 
--- two rows together are not zero exactly where one of them is not
+-- the union of two rows is nonzero if and only if one of them is
 pub either_some : (a b : ℕ) → not (nat_eq (bit_or a b) 0) ≡ (not (nat_eq a 0) || not (nat_eq b 0))
 either_some a b =
     ⊎_elim
@@ -181,7 +181,7 @@ module _ (bits n column : ℕ) (on_screen : column < 128) where
   pub lights_shl_out : 128 ≤ column + n → lights (bits * 2 ^ n % 2 ^ 128) column ≡ false
   lights_shl_out out = ap (λ bit. bit == 1) (low_part ∙ bit_at_cat_low bits n 0 (127 - column) (omega arith) ∙ bit_at-zero _)
 
--- ---- a move to the right by `start`, where the columns that leave come in at the left
+-- ---- a move to the right by `start`, in which the columns that leave come in at the left
 
 same_or : (b : Bool) → (b || b) ≡ b
 same_or true = refl

@@ -1,4 +1,4 @@
--- Which keys the next step can tell apart, by the rows of the table.
+-- Which keys the next step can distinguish, by the rows of the table.
 use Rattle.std.proofs.Common.{◌≡◌, ◌≢◌, ℕ, ◌==◌, ◌%◌, ◌^◌, Bool, true, false, not, bit_and, List, [], ◌∷◌, length, min, Option, Some, None, Ok, refl, sym, nat_le, find, is_some, ap, subst, if◌then◌else◌, ◌∙◌, inl, inr, ⊎_elim, arith, eq-eqb}
 use Rattle.std.specs.Int.{bit_at}
 use Rattle.std.specs.List.{range_with_len}
@@ -14,7 +14,7 @@ use Rattle.chip_machine.specs.Step.{Effect, Stops, Keyed, draws_nothing, effect,
 use Rattle.chip_machine.specs.Choices.{IsWithin, IsChoice, Represents}
 use Rattle.chip_machine.specs.inner.KeyRows.{choices_of}
 
--- bits
+-- bits of masks
 down_alone : (k : ℕ) → is_key_down (2 ^ k) k ≡ true
 down_alone k = eq-eqb _ _ (bit_at-pow_same k)
 
@@ -54,7 +54,7 @@ find_none : (p : ℕ → Bool) (l : List ℕ) → ((i : ℕ) → p i ≡ false) 
 find_none p [] h = refl
 find_none p (x ∷ l) h = ap (λ b. if b then Some x else find p l) (h x) ∙ find_none p l h
 
--- what alone passes another test is found where it was found before
+-- the only number that passes a test is found if another test found it before
 found_alone : (b : Bool) (p q : ℕ → Bool) (x : ℕ) (l : List ℕ) (k : ℕ) → q k ≡ true → ((i : ℕ) → i ≢ k → q i ≡ false) → (find p l ≡ Some k → find q l ≡ Some k) → (if b then Some x else find p l) ≡ Some k → (if q x then Some x else find q l) ≡ Some k
 found_alone true p q x l k passes others later h =
     let same : x ≡ k = cc in
@@ -69,7 +69,7 @@ find_alone : (p q : ℕ → Bool) (l : List ℕ) (k : ℕ) → q k ≡ true → 
 find_alone p q [] k passes others h = absurd (cc)
 find_alone p q (x ∷ l) k passes others h = found_alone (p x) p q x l k passes others (find_alone p q l k passes others) h
 
--- a core by the keys is for each mask what it is for a choice
+-- a core that depends on the keys is the same for each mask as for a choice
 abbrev IsOneOf : ℕ → ℕ → (ℕ → Core) → Type 0
 IsOneOf allowed some core_by =
     (keys : ℕ) → IsWithin allowed keys → (one : ℕ) × IsChoice some one × (core_by keys ≡ core_by one)
@@ -98,7 +98,7 @@ wait_by allowed l f keys within (Some k) e = (
 wait_represents : (allowed : ℕ) (l : List ℕ) (f : Option ℕ → Core) → IsOneOf allowed allowed (λ keys. f (find (is_key_down keys) l))
 wait_represents allowed l f keys within = wait_by allowed l f keys within (find (is_key_down keys) l) refl
 
--- likewise an effect
+-- an effect that depends on the keys is the same for each mask as for a choice
 abbrev Acts : ℕ → ℕ → Effect → Type 0
 Acts allowed some (Keyed core_by) = IsOneOf allowed some core_by
 Acts allowed some _ = Unit {0}
@@ -143,7 +143,7 @@ step_acts false allowed some s h keys within =
     let r = perform_acts allowed some s (effect_at s) h keys within in
     (r.0, r.1, λ tick. ap (settle tick s) r.2)
 
--- what stands at pc says which keys the next step can tell apart
+-- the word at pc decides which keys the next step can distinguish
 pub represents : (allowed some : ℕ) (s : State) → Acts allowed some (effect_at s) → Represents allowed some s
 unfolding step_of
 represents allowed some s h keys within = step_acts (is_some s.core.stopped) allowed some s h keys within

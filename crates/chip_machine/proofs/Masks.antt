@@ -1,5 +1,5 @@
--- Masks of parts: their bits, that one has none of another, and what one has after others are taken out
--- and put in.
+-- Masks of parts: their bits, masks that share no bit, and the bits of a mask after some were
+-- removed and others added.
 use Rattle.std.proofs.Common.{◌≡◌, ◌≢◌, ℕ, ◌-◌, ◌*◌, ◌/◌, ◌%◌, ◌^◌, ◌<◌, ◌≤◌, ◌==◌, ◌&&◌, ◌||◌, min, max, bit_and, bit_or, true, false, not, List, [], ◌∷◌, refl, sym, ap, ◌∙◌, inl, inr, arith, rules, eq-eqb, nat_le, subst, w32, w64, Bool}
 use Rattle.std.specs.Int.{bit_at, bit_not}
 use Rattle.std.specs.List.{list_all, list_any}
@@ -26,7 +26,7 @@ pub mask_of_first : (x : ℕ) → x < 16 → 16 * 2 ^ x % 4294967296 - 8 ≡ mas
 mask_of_first x low =
     eqb-true _ _ (agree_below_at (λ n. 16 * 2 ^ n % 4294967296 - 8 == mask_of (first_registers n)) (λ _. true) 16 x refl low)
 
--- ---- their bits
+-- ---- bits of masks
 
 abbrev has_bit : ℕ → ℕ → Bool
 has_bit m k = m / 2 ^ k % 2 == 1
@@ -73,7 +73,7 @@ none_on test (p ∷ ps) h =
     let both = and_parts (not (test p)) (list_all (λ part. not (test part)) ps) h in
     ap (λ b. b || list_any test ps) (not-true (test p) both.0) ∙ none_on test ps both.1
 
--- a mask that has none of some bits
+-- a mask that has none of several bits
 none_in : (m : ℕ) (parts : List ℕ) → bit_and m (mask_of parts) ≡ 0 → list_all (λ part. not (has_bit m part)) parts ≡ true
 none_in m parts none =
     all_off m parts (λ part one.
@@ -81,7 +81,7 @@ none_in m parts none =
     let both : min (bit_at m part) (bit_at (mask_of parts) part) ≡ 0 = sym (bit_at_and m (mask_of parts) part) ∙ ap (λ n. bit_at n part) none ∙ bit_at-zero part in
     is_off m part (omega arith))
 
--- what a mask has is left where it isn't set, and is put in where it is spoilt
+-- a bit of the mask stays if it isn't set, and is added if it is spoiled
 left_in : (m : ℕ) (set spoilt : List ℕ) → m < 2 ^ 32 → mask_of set < 2 ^ 32 → (part : ℕ) → (has_bit m part && not (is_one_of set part) || is_one_of spoilt part) ≡ true
     → has_bit (bit_or (bit_and m (bit_not w32 (mask_of set))) (mask_of spoilt)) part ≡ true
 left_in m set spoilt small fits part h =
@@ -100,7 +100,7 @@ left_in m set spoilt small fits part h =
           is_on _ part (bit_at_or kept (mask_of spoilt) part ∙ omega (arith, bit_at-lt kept part))
     ]
 
--- a mask that has no more than another
+-- a mask that has no bits outside another mask
 within : (m n : ℕ) → bit_or m n ≡ n → (part : ℕ) → has_bit m part ≡ true → has_bit n part ≡ true
 within m n same part h =
     let one : bit_at m part ≡ 1 = on m part h in
@@ -114,14 +114,14 @@ with_more m n part h = let one = on m part h in is_on _ part (bit_at_or m n part
 with_one : (m p : ℕ) → has_bit (bit_or m (2 ^ p)) p ≡ true
 with_one m p = is_on _ p (bit_at_or m (2 ^ p) p ∙ omega (arith, bit_at-pow_same p, bit_at-lt m p))
 
--- a mask without one bit has the others
+-- a mask without one bit keeps the others
 without_one : (m p k : ℕ) → m < 2 ^ 64 → p < 64 → has_bit m k ≡ true → k ≢ p → has_bit (bit_and m (bit_not w64 (1 * 2 ^ p % 18446744073709551616))) k ≡ true
 without_one m p k small low h other =
     let here : bit_at m k ≡ 1 = on m k h in
     let place : k < 64 = elim (cases_lt k 64) [ inl below ↦ below | inr high ↦ absurd (let none = bit_at_above m 64 k small high in omega arith) ] in
     is_on _ k (bit_at_clear_other w64 m p low k place other ∙ here)
 
--- ---- what is forgotten, as it is stored
+-- ---- how a set of forgotten parts and bytes is stored
 
 abbrev pub byte_by : (window bytes at : ℕ) → Bool
 byte_by window bytes at = nat_le window at && has_bit bytes (at - window)
@@ -152,7 +152,7 @@ module _ (p w b v : ℕ) (is : packed p w b ≡ v) (small : AreSmall p w) where
   pub none_used : (parts : List ℕ) → bit_and p (mask_of parts) ≡ 0 → is_one_forgotten v parts ≡ false
   none_used parts none = none_on (has_part v) parts (none_read parts none)
 
-  -- the same with other parts, or other bytes in the window
+  -- the set with other parts, or with other bytes in the window
   module _ (q c u : ℕ) (now : packed q w c ≡ u) (little : AreSmall q w) where
     pub left_or_spoilt : (set spoilt : List ℕ) → q ≡ bit_or (bit_and p (bit_not w32 (mask_of set))) (mask_of spoilt) → mask_of set < 2 ^ 32 → (part : ℕ)
         → is_forgotten_by v set spoilt part ≡ true → has_part u part ≡ true
@@ -172,7 +172,7 @@ module _ (p w b v : ℕ) (is : packed p w b ≡ v) (small : AreSmall p w) where
         let shifted : 1 * 2 ^ part % 4294967296 ≡ 2 ^ part = search rules in
         subst (λ (m : ℕ). has_bit m part ≡ true) (sym (low ∙ made ∙ ap (bit_or p) shifted)) (with_one p part)
 
--- the parts of one are all among those of another
+-- each part of one set is in another set
 pub parts_within : (p q v u : ℕ) → v % 2 ^ 32 ≡ p → u % 2 ^ 32 ≡ q → bit_or p q ≡ q → (part : ℕ) → has_part v part ≡ true → has_part u part ≡ true
 parts_within p q v u is now same part h =
     subst (λ (m : ℕ). has_bit m part ≡ true) (sym now) (within p q same part (subst (λ (m : ℕ). has_bit m part ≡ true) is h))
@@ -182,7 +182,7 @@ bytes_within w b c same at h =
     let both = and_parts (nat_le w at) (has_bit b (at - w)) h in
     and_from (nat_le w at) (has_bit c (at - w)) both.0 (within b c same (at - w) both.1)
 
--- with the byte at an address
+-- the set with the byte at an address
 pub byte_more : (w b more at : ℕ) → byte_by w b at ≡ true → byte_by w (bit_or b more) at ≡ true
 byte_more w b more at h =
     let both = and_parts (nat_le w at) (has_bit b (at - w)) h in
@@ -193,7 +193,7 @@ byte_new w b at above low =
     let shifted : 1 * 2 ^ (at - w) % 18446744073709551616 ≡ 2 ^ (at - w) = search rules in
     and_from (nat_le w at) _ (le-leb w at above) (subst (λ (n : ℕ). has_bit (bit_or b n) (at - w) ≡ true) (sym shifted) (with_one b (at - w)))
 
--- without the byte at an address
+-- the set without the byte at an address
 pub byte_left : (w b a at : ℕ) → b < 2 ^ 64 → w ≤ a → a - w < 64 → byte_by w b at ≡ true → at ≢ a
     → byte_by w (bit_and b (bit_not w64 (1 * 2 ^ (a - w) % 18446744073709551616))) at ≡ true
 byte_left w b a at small above low h other =

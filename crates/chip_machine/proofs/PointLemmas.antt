@@ -1,4 +1,4 @@
--- Sets of points by their members: two that have the same points are equal.
+-- Sets of points by their members: two sets with the same points are equal.
 use Rattle.std.proofs.Common.{◌≡◌, ℕ, zero, suc, ◌+◌, ◌<◌, ◌≤◌, Bool, true, false, not, ◌&&◌, ◌||◌, ◌==◌, nat_le, nat_eq, ◌-◌, map, refl, sym, ap, subst, ◌∙◌, arith, ◌⊎◌, add-one, ⊎_elim}
 use Rattle.std.proofs.Math.Bool.{or-false}
 use Rattle.std.specs.List.{list_any, flat_map, range_with_len}
@@ -79,12 +79,12 @@ is_lit_where test c r = contains-retain (rectangle 128 64) (λ p. test p.0 p.1) 
 pub is_lit-points_where : (test : ℕ → ℕ → Bool) (c r : ℕ) → c < 128 → r < 64 → is_lit (points_where test) c r ≡ test c r
 is_lit-points_where test c r left high = is_lit_where test c r ∙ ap (λ b. b && test c r) (is_lit-rectangle 128 64 c r left high)
 
--- off the screen nothing is lit
+-- outside the screen, nothing is lit
 pub dark_outside : (test : ℕ → ℕ → Bool) (c r : ℕ) → ((c < 128) × (r < 64) → ⊥) → is_lit (points_where test) c r ≡ false
 dark_outside test c r out =
     is_lit_where test c r ∙ ap (λ b. b && test c r) (false_from_ne_true _ (λ e. out (within_rectangle 128 64 c r e)))
 
--- a set is that of a test, where it agrees with the test on the screen and has no point outside
+-- a set is that of a test if both agree on the screen and the set has no point outside
 pub same_where : (s : Points) (test : ℕ → ℕ → Bool)
     → ((c r : ℕ) → c < 128 → r < 64 → test c r ≡ is_lit s c r)
     → ((c r : ℕ) → ((c < 128) × (r < 64) → ⊥) → is_lit s c r ≡ false)
@@ -108,7 +108,7 @@ points_where_alike f g h =
 pub nothing_lit : (f : ℕ → ℕ → Bool) → ((c r : ℕ) → c < 128 → r < 64 → f c r ≡ false) → points_where f ≡ set.empty
 nothing_lit f h = same_where set.empty f (λ c r left high. h c r left high ∙ sym (contains-empty point_cmp (c, r))) (λ c r _. contains-empty point_cmp (c, r))
 
--- ---- what a sprite leaves
+-- ---- the pixels after a sprite is drawn
 
 one_of_two : (a b : Bool) → ((a && not b) || (b && not a)) ≡ differ a b
 one_of_two true true = refl
@@ -147,7 +147,7 @@ meets_none s t h =
     let none : set.intersection s t ≡ set.empty = same_points (set.intersection s t) set.empty (λ c r. contains-intersection point_total s t (c, r) ∙ h c r ∙ sym (contains-empty point_cmp (c, r))) in
     ap (λ u. not (nat_eq (set.len u) 0)) none ∙ ap (λ n. not (nat_eq n 0)) (len-empty point_cmp)
 
--- whether some point passes both tests, told by an answer that is false exactly where none does
+-- whether some point passes both tests, given an answer that is false if and only if none does
 pub meets_where : (f g : ℕ → ℕ → Bool) (hit : Bool)
     → (hit ≡ false → (c r : ℕ) → c < 128 → r < 64 → (f c r && g c r) ≡ false)
     → (((c r : ℕ) → c < 128 → r < 64 → (f c r && g c r) ≡ false) → hit ≡ false)
@@ -237,7 +237,7 @@ scrolled_left_where n f g kept entered = points_where_alike f (λ c r. is_lit (p
 pub on_screen-points_where : (test : ℕ → ℕ → Bool) → IsOnScreen (points_where test)
 on_screen-points_where test c r e = within_rectangle 128 64 c r (and_parts _ (test c r) (sym (is_lit_where test c r) ∙ e)).0
 
--- ---- a scroll takes each lit pixel to its place, as long as that is on the screen
+-- ---- a scroll takes each lit pixel to its new place, if that is on the screen
 
 pub moved_down : (n : ℕ) (lit : Points) (c r : ℕ) → c < 128 → r + n < 64 → is_lit (scrolled_down n lit) c (r + n) ≡ is_lit lit c r
 unfolding scrolled_down

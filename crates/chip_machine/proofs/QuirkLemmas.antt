@@ -1,4 +1,4 @@
--- The choices of the parts of a list, one after another.
+-- The choices that the parts of a list make, one after another.
 use Rattle.std.proofs.Common.{◌≡◌, ◌∙◌, ◌==◌, ℕ, suc, ◌<◌, List, [], ◌∷◌, ◌++◌, length, Option, Some, None, option_map, refl, sym, ap, arith, eq-eqb, if◌then◌else◌, Bool, false}
 use Rattle.std.proofs.lemmas.Bool.{ne_eqb}
 use Rattle.memchr.specs.Find.{Nowhere, Passes, is_byte}
@@ -25,11 +25,12 @@ parts_more (byte ∷ part) rest none =
     ap (λ (b : Bool). if b then [] ∷ parts_of (part ++ comma ∷ rest) else with_byte byte (parts_of (part ++ comma ∷ rest))) (no_comma byte part none)
     ∙ ap (with_byte byte) (parts_more part rest (later byte part none))
 
--- the parts of the rest of a text give with what was chosen so far what all parts give
+-- the parts of the rest of a text, together with the choices made so far, give the same as all
+-- parts
 abbrev pub Completes : (start : Option Chosen) → (text rest : List ℕ) → Option Chosen → Type 0
 Completes start text rest chosen = chosen_by start (parts_of text) ≡ chosen_by chosen (parts_of rest)
 
--- a part more
+-- one more part
 pub goes_on : (start : Option Chosen) (text rest part next : List ℕ) (chosen more : Option Chosen) → Completes start text rest chosen →
     IsFirstPart rest part (Some next) → more ≡ with_choice chosen (choice_named part) → Completes start text next more
 goes_on start text rest part next chosen more completes first is =
@@ -44,7 +45,7 @@ ends q text rest part chosen more now completes first is same =
     completes ∙ ap (λ (t : List ℕ). chosen_by chosen (parts_of t)) first.0 ∙ ap (chosen_by chosen) (last_part part first.1) ∙ sym is in
     ap (option_map (λ (k : Chosen). k.quirks)) (sym (all ∙ same))
 
--- what follows a comma is shorter
+-- the rest after a comma is shorter than the text
 pub shorter : (text part rest : List ℕ) → IsFirstPart text part (Some rest) → length rest < length text
 shorter text part rest first = rw first.0 (after_part part rest)
   where

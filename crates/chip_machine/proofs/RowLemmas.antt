@@ -24,11 +24,11 @@ pub row_bytes-low : (sprite : List ℕ) → row_bytes_by_length false sprite ≡
 unfolding row_bytes_by_length
 row_bytes-low sprite = refl
 
--- the sixteen bits that a row of the sprite has
+-- the sixteen bits of a row of the sprite
 abbrev pub IsPattern : ℕ → Bool → List ℕ → ℕ → Type 0
 IsPattern bits high sprite j = (i : ℕ) → i < 16 → (bit_at bits (15 - i) == 1) ≡ is_set (row_bytes_by_length high sprite) sprite (i / scale high) j
 
--- past them it has none
+-- past its sixteen bits, a row of the sprite has none
 past_columns : (high : Bool) (sprite : List ℕ) (s left column : ℕ) → s ≡ scale high → s * left + 16 ≤ column → 8 * row_bytes_by_length high sprite ≤ column / s - left
 past_columns true sprite s left column e =
     let few = row_bytes_few true sprite in subst (λ (s : ℕ). s * left + 16 ≤ column → 8 * row_bytes_by_length true sprite ≤ column / s - left) (sym e) (λ far. omega arith)
@@ -131,13 +131,13 @@ module _ (old new : List ℕ) (cover : ℕ → ℕ → Bool) (met : Bool) (all :
       (λ none c r left high. any_below-false _ 128 (any_below-false found 64 (sym e ∙ none) r high) c left)
       (λ none. e ∙ any_below_none found 64 (λ r high. any_below_none _ 128 (λ c left. none c r left high)))
 
--- ---- rows whose pixels are turned
+-- ---- rows with inverted pixels
 
 or_groups : (a b d : Bool) → (a || (b || d)) ≡ ((a || b) || d)
 or_groups true b d = refl
 or_groups false b d = refl
 
--- those of some rows, and then those of the next ones
+-- inverting the pixels of some rows, and then those of the next rows
 pub turned_on : (start from end : ℕ) (cover other : ℕ → ℕ → Bool) (old rows new : List ℕ) (met more : ℕ) → start ≤ from → from ≤ end
     → ((column row : ℕ) → column < 128 → from ≤ row → row < end → other column row ≡ cover column row)
     → AreTurned start from cover old rows (not (nat_eq met 0)) → AreTurned from end other rows new (not (nat_eq more 0))
@@ -158,7 +158,7 @@ turned_on start from end cover other old rows new met more low high same first r
           is row (omega arith) below ∙ any_below_same _ _ 128 (λ column within i. lights (sym (first.after row late) i) column && sym (same column row within late below) i));
     }
 
--- those of one row
+-- inverting the pixels of one row
 pub turned_row : (rows : List ℕ) (place stripe : ℕ) → place < length rows → stripe < 2 ^ 128
     → AreTurned place (place + 1) (λ column row. lights stripe column) rows (set rows place (bit_xor (get_or rows place 0) stripe)) (not (nat_eq (bit_and (get_or rows place 0) stripe) 0))
 turned_row rows place stripe within fits =
@@ -181,7 +181,7 @@ unturned : (lit covered : Bool) → covered ≡ false → lit ≡ differ lit cov
 unturned true covered e = ap (λ b. differ true b) (sym e)
 unturned false covered e = ap (λ b. differ false b) (sym e)
 
--- none where nothing is covered
+-- inverting nothing, because nothing is covered
 pub turned_nowhere : (start end : ℕ) (cover : ℕ → ℕ → Bool) (rows : List ℕ) → start ≤ end → ((column row : ℕ) → start ≤ row → row < end → cover column row ≡ false)
     → AreTurned start end cover rows rows false
 turned_nowhere start end cover rows low none =

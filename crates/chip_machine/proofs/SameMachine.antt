@@ -1,4 +1,4 @@
--- A machine that has the quirks of another is that machine, and which profile it is.
+-- A machine that has the quirks of another is the same machine, and which profile a machine has.
 use Rattle.std.proofs.Common.{◌≡◌, ◌≢◌, Bool, true, false, Some, None, sym, refl, subst}
 use Rattle.std.specs.Bool.{beq}
 use Rattle.std.proofs.lemmas.Bool.{and_parts, false≢true}
@@ -70,7 +70,7 @@ denied : (b : Bool) → (b ≡ true → ⊥) → b ≡ false
 denied true isn't = absurd (isn't refl)
 denied false isn't = refl
 
--- a machine that is no profile's has none
+-- a machine that belongs to no profile has none
 pub profile_none : (q : Quirks) → ((p : Profile) → quirks p ≢ q) → profile_with q ≡ None
 unfolding profile_with
 profile_none q none =

@@ -36,7 +36,7 @@ around : number (λ column. clipped_over false 64 32 1 zero_digit column 0) 128 
 unfolding clipped_over is_set row_bytes
 around = refl
 
--- number 0 in the high size stands for sixteen rows of two bytes
+-- row count 0 in the high size stands for sixteen rows of two bytes
 big : number (λ column. clipped_over true 0 0 (row_bytes true 0) one_byte column 15) 128 ≡ 0x00ff0000000000000000000000000000
 unfolding clipped_over is_set row_bytes
 big = refl

@@ -24,25 +24,25 @@ is_set_past w sprite i j h =
     ∙ ap (λ bit. nat_lt i (8 * w) && (bit == 1)) (bit_at-zero (7 - i % 8))
     ∙ and_right (nat_lt i (8 * w)) false refl
 
--- nor in a row past its last of n
+-- a sprite of n rows has no point past its last row
 pub is_set_below : (w n : ℕ) (sprite : List ℕ) (i j : ℕ) → length sprite ≤ w * n → n ≤ j → is_set w sprite i j ≡ false
 is_set_below w n sprite i j few h =
     let along : n * w ≤ j * w = mul-le-mul_right w h in
     is_set_past w sprite i j (omega (arith, along, few, mul_comm w n, mul_comm w j))
 
--- what holds where a pixel is one stored one, and where it is two by two
+-- two cases: a pixel is one stored pixel, or two by two of them
 pub at_scale : (P : (scaled s : ℕ) → Type 0) → P 1 1 → P 2 2 → (high : Bool) (s : ℕ) → s ≡ scale high → P (scale high) s
 at_scale P one two true s e = subst (P 1) (sym e) one
 at_scale P one two false s e = subst (P 2) (sym e) two
 
--- stored columns or rows before those of a pixel, and from it on
+-- stored columns or rows before those of a pixel, and from the pixel on
 pub before_pixel : (high : Bool) (s n k : ℕ) → s ≡ scale high → k < s * n → k / s < n
 before_pixel high s n k e = at_scale (λ _ s. k < s * n → k / s < n) (λ low. omega arith) (λ low. omega arith) high s e
 
 pub from_pixel : (high : Bool) (s n k : ℕ) → s ≡ scale high → s * n ≤ k → (n ≤ k / s) × ((k - s * n) / s ≡ k / s - n)
 from_pixel high s n k e = at_scale (λ _ s. s * n ≤ k → (n ≤ k / s) × ((k - s * n) / s ≡ k / s - n)) (λ up. (omega arith, omega arith)) (λ up. (omega arith, omega arith)) high s e
 
--- a test of three parts, of which two are known
+-- a test with three parts, two of which are known
 three_tests : (a b c : Bool) → a ≡ true → b ≡ true → (a && b && c) ≡ c
 three_tests a b c p q = λ i. p i && q i && c
 
@@ -60,7 +60,7 @@ module _ (high : Bool) (x y : ℕ) (sprite : List ℕ) (column row : ℕ) where
       ap (λ s. nat_le (x % (128 / s)) (column / s) && nat_le (y % (64 / s)) (row / s) && is_set (row_bytes_by_length high sprite) sprite (column / s - x % (128 / s)) (row / s - y % (64 / s))) (sym e)
       ∙ and_left _ _ (and_left _ _ (lt-leb (x % (128 / s)) (column / s) out))
 
-  -- below the last row of the sprite
+  -- rows below the last row of the sprite
   pub covers_below : (s n : ℕ) → s ≡ scale high → length sprite ≤ row_bytes_by_length high sprite * n → n ≤ row / s - y % (64 / s) → covers_by_length high x y sprite column row ≡ false
   unfolding clipped_over
   covers_below s n e few past =
@@ -77,7 +77,7 @@ module _ (high : Bool) (x y : ℕ) (sprite : List ℕ) (column row : ℕ) where
 pub covers_before : (high : Bool) (x y : ℕ) (sprite : List ℕ) (column row : ℕ) → row < scale high * (y % (64 / scale high)) → covers_by_length high x y sprite column row ≡ false
 covers_before high x y sprite column row before = covers_above high x y sprite column row (scale high) refl (before_pixel high (scale high) _ row refl before)
 
--- nor from the line on where its n rows or the screen end
+-- nothing is covered from the line on where the n rows of the sprite or the screen end
 pub covers_after : (high : Bool) (x y : ℕ) (sprite : List ℕ) (column row count n s : ℕ) → row < 64 → length sprite ≤ row_bytes_by_length high sprite * n → s ≡ scale high → count ≡ min n (64 / s - y % (64 / s)) → scale high * (y % (64 / s) + count) ≤ row → covers_by_length high x y sprite column row ≡ false
 covers_after high x y sprite column row count n s on_screen few scaled e after =
     covers_below high x y sprite column row (scale high) n refl few
@@ -102,7 +102,7 @@ pub lines_fill : (high : Bool) (s : ℕ) → s ≡ scale high → s * (64 / s) �
 lines_fill true s e = ap (λ (s : ℕ). s * (64 / s)) e
 lines_fill false s e = ap (λ (s : ℕ). s * (64 / s)) e
 
--- the length of a sprite of n rows tells the bytes in a row
+-- the length of a sprite of n rows determines the number of bytes per row
 pub row_bytes_by_rows : (wide : Bool) (n : ℕ) (sprite : List ℕ) → n < 16 → length sprite ≡ sprite_bytes wide n → sprite_row_bytes sprite ≡ row_bytes wide n
 unfolding row_bytes sprite_row_bytes
 row_bytes_by_rows false n sprite small size =
@@ -121,13 +121,14 @@ row_bytes_by_rows true n sprite small size =
     cond-false (nat_eq (length sprite) 32) 2 1 (ne_eqb (length sprite) 32 (λ (e : length sprite ≡ 32). omega arith)) ∙ sym (cond-false (nat_eq n 0) 2 1 (ne_eqb n 0 some)))
     (cases_eq n 0)
 
--- a clipped sprite that isn't wide in the low size has the bytes in a row that its loop takes
+-- the loop for clipped sprites uses the right number of bytes per row, if the sprite isn't wide in
+-- the low size
 pub row_bytes-clipped : (high : Bool) (sprite : List ℕ) → (high ≡ false → length sprite ≡ 32 → ⊥) → row_bytes_by_length high sprite ≡ sprite_row_bytes sprite
 unfolding row_bytes_by_length sprite_row_bytes
 row_bytes-clipped true sprite narrow = refl
 row_bytes-clipped false sprite narrow = sym (cond-false (nat_eq (length sprite) 32) 2 1 (ne_eqb (length sprite) 32 (narrow refl)))
 
--- what its loop draws
+-- the pixels that the loop for clipped sprites draws
 pub covers-clipped : (wraps high : Bool) (x y : ℕ) (sprite : List ℕ) → (not wraps && (not (length sprite == 32) || high)) ≡ true → covers_by_length high x y sprite ≡ covers wraps high x y sprite
 covers-clipped true high x y sprite h = absurd (false≢true h)
 covers-clipped false true x y sprite h =

@@ -8,17 +8,17 @@ use Rattle.chip_machine.specs.Start.{with_digits_and_image, zeros}
 use Rattle.chip_machine.specs.ImageLaw.{ImageAndZeros, SameBelowTheImage}
 use Rattle.chip_machine.specs.inner.Overwritten.{length-overwrite}
 
--- what stands before the bytes that were written stays
+-- the bytes before the written ones stay
 pub take-overwrite : (m : List ℕ) (i : ℕ) (bytes : List ℕ) → i ≤ length m → take i (overwrite m i bytes) ≡ take i m
 unfolding overwrite
 take-overwrite m i bytes fits = rw append_assoc (take_at (take i m) (bytes ++ drop (i + length bytes) m) i (length-take-le i m fits))
 
--- from there on there are the bytes, and what stood after them
+-- from the address on there are the written bytes, and then the old ones
 pub drop-overwrite : (m : List ℕ) (i : ℕ) (bytes : List ℕ) → i ≤ length m → drop i (overwrite m i bytes) ≡ bytes ++ drop (i + length bytes) m
 unfolding overwrite
 drop-overwrite m i bytes fits = rw append_assoc (drop_at (take i m) (bytes ++ drop (i + length bytes) m) i (length-take-le i m fits))
 
--- and past the bytes what stood there
+-- past the written bytes, the old ones stay
 pub drop-overwrite_past : (m : List ℕ) (i : ℕ) (bytes : List ℕ) (n : ℕ) → i ≤ length m → drop (i + length bytes + n) (overwrite m i bytes) ≡ drop (i + length bytes + n) m
 unfolding overwrite
 drop-overwrite_past m i bytes n fits =
@@ -27,7 +27,7 @@ drop-overwrite_past m i bytes n fits =
     ∙ ap (drop n) (drop_at (take i m ++ bytes) (drop (i + length bytes) m) (i + length bytes) front)
     ∙ drop-drop n (i + length bytes) m
 
--- the digits, and zeros after them
+-- the digits, followed by zeros
 abbrev digits_memory : List ℕ
 digits_memory = overwrite (overwrite zeros 0 (bytes_of small_shapes)) 80 (bytes_of big_shapes)
 
@@ -43,7 +43,7 @@ length-digits =
 regrouped : (n : ℕ) → 180 + n ≡ 80 + (100 + n)
 regrouped n = omega arith
 
--- past the digits there are zeros
+-- past the digits, all bytes are zeros
 zeros_past : (n : ℕ) → drop (180 + n) digits_memory ≡ replicate (MEMORY_BYTES - (180 + n)) 0
 unfolding zeros
 zeros_past n =

@@ -1,4 +1,4 @@
--- The bits that a sprite covers in a line, where it may wrap or have wide rows in the low size.
+-- The bits that a sprite covers in a line, if it may wrap or have wide rows in the low size.
 use Rattle.std.proofs.Common.{◌≡◌, ℕ, ◌+◌, ◌-◌, ◌*◌, ◌/◌, ◌%◌, ◌^◌, ◌<◌, ◌≤◌, Bool, true, false, ◌&&◌, ◌==◌, nat_eq, nat_le, length, List, get_or, refl, sym, ap, subst, ◌∙◌, arith, add-zero, bit_or, ⊎_elim}
 use Rattle.std.specs.Int.{bit_at}
 use Rattle.std.proofs.lemmas.Bool.{cases_lt, and_left, and_right, lt-leb, le-leb, cond_both, cond-true, cond-false, eq-eqb, ne_eqb}
@@ -11,7 +11,7 @@ use Rattle.chip_machine.proofs.BitLemmas.{lights_shl, lights_shl_out, lights_shr
 use Rattle.chip_machine.proofs.RowLemmas.{IsPattern, point_at}
 use Rattle.chip_machine.proofs.SpriteLemmas.{at_scale, before_pixel, from_pixel, is_set_right, line_of, row_bytes-clipped}
 
--- the 32 bits that a row of the sprite has
+-- the 32 bits of a row of the sprite
 abbrev pub IsWidePattern : ℕ → Bool → List ℕ → ℕ → Type 0
 IsWidePattern bits high sprite j = (i : ℕ) → i < 32 → (bit_at bits (31 - i) == 1) ≡ is_set (sprite_row_bytes sprite) sprite (i / scale high) j
 
@@ -71,7 +71,7 @@ module _ (high : Bool) (sprite : List ℕ) (j : ℕ) where
       (cases_lt i 16)
       ∙ ap (λ w. is_set w sprite (i / 2) j) (sym (row_bytes-wide sprite long)))
 
-  -- the columns that begin with them
+  -- the columns that begin with these bits
   pub row_lights : (bits : ℕ) → IsWidePattern bits high sprite j → (column : ℕ) → column < 128
       → lights (bits * 2 ^ 96 % 2 ^ 128) column ≡ is_set (sprite_row_bytes sprite) sprite (column / scale high) j
   row_lights bits pattern column on_screen = ⊎_elim
@@ -83,9 +83,9 @@ module _ (high : Bool) (sprite : List ℕ) (j : ℕ) where
       ∙ sym (is_set_right (sprite_row_bytes sprite) sprite (column / scale high) j (past_wide high sprite column far)))
       (cases_lt column 32)
 
--- ---- where a row of the sprite is placed
+-- ---- the place of a row of the sprite
 
--- such columns light a row of a sprite
+-- the placed columns light a row of a sprite
 abbrev pub LightsRow : ℕ → Bool → List ℕ → ℕ → Type 0
 LightsRow bits high sprite j = (column : ℕ) → column < 128 → lights bits column ≡ is_set (sprite_row_bytes sprite) sprite (column / scale high) j
 

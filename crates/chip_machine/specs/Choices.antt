@@ -1,9 +1,9 @@
--- Which keys the next step can tell apart.
--- Source: own.
---     IsWithin         a mask has no key but the allowed ones
---     IsChoice         a mask with no key, or with one of some keys alone
---     Represents       each mask within the allowed keys acts in the next step as a choice of some
---                      keys does
+-- Which keys the next step can distinguish.
+-- Source: chosen by this project.
+--     IsWithin         a mask contains only allowed keys
+--     IsChoice         a mask contains no key, or exactly one key of `some`
+--     Represents       for each mask within the allowed keys, some choice of `some` has the same
+--                      effect in the next step
 use Rattle.std.specs.Prelude.{◌≡◌, ℕ, ◌^◌, ◌⊎◌, Bool, true, bit_and}
 use Rattle.chip_machine.specs.State.{State}
 use Rattle.chip_machine.specs.Step.{is_key_down, step_of}

@@ -1,30 +1,32 @@
--- What a search may forget of a machine: parts (I, the screen, the sixteen registers) and bytes of
--- the memory, and what a step does with them.
--- Source: own, by the table of the instructions.
---     index_part       the number of I, of the screen and of register x
---     far_part         the number of what is left of I where its value is forgotten: whether it is
---                      where digits stand
---     has_part         whether a part is among some, part k at bit k below bit 32
---     window_of        the first address of which a byte may be among them, which stands above these
---     has_byte         whether the byte at an address is, the first of the window at bit 48
---     needs            the parts on which more than other parts and bytes depends in an instruction:
---                      where it leads to, which bytes it accesses, the delay timer, a key's number,
---                      a flag register
+-- The parts of a machine that a search may forget (I, the screen, the sixteen registers), the bytes
+-- of its memory that a search may forget, and how a step changes what is forgotten.
+-- Source: chosen by this project, following the table of the instructions.
+--     index_part       the numbers of I and of the screen; `register_part x` is that of register x
+--     far_part         the number of a separate part that says whether I points at digits, which
+--                      may be known even if the value of I is forgotten
+--     has_part         whether a part is in a set of forgotten parts and bytes; part k is bit k,
+--                      below bit 32
+--     window_of        the lowest address that the set's window covers; bits 32 to 47 hold it
+--     has_byte         whether the byte at an address is in the set; the first byte of the window
+--                      is bit 48
+--     needs            the parts that decide more than the values of other parts and bytes: where
+--                      an instruction leads, which bytes it accesses, the delay timer, a key's
+--                      number, a flag register
 --     uses             the other parts that an instruction computes with
---     spoils           the parts whose values come of those that it uses
---     spoilt           these, where it uses one that is forgotten
---     sets             the parts that have a value after an instruction that depends on none of them,
---                      but on those that it needs and uses
---     loaded, stored   how many bytes at I an effect reads and writes: those that are read are put
---                      in the first registers, or drawn
---     draws            whether they are drawn
---     stored_part      the part of which a byte comes that is written
---     AreKept          none of so many bytes in a row is forgotten
---     AreWithin        what is forgotten in one way is so in another one
---     IsUnneeded       the next step of a state needs nothing of what is forgotten
---     IsForgottenAfter all is forgotten that is so after the next step, which leads to a pc: the
---                      registers that it loads with forgotten bytes too, and the bytes that it stores
---                      from forgotten registers
+--     spoils           the parts whose new values depend on those that the instruction uses
+--     spoilt           the spoiled parts if the instruction uses a forgotten part, otherwise none
+--     sets             the parts whose values after an instruction depend on nothing except the
+--                      parts that it needs and uses
+--     loaded, stored   how many bytes at I an effect reads and writes; the bytes read are loaded
+--                      into the first registers or drawn
+--     draws            whether an instruction draws the bytes that it reads
+--     stored_part      the part whose value determines a byte that is written
+--     AreKept          none of `count` bytes from an address on is forgotten
+--     AreWithin        everything that is forgotten in `some` is also forgotten in `all`
+--     IsUnneeded       the next step of a state needs nothing that is forgotten
+--     IsForgottenAfter the set contains all that is forgotten after the next step, which leads to a
+--                      given pc, including the registers that it loads with forgotten bytes and the
+--                      bytes that it stores from forgotten registers
 use Rattle.std.specs.Prelude.{◌≡◌, ℕ, ◌+◌, ◌-◌, ◌/◌, ◌%◌, ◌^◌, ◌<◌, ◌≤◌, ◌==◌, ◌&&◌, ◌||◌, Bool, true, false, not, List, [], ◌∷◌, length, Option, Some, None, nat_lt, nat_le, if◌then◌else◌}
 use Rattle.std.specs.List.{list_all, list_any, range_with_len}
 use Rattle.chip_lang.specs.Decoding.{decode_of}
@@ -65,9 +67,9 @@ has_byte forgotten at =
     nat_le (window_of forgotten) at
     && forgotten / 2 ^ 32 / 2 ^ 16 / 2 ^ (at - window_of forgotten) % 2 == 1
 
--- ---- by the rows of the table
+-- ---- by the rows of the instruction table
 
--- a row that isn't here needs none of the parts
+-- a row that isn't listed needs none of the parts
 unfoldable pub needs : Quirks → Instr → List ℕ
 needs q (row.SkipIfByte x byte) = register_part x ∷ []
 needs q (row.SkipUnlessByte x byte) = register_part x ∷ []
@@ -85,8 +87,8 @@ needs q (row.LoadRegisters x) = index_part ∷ far_part ∷ []
 needs q (row.StoreFlags x) = first_registers x
 needs q instr = []
 
--- an ADD of a number needs and uses nothing: what is forgotten of Vx stays so. Nothing depends on
--- the sound timer.
+-- ADD with a number needs and uses nothing, because Vx stays forgotten if it was. Nothing depends
+-- on the sound timer.
 unfoldable pub uses : Quirks → Instr → List ℕ
 uses q (row.Copy x y) = register_part y ∷ []
 uses q (row.Or x y) = register_part x ∷ register_part y ∷ []
@@ -104,7 +106,8 @@ uses q (row.SmallDigit x) = register_part x ∷ []
 uses q (row.BigDigit x) = register_part x ∷ []
 uses q instr = []
 
--- a digit's address is among those of digits, whatever the digit is. A sum of I may be anywhere.
+-- the address of a digit lies among the digits, whatever the digit is; a sum with I may lie
+-- anywhere
 unfoldable pub spoils : Quirks → Instr → List ℕ
 spoils q (row.Copy x y) = register_part x ∷ []
 spoils q (row.Or x y) = register_part x ∷ []
@@ -130,7 +133,7 @@ abbrev pub spoilt : Quirks → (forgotten : ℕ) → Instr → List ℕ
 spoilt q forgotten instr =
     if is_one_forgotten forgotten (uses q instr) then spoils q instr else []
 
--- `moved`: pc isn't where it was, so that a wait for a key has ended
+-- `moved` says that pc has changed, so that a wait for a key has ended
 unfoldable pub sets : Quirks → (moved : Bool) → Instr → List ℕ
 sets q moved row.ClearScreen = screen_part ∷ []
 sets q moved row.LowSize = if q.clears_at_size then screen_part ∷ [] else []
@@ -160,7 +163,7 @@ sets q moved (row.LoadRegisters x) = first_registers x
 sets q moved (row.LoadFlags x) = first_registers x
 sets q moved instr = []
 
--- ---- by the effect of a row
+-- ---- by the effect of an instruction
 
 abbrev pub loaded : Effect → ℕ
 loaded (Loads count core_by) = count
@@ -170,7 +173,7 @@ abbrev pub stored : Effect → ℕ
 stored (Stores bytes core) = length bytes
 stored effect = 0
 
--- ---- some bytes, and all that is forgotten
+-- ---- bytes, and whole sets
 
 abbrev pub AreKept : (forgotten : ℕ) → (at count : ℕ) → Type 0
 AreKept forgotten at count =
@@ -194,12 +197,12 @@ abbrev pub draws : Option Instr → Bool
 draws (Some (row.Draw x y n)) = true
 draws instr = false
 
--- `place`: that of the byte in the row that is written
+-- `place` is the place of the byte in the row of bytes that is written
 abbrev pub stored_part : Option Instr → (place : ℕ) → ℕ
 stored_part (Some (row.StoreDecimal x)) place = register_part x
 stored_part instr place = register_part place
 
--- the parts, the bytes at pc, and those at I that are drawn
+-- three conditions: on the parts, on the bytes at pc, and on the bytes at I that are drawn
 pub record IsUnneeded (forgotten : ℕ) (s : State) : Type 0 where
   pub parts : list_all (λ part. not (has_part forgotten part))
       (parts_by (needs s.core.quirks) (next_instr s)) ≡ true
@@ -214,11 +217,11 @@ abbrev pub is_forgotten_by : (forgotten : ℕ) → (set spoiled : List ℕ) → 
 is_forgotten_by forgotten set spoiled part =
     has_part forgotten part && not (is_one_of set part) || is_one_of spoiled part
 
--- whether an address is one of so many in a row
+-- whether an address is one of `count` consecutive ones
 abbrev pub is_in_row : (start count : ℕ) → (at : ℕ) → Bool
 is_in_row start count at = nat_le start at && nat_lt at (start + count)
 
--- `to` is where pc is after the step
+-- `to` is the value of pc after the step
 pub record IsForgottenAfter (before : ℕ) (s : State) (to after : ℕ) : Type 0 where
   pub parts : (part : ℕ) → is_forgotten_by before
       (parts_by (sets s.core.quirks (not (to == s.core.pc))) (next_instr s))

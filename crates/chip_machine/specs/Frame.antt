@@ -1,5 +1,5 @@
 -- The frame law: a step neither depends on the bytes that it doesn't touch nor changes them.
--- Source: own.
+-- Source: chosen by this project.
 use Rattle.std.specs.Prelude.{◌≡◌, ℕ, Bool, List, All, IsFalse, IsTrue, slice_index}
 use Rattle.chip_machine.specs.State.{State, IsProper}
 use Rattle.chip_machine.specs.Step.{step_of, touches}
@@ -8,11 +8,11 @@ use Rattle.chip_machine.specs.Step.{step_of, touches}
 abbrev pub SameOff : (ℕ → Bool) → List ℕ → List ℕ → Type 0
 SameOff set m n = (at : ℕ) → IsFalse (set at) → slice_index m at ≡ slice_index n at
 
--- likewise inside it
+-- two memories have the same bytes inside a set of addresses
 abbrev pub SameOn : (ℕ → Bool) → List ℕ → List ℕ → Type 0
 SameOn set m n = (at : ℕ) → IsTrue (set at) → slice_index m at ≡ slice_index n at
 
--- two states are the same but for the bytes at a set of addresses
+-- two states are the same except for the bytes at a set of addresses
 pub record DifferOnlyAt (set : ℕ → Bool) (a b : State) : Type 0 where
   pub core : a.core ≡ b.core
   pub memory : SameOff set a.memory b.memory
@@ -21,7 +21,7 @@ pub record DifferOnlyAt (set : ℕ → Bool) (a b : State) : Type 0 where
 abbrev pub Misses : (ℕ → Bool) → List ℕ → Type 0
 Misses set addresses = All (λ at. IsFalse (set at)) addresses
 
--- what the same step of two states makes of them, where it touches nothing of the set
+-- the results of the same step from two states, if the step touches no address of the set
 pub record IsFramed (set : ℕ → Bool) (keys : ℕ) (tick : Bool) (a b : State) : Type 0 where
   pub same_touches : touches b ≡ touches a
   pub still_agree : DifferOnlyAt set (step_of a keys tick) (step_of b keys tick)

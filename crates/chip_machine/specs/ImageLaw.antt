@@ -1,16 +1,16 @@
--- What the image is in the memory at the start.
--- Source: own; that programs stand at 512 is of the COSMAC VIP manual.
+-- The place of the image in the memory at the start.
+-- Source: chosen by this project, except that programs begin at 512 (COSMAC VIP manual).
 use Rattle.std.specs.Prelude.{◌≡◌, ◌-◌, ◌≤◌, ℕ, List, ◌++◌, length, take, drop, replicate}
 use Rattle.chip_lang.specs.declared.limits.TheConstants.{IMAGE_BYTES, IMAGE_START}
 use Rattle.chip_machine.specs.Start.{start_memory}
 
--- from the place of the image on there are the image and zeros
+-- from the address of the image on, the memory holds the image and then zeros
 abbrev pub ImageAndZeros : Type 0
 ImageAndZeros =
     (image : List ℕ) → length image ≤ IMAGE_BYTES
     → drop IMAGE_START (start_memory image) ≡ image ++ replicate (IMAGE_BYTES - length image) 0
 
--- below it the memory is the same for every image
+-- below that address, the memory is the same for every image
 abbrev pub SameBelowTheImage : Type 0
 SameBelowTheImage =
     (old new : List ℕ) → take IMAGE_START (start_memory old) ≡ take IMAGE_START (start_memory new)

@@ -1,26 +1,26 @@
--- What the machine is and does:
+-- The definitions of the machine, in these files:
 --   Points    the screen as the set of its lit pixels
 --   Sprite    the pixels that a sprite covers
 --   Scroll    the lit pixels moved down, right or left
 --   Digits    the shapes of the digits
---   Profile   the machines that have a name, and their quirks
+--   Profile   the machines that have names, and their quirks
 --   QuirkList the quirks by the names that users give them
 --   State     the state of the machine
 --   Start     the state before the first step
 --   Step      the table of the instructions, one step, and the addresses that it touches
 --   Touched   whether a step touches an address
---   Keyless   which steps depend on the keys, and the law of those that don't
---   Choices   which keys the next step can tell apart
+--   Keyless   which steps depend on the keys, and the law about those that don't
+--   Choices   which keys the next step can distinguish
 --   Forgotten which parts of a state a step reads and sets
---   Relevant  what of a state later steps depend on
---   Restored  a machine that is put back from its parts
---   Block     some steps, one after another
+--   Relevant  the part of a state that later steps depend on
+--   Restored  a machine restored from its parts
+--   Block     several steps, one after another
 --   Frame     the frame law
---   ImageLaw  what the image is in the memory at the start
---   Limits    the size of the memory and where the image stands
---   Numbers   the numbers of stop causes and of errors at the start
---   inner     how a state is stored, and proofs that a trait above asks for as its laws; a reader
---             may skip it
+--   ImageLaw  the place of the image in the memory at the start
+--   Limits    the size of the memory and where the image begins
+--   Numbers   the numbers of stop causes and of start errors
+--   inner     how a state is stored, and proofs of the laws that a trait in the crate above
+--             requires; a reader may skip it
 pub mod Block
 pub mod Choices
 pub mod Digits

@@ -1,6 +1,6 @@
--- The numbers by which causes are printed: S1 to S7 of a stop, and M1 to M3 of a machine that could
--- not start.
--- Source: own.
+-- The numbers with which causes are printed: S1 to S7 for a stop, and M1 to M3 for a machine that
+-- could not start.
+-- Source: chosen by this project.
 use Rattle.std.specs.Prelude.{ℕ}
 use Rattle.chip_machine.specs.declared.stop.Stop.{Stop}
 use Rattle.chip_machine.specs.declared.stop.Stop.TheVariants as cause

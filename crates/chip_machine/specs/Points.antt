@@ -1,5 +1,6 @@
 -- The screen of 128 columns and 64 rows, as the set of its lit pixels.
--- Source: SUPER-CHIP 1.1 documentation for the 128 by 64 points; own: the low size shares them.
+-- Source: SUPER-CHIP 1.1 documentation for the 128 by 64 points; this project chose that the low
+-- size shares them.
 use Rattle.std.specs.Prelude.{◌≡◌, ℕ, ◌-◌, ◌<◌, ◌==◌, Bool, true, not, nat_eq, map}
 use Rattle.std.specs.Int.{bit_at}
 use Rattle.std.specs.List.{flat_map, range_with_len}
@@ -13,7 +14,7 @@ use Rattle.std.specs.FinSet.{FinSet}
 abbrev pub Point : Type 0
 Point = ℕ × ℕ
 
--- by column, and then by row
+-- the order of points: by column, and then by row
 abbrev pub point_cmp : Point → Point → Ordering
 point_cmp p q = ordering_then (nat_cmp p.0 q.0) (nat_cmp p.1 q.1)
 
@@ -24,11 +25,11 @@ Points = FinSet point_cmp
 abbrev pub points_code : Coded Points
 points_code = set.code (coded× coded_ℕ coded_ℕ)
 
--- whether the point in this column and row is one of these
+-- whether the point in this column and row is in the set
 abbrev pub is_lit : Points → ℕ → ℕ → Bool
 is_lit lit column row = set.contains lit (column, row)
 
--- whether the column of a row of 128 bits is lit, the leftmost column the highest bit
+-- whether a column is lit in a row of 128 bits; the leftmost column is the highest bit
 abbrev pub lights : ℕ → ℕ → Bool
 lights bits column = bit_at bits (127 - column) == 1
 
@@ -38,11 +39,11 @@ rectangle width height =
     set.from_list (flat_map (λ row. map (λ column. (column, row)) (range_with_len 0 width))
     (range_with_len 0 height))
 
--- the pixels of the screen at which a test of column and row passes
+-- the pixels of the screen whose column and row pass a test
 unfoldable pub points_where : (ℕ → ℕ → Bool) → Points
 points_where test = set.retain (rectangle 128 64) (λ p. test p.0 p.1)
 
--- the points of the one set or of the other, and not of both
+-- the points that are in exactly one of two sets
 unfoldable pub symmetric_difference : Points → Points → Points
 symmetric_difference a b = set.union (set.difference a b) (set.difference b a)
 

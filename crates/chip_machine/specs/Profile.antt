@@ -1,7 +1,7 @@
--- The machines that have a name, and their quirks.
--- Source: COSMAC VIP manual; Gustafsson's CHIP-48; Bryntse's SUPER-CHIP 1.0 and 1.1; the emulators of
--- today for schip-modern; Octo's manual. Step says at each quirk which has it; own: what schip does
--- with OR, AND and XOR.
+-- The machines that have names, and their quirks.
+-- Source: COSMAC VIP manual; Gustafsson's CHIP-48; Bryntse's SUPER-CHIP 1.0 and 1.1; present-day
+-- emulators for schip-modern; Octo's manual. Step.antt names for each quirk the machines that have
+-- it. This project chose what schip does with OR, AND and XOR.
 use Rattle.std.specs.Prelude.{ℕ, List, [], ◌∷◌, ◌&&◌, Bool, find, map, true, false, Option, Some, None}
 use Rattle.std.specs.Bool.{beq}
 use Rattle.std.specs.Str.{bytes_eq}
@@ -30,7 +30,7 @@ schip =
       has_super_instructions = true;
     }
 
--- the quirks of each: those of SUPER-CHIP 1.1, but for these
+-- the quirks of each profile, given as differences from SUPER-CHIP 1.1
 abbrev pub quirks : Profile → Quirks
 quirks profile.Schip = schip
 quirks profile.Vip =
@@ -75,11 +75,11 @@ profile_name profile.Schip10 = SCHIP10.now
 profile_name profile.SchipModern = SCHIP_MODERN.now
 profile_name profile.Octo = OCTO.now
 
--- all names
+-- the names of all profiles
 abbrev pub profile_names : List (List ℕ)
 profile_names = map (λ name. name.now) PROFILES
 
--- the profile of a name, if there is one
+-- the profile with a name, if there is one
 abbrev pub profiles : List Profile
 profiles =
     profile.Schip ∷ profile.Vip ∷ profile.Chip48 ∷ profile.Schip10 ∷ profile.SchipModern
@@ -88,12 +88,12 @@ profiles =
 abbrev pub profile_named : List ℕ → Option Profile
 profile_named name = find (λ p. bytes_eq name (profile_name p)) profiles
 
--- the profile that a user asks for: SUPER-CHIP 1.1 where no name is given
+-- the profile that a user asks for; SUPER-CHIP 1.1 if no name is given
 abbrev pub profile_asked : Option (List ℕ) → Option Profile
 profile_asked None = Some profile.Schip
 profile_asked (Some name) = profile_named name
 
--- whether two machines are the same
+-- whether two machines have the same quirks
 abbrev pub is_move : IndexMove → IndexMove → Bool
 is_move index.Stays index.Stays = true
 is_move index.AtLast index.AtLast = true
@@ -115,6 +115,6 @@ are_same_quirks q other =
     && beq q.flags_overflow other.flags_overflow
     && beq q.has_super_instructions other.has_super_instructions
 
--- the profile of a machine, if it has one
+-- the profile with the given quirks, if there is one
 unfoldable pub profile_with : Quirks → Option Profile
 profile_with q = find (λ p. are_same_quirks q (quirks p)) profiles

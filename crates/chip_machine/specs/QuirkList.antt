@@ -1,10 +1,11 @@
--- The quirks by the names that users give them (own).
---     choice_named     the choice of a name
+-- The quirks under the names that users give them (chosen by this project).
+--     choice_named     the choice with a name
 --     has_choice       whether a machine has a choice
---     with_choice      quirks with one choice more, whose quirk was not chosen before
+--     with_choice      the quirks with one more choice; refused if that quirk was chosen before
 --     parts_of         the parts of a text between its commas
---     with_choices     quirks but for the choices of a list
---     quirks_asked     the quirks of a profile but for those choices, where one or both are given
+--     with_choices     the quirks changed by the choices of a list
+--     quirks_asked     the quirks of a profile, changed by the choices of a list; both may be left
+--                      out
 use Rattle.std.specs.Prelude.{ℕ, ◌/◌, ◌%◌, ◌^◌, ◌==◌, Bool, List, [], ◌∷◌, fold, map, bit_or, Option, Some, None, option_and_then, option_map, if◌then◌else◌}
 use Rattle.std.specs.Bool.{beq}
 use Rattle.std.specs.Str.{bytes_eq}
@@ -15,7 +16,7 @@ use Rattle.chip_machine.specs.declared.quirks.Chosen.{Chosen}
 use Rattle.chip_machine.specs.declared.quirks.Quirks.{Quirks}
 use Rattle.chip_machine.specs.declared.quirks.TheConstants.{CHOICES}
 
--- the first of some choices that has a name
+-- the first of a list of choices that has the name
 abbrev pub first_named : List ℕ → List (List ℕ × Choice) → Option Choice
 first_named name [] = None
 first_named name (c ∷ more) = if bytes_eq c.0 name then Some c.1 else first_named name more
@@ -23,7 +24,7 @@ first_named name (c ∷ more) = if bytes_eq c.0 name then Some c.1 else first_na
 abbrev pub choice_named : List ℕ → Option Choice
 choice_named name = first_named name (map (λ c. (c.0.now, c.1)) CHOICES)
 
--- the number of a choice's quirk
+-- the number of the quirk that a choice is about
 abbrev pub number_of : Choice → ℕ
 number_of (choice.ShiftsSecond value) = 0
 number_of (choice.IndexMove value) = 1
@@ -36,7 +37,7 @@ number_of (choice.ClearsAtSize value) = 7
 number_of (choice.FlagsOverflow value) = 8
 number_of (choice.HasSuperInstructions value) = 9
 
--- quirks with a choice
+-- the quirks after one choice
 abbrev pub with_quirk : Choice → Quirks → Quirks
 with_quirk (choice.ShiftsSecond value) q = record q { shifts_second = value }
 with_quirk (choice.IndexMove value) q = record q { index_move = value }
@@ -62,7 +63,7 @@ has_choice q (choice.ClearsAtSize value) = beq q.clears_at_size value
 has_choice q (choice.FlagsOverflow value) = beq q.flags_overflow value
 has_choice q (choice.HasSuperInstructions value) = beq q.has_super_instructions value
 
--- no quirk is chosen twice
+-- None if a quirk would be chosen twice
 abbrev pub with_choice : Option Chosen → Option Choice → Option Chosen
 with_choice None c = None
 with_choice (Some chosen) None = None
@@ -86,17 +87,17 @@ parts_of [] = [] ∷ []
 parts_of (byte ∷ text) =
     if byte == comma then [] ∷ parts_of text else with_byte byte (parts_of text)
 
--- quirks with the choices of some names, one after another
+-- the quirks after the choices with these names, one after another
 abbrev pub chosen_by : Option Chosen → List (List ℕ) → Option Chosen
 chosen_by chosen names = fold (λ chosen name. with_choice chosen (choice_named name)) chosen names
 
--- none where a name is no choice, or a quirk is chosen twice
+-- None if a name is not that of a choice, or if a quirk is chosen twice
 abbrev pub with_choices : List ℕ → Quirks → Option Quirks
 with_choices list q =
     option_map (λ c. c.quirks)
     (chosen_by (Some (record { quirks = q; taken = 0 })) (parts_of list))
 
--- the quirks that a user asks for: those of a profile, but for the choices of a list
+-- the quirks that a user asks for: those of a profile, changed by the choices of a list
 abbrev pub choices_asked : Option (List ℕ) → Quirks → Option Quirks
 choices_asked None q = Some q
 choices_asked (Some list) q = with_choices list q

@@ -1,16 +1,16 @@
--- What of a state later steps depend on, where some of its parts are forgotten.
--- Source: own.
---     Alike            two states that agree in all but the sound timer, how often the tape was gone
---                      through, and some parts and bytes that are forgotten; of a state that has
---                      stopped, which stays as it is, no part that may be forgotten counts, nor does
---                      a byte
---     AreNear          two values of I that are the same, or both where digits stand
---     AlikeSteps       the law: two states that are alike, with draws below the greatest count, still
---                      are after the same step, where it needs nothing that is forgotten, in what is
---                      forgotten after it
---     DrawsGrow        the law: a step draws one random byte at most
---     QuietTick        the law: a step that leaves the delay timer at 0 does so whether the timers
---                      tick or not
+-- Which part of a state later steps depend on, if some of its parts are forgotten.
+-- Source: chosen by this project.
+--     Alike            two states agree in everything except the sound timer, the number of times
+--                      that the tape was used up, and some forgotten parts and bytes; if they have
+--                      stopped, so that they stay as they are, then no part that may be forgotten
+--                      counts, and no byte does
+--     AreNear          two values of I are the same, or both point at digits
+--     AlikeSteps       the law: two states that are alike, with draws below the greatest count, are
+--                      alike after the same step, except for what is forgotten after it, if the
+--                      step needs nothing that is forgotten
+--     DrawsGrow        the law: a step draws at most one random byte
+--     QuietTick        the law: a step that leaves the delay timer at 0 does so whether or not the
+--                      timers tick
 use Rattle.std.specs.Prelude.{◌≡◌, ℕ, ◌+◌, ◌-◌, ◌%◌, ◌^◌, ◌<◌, ◌≤◌, ◌⊎◌, Bool, true, false, [], length, is_some, slice_index}
 use Rattle.std.specs.FinSet as set
 use Rattle.chip_machine.specs.declared.limits.TheConstants.{DIGITS_END}
@@ -18,7 +18,7 @@ use Rattle.chip_machine.specs.Forgotten.{has_byte, has_part, index_part, far_par
 use Rattle.chip_machine.specs.State.{Core, State, IsProper}
 use Rattle.chip_machine.specs.Step.{reg, step_of}
 
--- all but the parts that may be forgotten, the sound timer and the random bytes used
+-- everything except the parts that may be forgotten, the sound timer and the random bytes used
 abbrev pub others : Core → Core
 others c = record c { registers = []; index = 0; lit = set.empty; sound = 0; draws = 0 }
 

@@ -1,5 +1,5 @@
 -- The state at the start.
--- Source: own; that programs stand at 512 is of the COSMAC VIP manual.
+-- Source: chosen by this project, except that programs begin at 512 (COSMAC VIP manual).
 use Rattle.std.specs.Prelude.{ℕ, ◌<◌, ◌≤◌, List, [], length, replicate, None, false}
 use Rattle.std.specs.FinSet as set
 use Rattle.chip_lang.specs.declared.limits.TheConstants.{IMAGE_START, MEMORY_BYTES}
@@ -8,7 +8,7 @@ use Rattle.chip_machine.specs.declared.quirks.Quirks.{Quirks}
 use Rattle.chip_machine.specs.Digits.{small_shapes, big_shapes, bytes_of}
 use Rattle.chip_machine.specs.State.{Core, State, overwrite}
 
--- memory with the small digits written at 0, the big digits at 80 and the image where it stands
+-- a memory with the small digits written at 0, the big digits at 80 and the image at its address
 unfoldable pub with_digits_and_image : List ℕ → List ℕ → List ℕ
 with_digits_and_image image memory =
     overwrite (overwrite (overwrite memory 0 (bytes_of small_shapes)) 80 (bytes_of big_shapes))
@@ -18,11 +18,11 @@ with_digits_and_image image memory =
 unfoldable pub zeros : List ℕ
 zeros = replicate MEMORY_BYTES 0
 
--- the memory before the first step, which is 0 elsewhere
+-- the memory before the first step, which is 0 everywhere else
 abbrev pub start_memory : List ℕ → List ℕ
 start_memory image = with_digits_and_image image zeros
 
--- all but the memory before the first step: the screen is dark and has its low size
+-- everything except the memory before the first step: the screen is dark and has its low size
 abbrev pub start_core : List ℕ → Quirks → Core
 start_core tape quirks =
     record {
@@ -45,6 +45,6 @@ start_core tape quirks =
 abbrev pub start_of : List ℕ → List ℕ → Quirks → State
 start_of image tape quirks = record { core = start_core tape quirks; memory = start_memory image }
 
--- a tape has a byte at least
+-- a tape has at least one byte
 abbrev pub IsTape : List ℕ → Type 0
 IsTape tape = (0 < length tape) × (length tape ≤ TAPE_BYTES)

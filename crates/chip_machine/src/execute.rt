@@ -11,8 +11,8 @@ use crate::stop::Stop;
 use crate::touch::Span;
 use chip_lang::instr::Instr;
 
-/// Carries out an instruction in a step, and says which bytes it accesses at I, or why the machine
-/// stops.
+/// Carries out an instruction in a step. Returns the bytes that it accesses at I, or why the
+/// machine stops.
 #[inline(always)]
 pub(crate) fn execute<K: HeldKeys>(
     processor: &mut Processor,

@@ -1,4 +1,4 @@
-//! Parts of a machine that a search forgets, and what a step does with them.
+//! The parts of a machine that a search forgets, and how a step changes them.
 
 ghost use Rattle.std.specs.Prelude.{◌≡◌, ◌≢◌, ℕ, ◌+◌, ◌/◌, ◌<◌, ◌≤◌, [], ◌∷◌, true, false, not, Some, IsTrue, IfOk, IfSome, if◌then◌else◌};
 ghost use Rattle.std.specs.List.{list_all};
@@ -13,38 +13,39 @@ use chip_lang::instr::Instr;
 use chip_lang::number::{Addr, Reg};
 use std::marker::Model;
 
-/// The part that is I.
+/// The mask of the part I.
 const INDEX: u32 = 1;
 
-/// The part that is the screen.
+/// The mask of the part that is the screen.
 const SCREEN: u32 = 1 << 1;
 
-/// The part that says whether I is where digits stand, of an I whose value is forgotten.
+/// The mask of the part that says whether I points at digits, for an I whose value is forgotten.
 const FAR: u32 = 1 << 2;
 
-/// The part that is VF.
+/// The mask of the part VF.
 const FLAG: u32 = 1 << 18;
 
-/// The parts that are registers.
+/// The mask of the parts that are registers.
 const REGISTERS: u32 = 0x7fff8;
 
-/// How many bytes of the memory can be forgotten: those of a window.
+/// The number of bytes of the memory that can be forgotten: those of one window.
 pub const WINDOW_BYTES: u16 = 64;
 
-/// How many numbers of parts there are, those of bytes with them.
+/// The count of part numbers, including those of bytes.
 pub const PARTS: u32 = PART_BITS + WINDOW_BYTES as u32;
 
-/// How many of them are before those of bytes.
+/// The count of part numbers that come before those of bytes.
 const PART_BITS: u32 = 32;
 
-/// Some of I, the screen and the registers of a machine, and of the bytes of its memory in a window.
+/// A set of forgotten things: any of I, the screen, the registers, and bytes of the memory in a
+/// window.
 #[derive(Clone, Copy, PartialEq, Eq)]
 pub struct Forgotten {
-    /// I is bit 0, the screen bit 1, whether I is far bit 2, and Vx bit x + 3.
+    /// I is bit 0, the screen bit 1, whether I points at digits bit 2, and Vx bit x + 3.
     parts: u32,
     /// The first address of the window.
     window: u16,
-    /// The byte at that address is bit 0.
+    /// The byte at the first address of the window is bit 0, the next one bit 1, and so on.
     bytes: u64,
 }
 
@@ -65,34 +66,35 @@ impl Model for Forgotten {
 }
 
 impl Forgotten {
-    /// None of them.
+    /// The empty set.
     pub fn nothing() -> Forgotten
         ensures { result ≡ 0 }
     {
         Forgotten::parts_alone(0)
     }
 
-    /// I, the screen and all registers, and no byte.
+    /// The set of I, the screen and all registers, and no byte.
     pub fn all() -> Forgotten {
         Forgotten::parts_alone(INDEX | SCREEN | FAR | REGISTERS)
     }
 
-    /// I alone.
+    /// The set of I alone.
     pub fn index() -> Forgotten {
         Forgotten::parts_alone(INDEX | FAR)
     }
 
-    /// The screen alone.
+    /// The set of the screen alone.
     pub fn screen() -> Forgotten {
         Forgotten::parts_alone(SCREEN)
     }
 
-    /// A register alone.
+    /// The set of one register.
     pub fn register(x: Reg) -> Forgotten {
         Forgotten::parts_alone(register(x))
     }
 
-    /// So many bytes at an address, of which a window has room for `WINDOW_BYTES`.
+    /// The set of `count` bytes from an address on; a window has room for the first `WINDOW_BYTES`
+    /// of them.
     pub fn bytes(at: u16, count: u16) -> Forgotten {
         let missing = WINDOW_BYTES.saturating_sub(count);
         let bytes = u64::MAX.checked_shr(u32::from(missing)).unwrap_or(0);
@@ -113,7 +115,7 @@ impl Forgotten {
         }
     }
 
-    /// Whether each of these is one of others: true only where it is.
+    /// True only if each part and byte of this set is also in `others`.
     pub fn is_within(self, others: Forgotten) -> bool
         ensures { IsTrue result → AreWithin self others }
     {
@@ -121,7 +123,7 @@ impl Forgotten {
         has_parts && self.has_bytes_within(others)
     }
 
-    /// Whether each byte of these is one of others: true only where it is.
+    /// True only if each byte of this set is also in `others`.
     #[inline(always)]
     fn has_bytes_within(self, others: Forgotten) -> bool
         ensures { IsTrue result → (at : ℕ) → has_byte self at ≡ true → has_byte others at ≡ true }
@@ -135,7 +137,7 @@ impl Forgotten {
         self.bytes | others.bytes == others.bytes
     }
 
-    /// Those that are none of others.
+    /// The parts and bytes of this set that aren't in `others`.
     pub fn without(self, others: Forgotten) -> Forgotten {
         Forgotten {
             parts: self.parts & !others.parts,
@@ -144,7 +146,7 @@ impl Forgotten {
         }
     }
 
-    /// Those that are also among others.
+    /// The parts and bytes of this set that are also in `others`.
     pub fn shared_with(self, others: Forgotten) -> Forgotten {
         Forgotten {
             parts: self.parts & others.parts,
@@ -153,7 +155,8 @@ impl Forgotten {
         }
     }
 
-    /// These and others, but for bytes of the others that the window of these has no room for.
+    /// The union of this set and `others`, except for bytes of `others` that don't fit into the
+    /// window, which is that of this set if it has bytes.
     pub fn with(self, others: Forgotten) -> Forgotten {
         let window = if self.bytes == 0 {
             others.window
@@ -167,7 +170,7 @@ impl Forgotten {
         }
     }
 
-    /// The one of them that has a number, if there is one.
+    /// The part or byte with this number alone, if it is in the set; otherwise nothing.
     pub fn alone(self, number: u32) -> Forgotten {
         let mut one = Forgotten {
             parts: 0,
@@ -182,12 +185,12 @@ impl Forgotten {
         one
     }
 
-    /// Whether none is one of them.
+    /// Whether the set is empty.
     pub fn is_nothing(self) -> bool {
         self.parts == 0 && self.bytes == 0
     }
 
-    /// The bytes as those of another window, but for those that it has no room for.
+    /// The bytes moved to another window; those that it has no room for are lost.
     fn bytes_from(self, window: u16) -> u64 {
         let moved = if window >= self.window {
             self.bytes.checked_shr(u32::from(window - self.window))
@@ -197,12 +200,12 @@ impl Forgotten {
         moved.unwrap_or(0)
     }
 
-    /// The first address of the bytes that may be among them.
+    /// The first address of the window.
     pub fn window(self) -> u16 {
         self.window
     }
 
-    /// Two numbers by which these differ from others. Nothing is claimed of them.
+    /// Two numbers that distinguish this set from others. The contract claims nothing about them.
     pub fn numbers(self) -> (u64, u64) {
         let window = if self.bytes == 0 {
             0
@@ -212,7 +215,7 @@ impl Forgotten {
         (u64::from(self.parts) + (window << 32), self.bytes)
     }
 
-    /// Whether a byte of the memory is one of them: false only where none is.
+    /// False only if no byte of the memory is in the set.
     #[inline(always)]
     pub fn has_bytes(self) -> bool
         ensures { result ≡ false → (at : ℕ) → has_byte self at ≡ false }
@@ -220,7 +223,7 @@ impl Forgotten {
         self.bytes != 0
     }
 
-    /// Whether the byte at an address is one of them.
+    /// Whether the byte at an address is in the set.
     #[inline(always)]
     pub fn has_byte(self, at: usize) -> bool
         ensures { result ≡ has_byte self at }
@@ -236,7 +239,7 @@ impl Forgotten {
         self.bytes >> place & 1 == 1
     }
 
-    /// Whether one of so many bytes in a row is one of them: false only where none is.
+    /// False only if none of `count` bytes from an address on is in the set.
     #[inline(always)]
     pub fn has_one_of(self, at: u16, count: u16) -> bool
         ensures { result ≡ false → AreKept self at count }
@@ -273,41 +276,41 @@ impl Forgotten {
         }
     }
 
-    /// Whether I is one of them.
+    /// Whether I is in the set.
     pub fn has_index(self) -> bool
         ensures { result ≡ has_part self index_part }
     {
         self.parts & 1 == 1
     }
 
-    /// Whether it is one of them where I is.
+    /// Whether the part is in the set that says whether I points at digits.
     pub fn has_far(self) -> bool
         ensures { result ≡ has_part self far_part }
     {
         self.parts >> 2 & 1 == 1
     }
 
-    /// Whether the screen is one of them.
+    /// Whether the screen is in the set.
     pub fn has_screen(self) -> bool
         ensures { result ≡ has_part self screen_part }
     {
         self.parts >> 1 & 1 == 1
     }
 
-    /// Whether a register is one of them.
+    /// Whether a register is in the set.
     pub fn has_register(self, x: u8) -> bool
         ensures { x < 16 → result ≡ has_part self (register_part x) }
     {
         x < 16 && self.parts >> (x + 3) & 1 == 1
     }
 
-    /// Whether no register is one of them.
+    /// Whether no register is in the set.
     pub(crate) fn has_no_register(self) -> bool {
         self.parts & REGISTERS == 0
     }
 
-    /// What is forgotten after an instruction, where `moved` says that it doesn't leave pc where it
-    /// is. Where it needs some of them, an error with these.
+    /// Returns what is forgotten after an instruction; `moved` says that the instruction changed
+    /// pc. If the instruction needs some of the forgotten parts, returns an error with these.
     #[inline(always)]
     pub(crate) fn after(
         self,
@@ -334,7 +337,7 @@ impl Forgotten {
         })
     }
 
-    /// The parts that an instruction spoils, where it uses some of these.
+    /// The parts that an instruction spoils, if it uses a part of this set; otherwise none.
     #[inline(always)]
     fn spoilt_by(&self, instr: &Instr, quirks: Quirks) -> u32
         ensures { IsSpoiltBy result self.now (uses quirks instr.now) (spoils quirks instr.now) }
@@ -346,9 +349,10 @@ impl Forgotten {
         }
     }
 
-    /// These after an instruction, by the bytes at I that it reads and writes, where others were
-    /// forgotten before it. Where it draws some of them, an error with these, and likewise where it
-    /// stores what is forgotten outside of the window.
+    /// Adds the effect of the bytes at I that an instruction reads and writes to this set, which
+    /// holds what else is forgotten after the instruction; `before` was forgotten before it.
+    /// Returns an error with the forgotten bytes that it draws, or with a forgotten register that
+    /// it stores outside of the window.
     #[inline]
     pub(crate) fn after_bytes(
         self,
@@ -380,7 +384,7 @@ impl Forgotten {
         loaded.with_stored(before, processor.index(), written, digits_of(instr))
     }
 
-    /// These after an instruction, by the bytes at I that it reads.
+    /// Adds the effect of the bytes at I that an instruction reads to this set.
     #[inline(always)]
     fn after_load(self, instr: &Instr, processor: &Processor) -> Result<Forgotten, Forgotten>
         ensures drawn { IfOk result (λ _. draws (Some instr.now) ≡ true
@@ -405,7 +409,7 @@ impl Forgotten {
         }
     }
 
-    /// These after V0 to Vx took the bytes at an address.
+    /// The set after V0 to Vx were loaded from an address.
     fn with_loaded(self, at: u16, x: Reg) -> Forgotten
         ensures parts { (part : ℕ) → has_part self part ≡ true → has_part result part ≡ true }
         ensures bytes { (k : ℕ) → has_byte result k ≡ has_byte self k }
@@ -433,9 +437,9 @@ impl Forgotten {
         }
     }
 
-    /// These after so many bytes were stored at an address: those of the first registers, or all those
-    /// of one register. An error with a register that was forgotten where the window has no room for
-    /// its byte.
+    /// The set after `count` bytes were stored at an address, from the first registers or all from
+    /// one register. Returns an error with a register that was forgotten if the window has no room
+    /// for its byte.
     fn with_stored(
         self,
         before: Forgotten,
@@ -465,7 +469,7 @@ impl Forgotten {
         Ok(rest)
     }
 
-    /// These after a byte was stored that is forgotten or not, unless the window has no room for it.
+    /// The set after a byte was stored, forgotten or not; `None` if the window has no room for it.
     fn with_stored_byte(self, at: usize, is_forgotten: bool) -> Option<Forgotten>
         ensures parts { IfSome result (λ after. (part : ℕ)
             → has_part after part ≡ has_part self part) }
@@ -481,7 +485,7 @@ impl Forgotten {
         }
     }
 
-    /// These and a byte, if the window has room for it.
+    /// The set with one more byte; `None` if the window has no room for it.
     fn with_byte(self, at: usize) -> Option<Forgotten>
         ensures parts { IfSome result (λ after. (part : ℕ)
             → has_part after part ≡ has_part self part) }
@@ -504,7 +508,7 @@ impl Forgotten {
     }
 }
 
-/// A register, or the one at a place.
+/// The given register, or otherwise the one with the number `place`.
 fn from_or(register: Option<u8>, place: u8) -> u8
     ensures { result ≡ from_or register place }
 {
@@ -514,7 +518,7 @@ fn from_or(register: Option<u8>, place: u8) -> u8
     }
 }
 
-/// Of which register an instruction stores the digits.
+/// The register whose decimal digits an instruction stores, if it stores any.
 fn digits_of(instr: &Instr) -> Option<u8>
     ensures stored { (place : ℕ) → stored_part (Some instr.now) place
         ≡ register_part (from_or result place) }
@@ -526,7 +530,7 @@ fn digits_of(instr: &Instr) -> Option<u8>
     }
 }
 
-/// How many bytes at I an instruction reads.
+/// The number of bytes at I that an instruction reads.
 #[tactic(auto, unfolding(crate::specs::inner::Accesses::loads))]
 fn bytes_loaded(instr: &Instr, processor: &Processor) -> u16
     ensures { result ≡ loads processor.now instr.now }
@@ -544,7 +548,7 @@ fn bytes_loaded(instr: &Instr, processor: &Processor) -> u16
     }
 }
 
-/// How many bytes at I an instruction writes.
+/// The number of bytes at I that an instruction writes.
 #[tactic(auto, unfolding(crate::specs::inner::Accesses::stores))]
 fn bytes_stored(instr: &Instr, processor: &Processor) -> u16
     ensures count { result ≡ stores processor.now instr.now }
@@ -618,7 +622,7 @@ fn uses_of(instr: &Instr, quirks: Quirks) -> u32
     }
 }
 
-/// The parts that an instruction spoils where it uses some that are forgotten.
+/// The parts that an instruction spoils if it uses a forgotten part.
 #[tactic(auto, unfolding(crate::specs::Forgotten::spoils))]
 fn spoils_of(instr: &Instr, quirks: Quirks) -> u32
     ensures { result ≡ mask_of (spoils quirks instr.now) }
@@ -635,7 +639,7 @@ fn spoils_of(instr: &Instr, quirks: Quirks) -> u32
     }
 }
 
-/// What a shift of Vx and Vy uses: the one or the other.
+/// The register that a shift of Vx and Vy uses.
 #[inline(always)]
 fn shifted(x: Reg, y: Reg, quirks: Quirks) -> u32
     ensures { result
@@ -648,7 +652,8 @@ fn shifted(x: Reg, y: Reg, quirks: Quirks) -> u32
     }
 }
 
-/// What a jump to an address and a register needs: the register of the address's top digit, or V0.
+/// The register that a jump with an offset needs: V0, or the one that the address's top digit
+/// names.
 #[inline(always)]
 fn offset_register(address: Addr, quirks: Quirks) -> u32
     ensures { result ≡ mask_of
@@ -661,7 +666,8 @@ fn offset_register(address: Addr, quirks: Quirks) -> u32
     }
 }
 
-/// What an addition to I spoils: VF too where that says how large the sum is.
+/// The parts that an addition to I spoils, including VF if the quirks make it say how large the sum
+/// is.
 #[inline(always)]
 fn spoilt_by_sum(quirks: Quirks) -> u32
     ensures { result ≡ mask_of (if quirks.flags_overflow then flag_part ∷ index_part ∷ far_part ∷ []
@@ -674,7 +680,7 @@ fn spoilt_by_sum(quirks: Quirks) -> u32
     }
 }
 
-/// What a change of the size sets.
+/// The parts that a change of the screen's size sets.
 #[inline(always)]
 fn set_by_size(quirks: Quirks) -> u32
     ensures { result ≡ mask_of (if quirks.clears_at_size then screen_part ∷ [] else []) }
@@ -682,7 +688,7 @@ fn set_by_size(quirks: Quirks) -> u32
     if quirks.clears_at_size { SCREEN } else { 0 }
 }
 
-/// What a logical operation into Vx sets.
+/// The parts that a logical operation into Vx sets.
 #[inline(always)]
 fn set_by_logic(x: Reg, quirks: Quirks) -> u32
     ensures { result ≡ mask_of (if quirks.clears_flag then flag_part ∷ register_part x ∷ []
@@ -695,7 +701,7 @@ fn set_by_logic(x: Reg, quirks: Quirks) -> u32
     }
 }
 
-/// A register alone.
+/// The mask of one register.
 #[inline(always)]
 fn register(x: Reg) -> u32
     ensures { result ≡ mask_of (register_part x ∷ []) }
@@ -703,7 +709,7 @@ fn register(x: Reg) -> u32
     1 << (x.number() + 3)
 }
 
-/// Two registers.
+/// The mask of two registers.
 #[inline(always)]
 fn registers(x: Reg, y: Reg) -> u32
     ensures { result ≡ mask_of (register_part x ∷ register_part y ∷ []) }
@@ -711,7 +717,7 @@ fn registers(x: Reg, y: Reg) -> u32
     1 << (x.number() + 3) | 1 << (y.number() + 3)
 }
 
-/// V0 to Vx.
+/// The mask of V0 to Vx.
 #[inline(always)]
 fn first_registers(x: Reg) -> u32
     ensures { result ≡ mask_of (first_registers x) }

@@ -25,17 +25,16 @@ pub fn keyless_step()
     ensures { KeylessStep }
 {}
 
-/// What later steps depend on: neither the sound timer, nor how often the tape was gone through, nor
-/// what is forgotten where they don't read it, and of the ticks nothing while the delay timer stays
-/// at 0.
+/// Later steps depend neither on the sound timer, nor on how often the tape was used up, nor on
+/// forgotten parts that they don't read, nor on ticks while the delay timer stays at 0.
 pub fn alike_steps()
     ensures alike { AlikeSteps }
     ensures draws { DrawsGrow }
     ensures quiet { QuietTick }
 {}
 
-/// What the image is in the memory at the start: it stands from its place on, with zeros after it,
-/// and nothing below depends on it.
+/// At the start, the memory holds the image at its address and zeros after it, and nothing below
+/// that address depends on the image.
 pub fn image_at_the_start()
     ensures from_512 { ImageAndZeros }
     ensures below { SameBelowTheImage }

@@ -1,25 +1,25 @@
-//! The limits of a machine, each under one name. Those that the language speaks of too stand in
+//! The limits of a machine, each under one name. The limits that the language shares are defined in
 //! chip_lang.
 
 pub use chip_lang::limits::{IMAGE_BYTES, IMAGE_START, MEMORY_BYTES};
 
-/// The last address at which a word can stand.
+/// The last address that can hold a word.
 pub const LAST_WORD: usize = MEMORY_BYTES - 2;
 
-/// How many bytes a tape has at most.
+/// The greatest number of bytes of a tape.
 pub const TAPE_BYTES: usize = 4096;
 
-/// How many calls can be open.
+/// The greatest number of open calls.
 pub const FRAMES: usize = 16;
 
-/// How many flag registers there are.
+/// The number of flag registers.
 pub const FLAGS: usize = 8;
 
-/// How many bytes the largest sprite has, one of 16 by 16 pixels.
+/// The number of bytes of the largest sprite, which has 16 by 16 pixels.
 pub const SPRITE_BYTES: usize = 32;
 
-/// The digits that LD F and LD HF point to begin below this address.
+/// All digits that LD F and LD HF point to begin below this address.
 pub const DIGITS_END: u16 = 256;
 
-/// How many addresses a step touches at most: those of its word, and those of a sprite.
+/// The greatest number of addresses that a step touches: those of its word, and those of a sprite.
 pub const TOUCHES: usize = 2 + SPRITE_BYTES;

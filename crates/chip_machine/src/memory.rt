@@ -1,4 +1,4 @@
-//! The bytes at I.
+//! Reads and writes of the bytes at I.
 
 ghost use Rattle.std.specs.Prelude.{◌≡◌, ◌+◌, ◌<◌, ◌≤◌, ◌↔◌, [], length, take, drop, IfOk, IfErr, IsOk, IsErr, OnOk, OnErr};
 ghost use Rattle.std.specs.List.{range_with_len};
@@ -8,7 +8,8 @@ ghost use Rattle.chip_machine.specs.Step.{span_at};
 use crate::limits::{MEMORY_BYTES, SPRITE_BYTES};
 use crate::stop::Stop;
 
-/// Reads bytes, where they are within the memory.
+/// Reads `count` bytes at an address, or stops the machine if they reach past the end of the
+/// memory.
 pub(crate) fn load(memory: &[u8], at: u16, count: usize) -> Result<&[u8], Stop>
     requires size { length memory.now ≡ MEMORY_BYTES }
     requires few { count ≤ SPRITE_BYTES }
@@ -33,7 +34,7 @@ pub(crate) fn write_at(memory: &mut [u8], at: usize, bytes: &[u8])
     memory[at..at + bytes.len()].copy_from_slice(bytes);
 }
 
-/// Writes bytes, where they stay within the memory.
+/// Writes bytes at an address, or stops the machine if they reach past the end of the memory.
 pub(crate) fn store(memory: &mut [u8], at: u16, bytes: &[u8]) -> Result<(), Stop>
     requires size { length memory.old ≡ MEMORY_BYTES }
     requires few { length bytes.now ≤ SPRITE_BYTES }
@@ -51,8 +52,8 @@ pub(crate) fn store(memory: &mut [u8], at: u16, bytes: &[u8]) -> Result<(), Stop
     Ok(())
 }
 
-/// Puts the bytes of `new` in the place of those of `old` where the two differ, and stores each of
-/// the others as it was.
+/// Replaces the bytes of `old` by those of `new` wherever the two differ, and stores every other
+/// byte as it was.
 fn exchange_all(bytes: &mut [u8], old: &[u8], new: &[u8])
     requires old_alike { length old.now ≡ length bytes.old }
     requires new_alike { length new.now ≡ length bytes.old }
@@ -66,7 +67,7 @@ fn exchange_all(bytes: &mut [u8], old: &[u8], new: &[u8])
     }
 }
 
-/// Puts the bytes of `new` from an address on in the place of those of `old` where the two differ.
+/// Replaces the bytes of `old`, from an address on, by those of `new` wherever the two differ.
 pub(crate) fn exchange_at(memory: &mut [u8], at: usize, old: &[u8], new: &[u8])
     requires alike { length old.now ≡ length new.now }
     requires in_memory { at + length new.now ≤ length memory.old }

@@ -1,4 +1,4 @@
-//! All of the machine but its memory.
+//! The whole machine except its memory.
 
 ghost use Rattle.std.specs.Prelude.{◌≡◌, ◌+◌, ◌*◌, ◌/◌, ◌-◌, ◌<◌, ◌≤◌, ◌^◌, ◌%◌, length, slice_index, OnOk, OnErr, IfOk, IfErr, IsOk, ◌↔◌, ◌==◌, ◌&&◌, not, false, if◌then◌else◌, IsTrue, ℕ, List};
 ghost use Rattle.chip_machine.specs.Step.{reg, with_reg, with_flag, go_to, skip_if, next, call, return, with_index, random_byte, drawn, store_flags, load_flags, load_registers, index_past, shifted_register, offset_register, with_logic, with_sum, ticked, resized, scrolled_by, draws_nothing, has_wide_sixteen, with_lit, with_sprite, Effect, Stops, super_only};
@@ -29,10 +29,11 @@ use std::alloc::{AllocError, Global};
 use std::marker::Model;
 use std::rc::RcSlice;
 
-/// The registers, and what else is not memory.
+/// The registers, and everything else that is not memory.
 #[derive(Drop)]
 pub(crate) struct Processor {
-    // before the registers, so that the compiler knows that a store to those leaves them alone
+    // declared before the registers, so that the compiler knows that a store to those leaves it
+    // alone
     pc: u16,
     index: u16,
     registers: [u8; 16],
@@ -44,7 +45,7 @@ pub(crate) struct Processor {
     /// Shared with the copies of this machine.
     tape: RcSlice<u8>,
     draws: u64,
-    /// Where the next random byte stands on the tape.
+    /// The place of the next random byte on the tape.
     place: usize,
     screen: Screen,
     high: bool,
@@ -86,7 +87,8 @@ impl Model for Processor {
 }
 
 impl Processor {
-    /// At the start: all is 0, and pc is at the image.
+    /// Returns the processor at the start: everything is 0, and pc is at the image. Fails only if
+    /// memory runs out.
     pub(crate) fn new(alloc: Global, tape: &[u8], quirks: Quirks) -> Result<Self, AllocError>
         requires { IsTape tape.now }
         ensures { IfOk result (λ processor. processor ≡ start_core tape.now quirks) }
@@ -112,7 +114,7 @@ impl Processor {
         })
     }
 
-    /// A copy.
+    /// Returns a copy. Fails only if memory runs out.
     pub(crate) fn copy_of(&self) -> Result<Self, AllocError>
         ensures { IfOk result (λ copy. copy ≡ self.now) }
     {
@@ -135,7 +137,8 @@ impl Processor {
         })
     }
 
-    /// Takes the state of another. Errors: memory ran out, and nothing is changed.
+    /// Takes over the state of another processor. Fails if memory runs out, and then changes
+    /// nothing.
     pub(crate) fn copy_from(&mut self, other: &Processor) -> Result<(), AllocError>
         ensures ok { OnOk result (self.new ≡ other.now) }
         ensures err { OnErr result (self.new ≡ self.old) }
@@ -158,7 +161,7 @@ impl Processor {
         Ok(())
     }
 
-    /// Where the next random byte stands on the tape.
+    /// The place of the next random byte on the tape.
     pub(crate) fn place(&self) -> usize
         ensures place { result ≡ self.now.draws % length self.now.tape }
         ensures in_range { result < TAPE_BYTES }
@@ -166,7 +169,7 @@ impl Processor {
         self.place
     }
 
-    /// Takes these parts, with a silent sound timer and no stop cause.
+    /// Takes over these parts, silences the sound timer and clears the stop cause.
     pub(crate) fn restore(&mut self, parts: &Parts)
         requires { parts.now.depth ≤ FRAMES }
         ensures { self.new ≡ core_with_parts parts.now self.old }
@@ -185,7 +188,7 @@ impl Processor {
         self.stopped = None;
     }
 
-    /// Has these rows of pixels on the screen.
+    /// Replaces the screen's pixels by these rows.
     pub(crate) fn set_rows(&mut self, rows: &[u128])
         requires { length rows.now ≡ 64 }
         ensures { self.new ≡ with_lit (in_rows rows.now) self.old }
@@ -193,8 +196,8 @@ impl Processor {
         self.screen.set_rows(rows);
     }
 
-    /// Whether another agrees in what later steps depend on, where some parts are forgotten: true
-    /// only where it does.
+    /// True only if another processor agrees in everything that later steps depend on, given the
+    /// forgotten parts.
     pub(crate) fn is_alike(&self, other: &Processor, forgotten: Forgotten) -> bool
         ensures { IsTrue result → (memory : List ℕ) → length memory ≡ MEMORY_BYTES
             → Alike forgotten (record { core = self.now; memory = memory })
@@ -207,7 +210,7 @@ impl Processor {
             && (forgotten.has_screen() || self.screen.is_same(&other.screen))
     }
 
-    /// Whether another agrees in all that can't be forgotten: true only where it does.
+    /// True only if another processor agrees in everything that can't be forgotten.
     fn has_same_others(&self, other: &Processor) -> bool
         ensures others { IsTrue result → others self.now ≡ others other.now }
         ensures draws { IsTrue result → self.now.draws % length self.now.tape
@@ -238,7 +241,7 @@ impl Processor {
         self.registers[x.number() as usize] = value;
     }
 
-    /// Sets a register, and then VF.
+    /// Sets a register, and then VF, which comes last.
     pub(crate) fn set_with_flag(&mut self, x: Reg, value: u8, flag: u8)
         ensures { self.new ≡ with_flag x value flag self.old }
     {
@@ -246,7 +249,7 @@ impl Processor {
         self.registers[15] = flag;
     }
 
-    /// Stops where the machine is one without the instructions that SUPER-CHIP added.
+    /// Returns a stop if the machine lacks the instructions that SUPER-CHIP added.
     pub(crate) fn needs_super_instructions(&self) -> Result<(), Stop>
         ensures ok { OnOk result ((effect : Effect) → super_only self.now effect ≡ effect) }
         ensures why { IfErr result (λ why. (effect : Effect)
@@ -259,7 +262,7 @@ impl Processor {
         }
     }
 
-    /// What a shift of Vx and Vy shifts: the value of the one or of the other.
+    /// The value that a shift of Vx and Vy shifts: that of Vx or of Vy, by the quirks.
     pub(crate) fn shifted(&self, x: Reg, y: Reg) -> u8
         ensures { result ≡ reg self.now (shifted_register x y self.now) }
     {
@@ -270,8 +273,8 @@ impl Processor {
         }
     }
 
-    /// What a jump adds to its address: the value of the register of the address's top digit, or
-    /// that of V0.
+    /// The value that a jump adds to its address: that of V0, or of the register that the address's
+    /// top digit names.
     pub(crate) fn jump_offset(&self, address: Addr) -> u8
         ensures { result ≡ reg self.now (offset_register address self.now) }
     {
@@ -290,7 +293,7 @@ impl Processor {
         self.quirks
     }
 
-    /// Sets a register to what a logical operation gives: VF stays, or is 0 then.
+    /// Sets a register to the result of a logical operation. VF stays or becomes 0, by the quirks.
     pub(crate) fn set_logic(&mut self, x: Reg, value: u8)
         ensures { self.new ≡ with_logic x value self.old }
     {
@@ -301,7 +304,7 @@ impl Processor {
         }
     }
 
-    /// Adds a number to I: VF stays, or says whether the sum is above 0FFF.
+    /// Adds a number to I. VF stays or says whether the sum is above 0FFF, by the quirks.
     pub(crate) fn add_index(&mut self, value: u8)
         ensures { self.new ≡ with_sum value self.old }
     {
@@ -312,7 +315,7 @@ impl Processor {
         }
     }
 
-    /// Ends a move of V0 to Vx to or from the memory: I stays, or moves on.
+    /// Ends a move of V0 to Vx to or from the memory: I stays or moves on, by the quirks.
     pub(crate) fn finish_move(&mut self, x: Reg)
         ensures { self.new
             ≡ with_index (index_past self.old.quirks.index_move x self.old.index) self.old }
@@ -324,8 +327,8 @@ impl Processor {
         }
     }
 
-    /// Whether a sprite of this number of rows is nothing at all: of number 0 in the low size, where
-    /// that doesn't stand for sixteen rows.
+    /// Whether a sprite draws nothing: true for row count 0 in the low size, unless the quirks give
+    /// it sixteen rows.
     pub(crate) fn draws_nothing(&self, n: Nibble) -> bool
         ensures { result ≡ draws_nothing n self.now }
     {
@@ -337,7 +340,7 @@ impl Processor {
             }
     }
 
-    /// How many bytes a sprite of `n` rows has, where `n` 0 stands for sixteen rows, which may be
+    /// The number of bytes of a sprite of `n` rows; `n` = 0 stands for sixteen rows, which may be
     /// wide.
     pub(crate) fn sprite_bytes(&self, n: Nibble) -> usize
         ensures value { result ≡ sprite_bytes (has_wide_sixteen self.now) n }
@@ -361,7 +364,7 @@ impl Processor {
             }
     }
 
-    /// How many stored rows or columns are in a scroll by `n`.
+    /// The number of stored rows or columns in a scroll by `n`.
     pub(crate) fn scrolled_by(&self, n: u8) -> usize
         ensures value { result ≡ scrolled_by n self.now }
         ensures few { result ≤ 2 * n }
@@ -373,7 +376,7 @@ impl Processor {
         }
     }
 
-    /// Which of the allowed keys an instruction can tell apart.
+    /// The allowed keys that an instruction can distinguish.
     #[inline(always)]
     pub(crate) fn choices(&self, allowed: u16, instr: Instr) -> u16
         ensures { result ≡ choices_of allowed instr self.now }
@@ -386,7 +389,7 @@ impl Processor {
         }
     }
 
-    /// The key that a register names, alone.
+    /// The mask of the key that a register names.
     #[inline(always)]
     fn key_of(&self, x: Reg) -> u16
         ensures { result ≡ 2 ^ (reg self.now x % 16) }
@@ -394,14 +397,14 @@ impl Processor {
         1 << (self.reg(x) % 16)
     }
 
-    /// Goes to an address.
+    /// Sets pc to an address.
     pub(crate) fn go_to(&mut self, address: u16)
         ensures { self.new ≡ go_to address self.old }
     {
         self.pc = address;
     }
 
-    /// Goes on to the next instruction.
+    /// Moves pc to the next instruction.
     pub(crate) fn advance(&mut self)
         requires { self.old.pc ≤ LAST_WORD }
         ensures { self.new ≡ next self.old }
@@ -409,7 +412,7 @@ impl Processor {
         self.pc += 2;
     }
 
-    /// Goes on to the next instruction, or past it.
+    /// Moves pc to the next instruction, or past it if `test` is true.
     pub(crate) fn skip_if(&mut self, test: bool)
         requires { self.old.pc ≤ LAST_WORD }
         ensures { self.new ≡ skip_if test self.old }
@@ -453,14 +456,14 @@ impl Processor {
         self.sound = value;
     }
 
-    /// The delay timer.
+    /// The value of the delay timer.
     pub(crate) fn delay(&self) -> u8
         ensures { result ≡ self.now.delay }
     {
         self.delay
     }
 
-    /// Where the open calls return to, the oldest first.
+    /// The return addresses of the open calls, the oldest first.
     pub(crate) fn frames(&self) -> &[u16]
         ensures value { result.now ≡ self.now.frames }
         ensures at_most { length result.now ≤ FRAMES }
@@ -468,7 +471,7 @@ impl Processor {
         &self.frames[..self.depth]
     }
 
-    /// Calls what stands at an address.
+    /// Calls the code at an address.
     pub(crate) fn call(&mut self, address: u16)
         requires next { self.old.pc ≤ LAST_WORD }
         requires room { length self.old.frames < FRAMES }
@@ -479,7 +482,7 @@ impl Processor {
         self.pc = address;
     }
 
-    /// Returns to the newest frame, which is taken off.
+    /// Returns to the address of the newest frame, and removes that frame.
     pub(crate) fn leave(&mut self)
         requires { 0 < length self.old.frames }
         ensures { self.new ≡ return self.old }
@@ -488,7 +491,7 @@ impl Processor {
         self.pc = self.frames[self.depth];
     }
 
-    /// Draws the next random byte.
+    /// Returns the next random byte, and counts it as used.
     pub(crate) fn draw_random(&mut self) -> u8
         ensures value { result ≡ random_byte self.old }
         ensures after { self.new ≡ drawn self.old }
@@ -522,7 +525,7 @@ impl Processor {
         self.registers[..count].copy_from_slice(&flags[..count]);
     }
 
-    /// Sets the first registers.
+    /// Sets the first registers to these bytes.
     pub(crate) fn load(&mut self, bytes: &[u8])
         requires { length bytes.now ≤ 16 }
         ensures { self.new ≡ load_registers self.old bytes.now }
@@ -538,7 +541,7 @@ impl Processor {
         self.screen.lit(column, row)
     }
 
-    /// The pixels of a row of the screen, the leftmost the highest bit.
+    /// The pixels of a row of the screen; the leftmost pixel is the highest bit.
     pub(crate) fn row(&self, row: usize) -> u128
         ensures points { (column : ℕ) → column < 128
             → lights result column ≡ is_lit self.now.lit column row }
@@ -548,14 +551,14 @@ impl Processor {
         self.screen.row(row)
     }
 
-    /// Whether the screen has its high size.
+    /// True if the screen has its high size.
     pub(crate) fn high(&self) -> bool
         ensures { result ≡ self.now.high }
     {
         self.high
     }
 
-    /// Sets the size of the screen: the pixels stay, or all are dark then.
+    /// Sets the size of the screen. The pixels stay or become dark, by the quirks.
     pub(crate) fn resize(&mut self, high: bool)
         ensures { self.new ≡ resized high self.old }
     {
@@ -572,14 +575,14 @@ impl Processor {
         self.screen.clear();
     }
 
-    /// Moves every pixel down by so many rows.
+    /// Moves every pixel down by this many rows.
     pub(crate) fn scroll_down(&mut self, rows: usize)
         ensures { self.new ≡ with_lit (scrolled_down rows self.old.lit) self.old }
     {
         self.screen.scroll_down(rows);
     }
 
-    /// Moves every pixel right by so many columns.
+    /// Moves every pixel right by this many columns.
     pub(crate) fn scroll_right(&mut self, columns: usize)
         requires { columns ≤ 8 }
         ensures { self.new ≡ with_lit (scrolled_right columns self.old.lit) self.old }
@@ -587,7 +590,7 @@ impl Processor {
         self.screen.scroll_right(columns);
     }
 
-    /// Moves every pixel left by so many columns.
+    /// Moves every pixel left by this many columns.
     pub(crate) fn scroll_left(&mut self, columns: usize)
         requires { columns ≤ 8 }
         ensures { self.new ≡ with_lit (scrolled_left columns self.old.lit) self.old }
@@ -602,8 +605,8 @@ impl Processor {
         self.registers[15] = 0;
     }
 
-    /// Draws a sprite of as many rows as its bytes tell, and sets VF where it covers a pixel that
-    /// was lit.
+    /// Draws a sprite, whose length gives its number of rows, and sets VF to whether it covers a
+    /// pixel that was lit.
     #[inline(always)]
     pub(crate) fn draw(&mut self, x: u8, y: u8, sprite: &[u8])
         ensures { (n : ℕ) → n < 16
@@ -614,7 +617,7 @@ impl Processor {
         self.registers[15] = u8::from(hit);
     }
 
-    /// Where the next instruction stands.
+    /// The address of the next instruction.
     pub(crate) fn pc(&self) -> u16
         ensures { result ≡ self.now.pc }
     {
@@ -635,7 +638,7 @@ impl Processor {
         self.stopped = Some(why);
     }
 
-    /// Takes 1 from each timer above 0.
+    /// Subtracts 1 from each timer above 0.
     pub(crate) fn tick(&mut self)
         ensures { self.new ≡ ticked self.old }
     {
@@ -643,14 +646,14 @@ impl Processor {
         self.sound = self.sound.saturating_sub(1);
     }
 
-    /// The sound timer.
+    /// The value of the sound timer.
     pub(crate) fn sound(&self) -> u8
         ensures { result ≡ self.now.sound }
     {
         self.sound
     }
 
-    /// The flag registers.
+    /// The eight flag registers.
     pub(crate) fn flags(&self) -> &[u8]
         ensures value { result.now ≡ self.now.flags }
         ensures size { length result.now ≡ FLAGS }
@@ -658,7 +661,7 @@ impl Processor {
         &self.flags
     }
 
-    /// How many random bytes were used.
+    /// The number of random bytes used.
     pub(crate) fn draws(&self) -> u64
         ensures { result ≡ self.now.draws }
     {
@@ -666,15 +669,14 @@ impl Processor {
     }
 }
 
-/// Whether two values of I are the same, or both where digits stand: true only where they are.
+/// True only if two values of I are the same or both point at digits.
 fn are_near(mine: u16, theirs: u16) -> bool
     ensures { IsTrue result → AreNear mine theirs }
 {
     mine == theirs || mine < DIGITS_END && theirs < DIGITS_END
 }
 
-/// Whether two machines have the same value in each register that isn't forgotten: true only where
-/// they have.
+/// True only if two machines have the same value in each register that isn't forgotten.
 #[inline]
 fn have_same_values(mine: &[u8], theirs: &[u8], forgotten: Forgotten) -> bool
     requires sixteen { length mine.now ≡ 16 }
@@ -694,7 +696,7 @@ fn have_same_values(mine: &[u8], theirs: &[u8], forgotten: Forgotten) -> bool
     true
 }
 
-/// The place after one on a tape, of which the first follows the last.
+/// The next place on a tape. After the last place, the first one follows.
 #[inline(always)]
 fn next_place(place: usize, tape_len: usize) -> usize
     requires { place < tape_len }

@@ -1,11 +1,11 @@
-//! The machines that have a name.
+//! The machines that have names.
 
 ghost use Rattle.std.specs.Prelude.{◌≡◌, ◌≢◌, ◌↔◌, None, Some, IfSome, IsSome, Contains, option_copied};
 ghost use Rattle.chip_machine.specs.Profile.{profile_asked, profile_name, profile_named, profile_names, profile_with, quirks};
 
 use crate::quirks::{IndexMove, LowSixteen, Quirks};
 
-/// A machine that has a name: its quirks, by which each instruction does what it does.
+/// A machine that has a name. Its quirks decide what some instructions do.
 #[derive(Clone, Copy, PartialEq, Eq)]
 pub enum Profile {
     /// SUPER-CHIP 1.1, with this project's choices.
@@ -16,7 +16,7 @@ pub enum Profile {
     Chip48,
     /// SUPER-CHIP 1.0 on the HP48.
     Schip10,
-    /// What games for SUPER-CHIP expect of the emulators of today.
+    /// The behaviour that SUPER-CHIP games expect of present-day emulators.
     SchipModern,
     /// Octo, without the instructions of XO-CHIP.
     Octo,
@@ -44,7 +44,7 @@ const OCTO: &str = "octo";
 pub const PROFILES: [&str; 6] = [SCHIP, VIP, CHIP48, SCHIP10, SCHIP_MODERN, OCTO];
 
 impl Profile {
-    /// Its name.
+    /// The name of the profile.
     pub fn name(self) -> &'static str
         ensures name { result.now ≡ profile_name self }
         ensures listed { Contains profile_names result.now }
@@ -59,7 +59,7 @@ impl Profile {
         }
     }
 
-    /// Its quirks.
+    /// The quirks of the profile.
     pub fn quirks(self) -> Quirks
         ensures { result ≡ quirks self }
     {
@@ -103,7 +103,7 @@ impl Profile {
         }
     }
 
-    /// The profile that has these quirks, and `None` where no profile has them.
+    /// The profile with these quirks, or `None` if no profile has them.
     #[tactic(auto, using(crate::proofs::SameMachine::profile_none))]
     pub fn with_quirks(asked: Quirks) -> Option<Self>
         ensures value { result ≡ profile_with asked }
@@ -127,8 +127,8 @@ impl Profile {
         }
     }
 
-    /// The profile of a name, if one is given: that of SUPER-CHIP 1.1 without one, and `None` where
-    /// no profile has it.
+    /// The profile with a name, or `None` if no profile has it. Without a name, the profile is
+    /// SUPER-CHIP 1.1.
     pub fn asked(name: Option<&str>) -> Option<Self>
         ensures { result ≡ profile_asked (option_copied name.entry) }
     {
@@ -138,7 +138,7 @@ impl Profile {
         }
     }
 
-    /// The profile of a name, and `None` where no profile has it.
+    /// The profile with a name, or `None` if no profile has it.
     pub fn from_name(name: &str) -> Option<Self>
         ensures named { (p : Profile) → (result ≡ Some p) ↔ (name.now ≡ profile_name p) }
         ensures listed { IsSome result ↔ Contains profile_names name.now }

@@ -6,21 +6,21 @@ ghost use Rattle.chip_machine.specs.inner.FirstPart.{IsFirstPart};
 
 use memchr::memchr;
 
-/// Where `FX55` and `FX65` leave I.
+/// The place where `FX55` and `FX65` leave I.
 #[derive(Clone, Copy, PartialEq, Eq)]
 pub enum IndexMove {
-    /// Where it was.
+    /// I is unchanged.
     Stays,
-    /// At the byte of the last register, I + x.
+    /// I is at the byte of the last register, I + x.
     AtLast,
-    /// Behind that byte, at I + x + 1.
+    /// I is behind that byte, at I + x + 1.
     PastLast,
 }
 
-/// What `DXY0` draws in the low size.
+/// The picture that `DXY0` draws in the low size.
 #[derive(Clone, Copy, PartialEq, Eq)]
 pub enum LowSixteen {
-    /// Nothing.
+    /// No pixel.
     Nothing,
     /// Sixteen rows of 8 pixels.
     Narrow,
@@ -28,29 +28,29 @@ pub enum LowSixteen {
     Wide,
 }
 
-/// The points in which one machine differs from another. Each chooses between effects of the
+/// The points in which one machine differs from another. Each field chooses between effects of the
 /// instructions that it names.
 #[derive(Clone, Copy, PartialEq, Eq)]
 pub struct Quirks {
-    /// `8XY6` and `8XYE` shift Vy into Vx, and not Vx itself.
+    /// `8XY6` and `8XYE` shift Vy into Vx, instead of Vx itself.
     pub shifts_second: bool,
     /// `FX55` and `FX65` leave I where it was, at I + x, or at I + x + 1.
     pub index_move: IndexMove,
-    /// `BNNN` adds V0, and not the register of the address's top digit.
+    /// `BNNN` adds V0, instead of the register that the address's top digit names.
     pub jumps_by_first: bool,
-    /// `8XY1`, `8XY2` and `8XY3` end with VF 0, and don't leave it as it was.
+    /// `8XY1`, `8XY2` and `8XY3` set VF to 0, instead of leaving it as it was.
     pub clears_flag: bool,
-    /// `DXYN` draws what is past an edge at the other side, and doesn't leave it out.
+    /// `DXYN` draws anything past an edge at the other side, instead of leaving it out.
     pub wraps: bool,
     /// `DXY0` in the low size draws nothing, sixteen rows of 8 pixels, or of 16.
     pub low_sixteen: LowSixteen,
-    /// `00CN`, `00FB` and `00FC` in the low size move by pixels of that size, and not by stored
+    /// `00CN`, `00FB` and `00FC` in the low size move by pixels of that size, instead of stored
     /// ones.
     pub scrolls_whole: bool,
-    /// `00FE` and `00FF` make all pixels dark, and don't leave them as they were.
+    /// `00FE` and `00FF` make all pixels dark, instead of leaving them as they were.
     pub clears_at_size: bool,
-    /// `FX1E` sets VF to 1 where I + Vx is above `0FFF` and else to 0, and doesn't leave it as it
-    /// was.
+    /// `FX1E` sets VF to 1 if I + Vx is above `0FFF` and otherwise to 0, instead of leaving it as
+    /// it was.
     pub flags_overflow: bool,
     /// `00CN`, `00FB` to `00FF`, `FX30`, `FX75` and `FX85` are instructions, as on a SUPER-CHIP.
     pub has_super_instructions: bool,
@@ -97,7 +97,7 @@ pub const CHOICES: [(&str, Choice); 22] = [
     ("instructions=base", Choice::HasSuperInstructions(false)),
 ];
 
-/// The quirks, each with its values, as texts for users show them.
+/// The quirks, each with its values, as texts for users list them.
 pub const QUIRKS: [&str; 10] = [
     "shift=vx|vy",
     "memory=keep|x|x+1",
@@ -119,7 +119,7 @@ pub struct Chosen {
 }
 
 impl Choice {
-    /// The choice of a name, such as `shift=vy`, and `None` for another text.
+    /// The choice with a name, such as `shift=vy`, or `None` for any other text.
     fn from_name(name: &[u8]) -> Option<Choice>
         ensures { result ≡ choice_named name.now }
     {
@@ -145,7 +145,7 @@ impl Choice {
         }
     }
 
-    /// Quirks with this choice.
+    /// The quirks after this choice.
     fn put_in(self, quirks: Quirks) -> Quirks
         ensures { result ≡ with_quirk self quirks }
     {
@@ -167,7 +167,7 @@ impl Choice {
 }
 
 impl Quirks {
-    /// Those of the profile `schip`.
+    /// The quirks of the profile `schip`.
     pub const SCHIP: Quirks = Quirks {
         shifts_second: false,
         index_move: IndexMove::Stays,
@@ -181,7 +181,7 @@ impl Quirks {
         has_super_instructions: true,
     };
 
-    /// Whether others are the same: true only where they are.
+    /// True only if the other quirks are the same.
     pub(crate) fn is_same(self, other: Quirks) -> bool
         ensures { IsTrue result → self ≡ other }
     {
@@ -206,7 +206,7 @@ impl Quirks {
         }
     }
 
-    /// These quirks but for the choices of a list, if one is given. `None` where the list isn't one.
+    /// The quirks after the choices of a list, if one is given; `None` if the list is not valid.
     pub fn asked(self, list: Option<&str>) -> Option<Quirks>
         ensures { result ≡ choices_asked (option_copied list.entry) self }
     {
@@ -216,8 +216,8 @@ impl Quirks {
         }
     }
 
-    /// These quirks but for the choices of a list, which has commas between them. `None` where a
-    /// text between two commas is no choice, or a quirk stands there twice.
+    /// The quirks after the choices of a comma-separated list; `None` if an item is not a choice,
+    /// or if a quirk is chosen twice.
     pub fn with_choices(self, list: &[u8]) -> Option<Quirks>
         ensures { result ≡ with_choices list.now self }
     {
@@ -237,7 +237,7 @@ impl Quirks {
     }
 }
 
-/// The first of some choices that has a name.
+/// The first of a list of choices that has this name.
 fn first_named(choices: &[(&str, Choice)], name: &[u8]) -> Option<Choice>
     ensures { result ≡ first_named name.now (map (λ c. (c.0.now, c.1)) choices.now) }
 {
@@ -250,7 +250,7 @@ fn first_named(choices: &[(&str, Choice)], name: &[u8]) -> Option<Choice>
     None
 }
 
-/// The part before the first comma, and what follows the comma.
+/// The part before the first comma, and the rest after it if there is a comma.
 fn first_part(text: &[u8]) -> (&[u8], Option<&[u8]>)
     ensures { IsFirstPart text.now result.0.now (option_copied result.1) }
 {
@@ -260,7 +260,7 @@ fn first_part(text: &[u8]) -> (&[u8], Option<&[u8]>)
     }
 }
 
-/// Quirks with one choice more, where there is one, and its quirk wasn't chosen before.
+/// The quirks with one more choice; `None` if there is no choice or its quirk was chosen before.
 fn with_choice(chosen: Option<Chosen>, choice: Option<Choice>) -> Option<Chosen>
     ensures { result ≡ with_choice chosen choice }
 {

@@ -1,4 +1,4 @@
-//! The rows of the instruction table, a method for each.
+//! The rows of the instruction table, with a method for each.
 
 ghost use Rattle.std.specs.Prelude.{◌≡◌, ◌≤◌, length};
 ghost use Rattle.chip_machine.specs.Step.{effect, Changes, Stops};
@@ -49,7 +49,7 @@ impl Processor {
         self.skip_if(same);
     }
 
-    /// `9XY0`, `SNE Vx, Vy`: skips if they differ.
+    /// `9XY0`, `SNE Vx, Vy`: skips if Vx is not Vy.
     pub(crate) fn row_skip_unless_equal(&mut self, x: Reg, y: Reg)
         requires { self.old.pc ≤ LAST_WORD }
         ensures { effect (Instr.SkipUnlessEqual x y) self.old ≡ Changes self.new }
@@ -87,7 +87,7 @@ impl Processor {
         self.advance();
     }
 
-    /// `8XY1`, `OR Vx, Vy`: or; VF stays, or is 0 then.
+    /// `8XY1`, `OR Vx, Vy`: or; VF stays or becomes 0.
     pub(crate) fn row_or(&mut self, x: Reg, y: Reg)
         requires { self.old.pc ≤ LAST_WORD }
         ensures { effect (Instr.Or x y) self.old ≡ Changes self.new }
@@ -97,7 +97,7 @@ impl Processor {
         self.advance();
     }
 
-    /// `8XY2`, `AND Vx, Vy`: and; VF stays, or is 0 then.
+    /// `8XY2`, `AND Vx, Vy`: and; VF stays or becomes 0.
     pub(crate) fn row_and(&mut self, x: Reg, y: Reg)
         requires { self.old.pc ≤ LAST_WORD }
         ensures { effect (Instr.And x y) self.old ≡ Changes self.new }
@@ -107,7 +107,7 @@ impl Processor {
         self.advance();
     }
 
-    /// `8XY3`, `XOR Vx, Vy`: exclusive or; VF stays, or is 0 then.
+    /// `8XY3`, `XOR Vx, Vy`: exclusive or; VF stays or becomes 0.
     pub(crate) fn row_xor(&mut self, x: Reg, y: Reg)
         requires { self.old.pc ≤ LAST_WORD }
         ensures { effect (Instr.Xor x y) self.old ≡ Changes self.new }
@@ -129,7 +129,7 @@ impl Processor {
         self.advance();
     }
 
-    /// `8XY5`, `SUB Vx, Vy`: takes Vy from Vx; VF says whether Vx was at least Vy.
+    /// `8XY5`, `SUB Vx, Vy`: subtracts Vy from Vx; VF says whether Vx was at least Vy.
     pub(crate) fn row_subtract(&mut self, x: Reg, y: Reg)
         requires { self.old.pc ≤ LAST_WORD }
         ensures { effect (Instr.Subtract x y) self.old ≡ Changes self.new }
@@ -140,7 +140,7 @@ impl Processor {
         self.advance();
     }
 
-    /// `8XY7`, `SUBN Vx, Vy`: Vx becomes Vy less Vx; VF says whether Vy was at least Vx.
+    /// `8XY7`, `SUBN Vx, Vy`: Vx becomes Vy minus Vx; VF says whether Vy was at least Vx.
     pub(crate) fn row_subtract_from(&mut self, x: Reg, y: Reg)
         requires { self.old.pc ≤ LAST_WORD }
         ensures { effect (Instr.SubtractFrom x y) self.old ≡ Changes self.new }
@@ -151,7 +151,8 @@ impl Processor {
         self.advance();
     }
 
-    /// `8XY6`, `SHR Vx, Vy`: Vx becomes Vx or Vy moved right by a bit, which VF gets.
+    /// `8XY6`, `SHR Vx, Vy`: Vx becomes Vx or Vy shifted right by one bit, and VF gets the bit
+    /// shifted out.
     pub(crate) fn row_shift_right(&mut self, x: Reg, y: Reg)
         requires { self.old.pc ≤ LAST_WORD }
         ensures { effect (Instr.ShiftRight x y) self.old ≡ Changes self.new }
@@ -161,7 +162,8 @@ impl Processor {
         self.advance();
     }
 
-    /// `8XYE`, `SHL Vx, Vy`: Vx becomes Vx or Vy moved left by a bit, which VF gets.
+    /// `8XYE`, `SHL Vx, Vy`: Vx becomes Vx or Vy shifted left by one bit, and VF gets the bit
+    /// shifted out.
     pub(crate) fn row_shift_left(&mut self, x: Reg, y: Reg)
         requires { self.old.pc ≤ LAST_WORD }
         ensures { effect (Instr.ShiftLeft x y) self.old ≡ Changes self.new }
@@ -180,7 +182,7 @@ impl Processor {
         self.advance();
     }
 
-    /// `BNNN`, `JP V0, a`: goes to a and Vx more, where x is the top digit of a, or 0.
+    /// `BNNN`, `JP V0, a`: goes to a + Vx, where x is 0 or the top digit of a.
     pub(crate) fn row_jump_offset(&mut self, address: Addr)
         ensures { effect (Instr.JumpOffset address) self.old ≡ Changes self.new }
     {
@@ -228,7 +230,7 @@ impl Processor {
         self.advance();
     }
 
-    /// `FX1E`, `ADD I, Vx`: adds Vx to I; VF stays, or says whether the sum is above 0FFF.
+    /// `FX1E`, `ADD I, Vx`: adds Vx to I; VF stays or says whether the sum is above 0FFF.
     pub(crate) fn row_add_index(&mut self, x: Reg)
         requires { self.old.pc ≤ LAST_WORD }
         ensures { effect (Instr.AddIndex x) self.old ≡ Changes self.new }
@@ -315,7 +317,7 @@ impl Processor {
         }
     }
 
-    /// `00FE`, `LOW`: takes the low size; the pixels stay, or all are dark then.
+    /// `00FE`, `LOW`: switches to the low size; the pixels stay or become dark.
     pub(crate) fn row_low_size(&mut self) -> Result<(), Stop>
         requires { self.old.pc ≤ LAST_WORD }
         ensures { Changing (effect Instr.LowSize self.old) self.old self.new result }
@@ -326,7 +328,7 @@ impl Processor {
         Ok(())
     }
 
-    /// `00FF`, `HIGH`: takes the high size; the pixels stay, or all are dark then.
+    /// `00FF`, `HIGH`: switches to the high size; the pixels stay or become dark.
     pub(crate) fn row_high_size(&mut self) -> Result<(), Stop>
         requires { self.old.pc ≤ LAST_WORD }
         ensures { Changing (effect Instr.HighSize self.old) self.old self.new result }
@@ -337,7 +339,7 @@ impl Processor {
         Ok(())
     }
 
-    /// `00EE`, `RET`: returns to the newest frame, which is taken off.
+    /// `00EE`, `RET`: returns to the address of the newest frame, and removes that frame.
     pub(crate) fn row_return(&mut self) -> Result<(), Stop>
         ensures { Changing (effect Instr.Return self.old) self.old self.new result }
     {
@@ -348,7 +350,7 @@ impl Processor {
         Ok(())
     }
 
-    /// `2NNN`, `CALL a`: makes next the newest frame, and goes to a.
+    /// `2NNN`, `CALL a`: adds a frame with the next address, and goes to a.
     pub(crate) fn row_call(&mut self, address: Addr) -> Result<(), Stop>
         requires { self.old.pc ≤ LAST_WORD }
         ensures { Changing (effect (Instr.Call address) self.old) self.old self.new result }
@@ -406,7 +408,7 @@ impl Processor {
         self.skip_if(!down);
     }
 
-    /// `FX0A`, `LD Vx, K`: Vx becomes the least key that is down; with none the machine waits.
+    /// `FX0A`, `LD Vx, K`: Vx becomes the lowest key that is down; the machine waits if none is.
     pub(crate) fn row_wait_key(&mut self, x: Reg, keys: u16)
         requires { self.old.pc ≤ LAST_WORD }
         ensures { Asking (effect (Instr.WaitKey x) self.old) keys self.old self.new }
@@ -417,8 +419,8 @@ impl Processor {
         }
     }
 
-    /// `DXYN`, `DRW Vx, Vy, n`: draws the sprite at I; VF says whether it met a lit pixel. Of 0
-    /// rows it may be none.
+    /// `DXYN`, `DRW Vx, Vy, n`: draws the sprite at I; VF says whether it met a lit pixel. With n =
+    /// 0 it may draw nothing.
     #[inline(always)]
     pub(crate) fn row_draw(
         &mut self,
@@ -465,7 +467,7 @@ impl Processor {
         Ok(span)
     }
 
-    /// `FX55`, `LD [I], Vx`: stores V0 to Vx at I, which stays or moves on.
+    /// `FX55`, `LD [I], Vx`: stores V0 to Vx at I; I stays or moves on.
     #[inline(always)]
     pub(crate) fn row_store_registers(&mut self, x: Reg, memory: &mut [u8]) -> Result<Span, Stop>
         requires size { length memory.old ≡ MEMORY_BYTES }
@@ -482,7 +484,7 @@ impl Processor {
         Ok(span)
     }
 
-    /// `FX65`, `LD Vx, [I]`: loads V0 to Vx from I, which stays or moves on.
+    /// `FX65`, `LD Vx, [I]`: loads V0 to Vx from I; I stays or moves on.
     #[inline(always)]
     pub(crate) fn row_load_registers(&mut self, x: Reg, memory: &[u8]) -> Result<Span, Stop>
         requires size { length memory.now ≡ MEMORY_BYTES }

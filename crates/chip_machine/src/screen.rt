@@ -1,4 +1,4 @@
-//! The screen as 64 rows of 128 bits, the leftmost column the highest bit.
+//! The screen as 64 rows of 128 bits, in which the leftmost column is the highest bit.
 
 ghost use Rattle.std.specs.Prelude.{◌≡◌, ℕ, ◌+◌, ◌-◌, ◌*◌, ◌/◌, ◌%◌, ◌<◌, ◌≤◌, false, not, ◌&&◌, ◌||◌, ◌==◌, length, slice_index, slice_index_or, IfOk, ◌^◌, IsTrue, ◌↔◌};
 ghost use Rattle.std.specs.FinSet as set;
@@ -32,7 +32,7 @@ impl Model for Screen {
 }
 
 impl Screen {
-    /// A dark screen.
+    /// Returns a dark screen. Fails only if memory runs out.
     pub(crate) fn new(alloc: Global) -> Result<Self, AllocError>
         ensures { IfOk result (λ screen. screen ≡ set.empty) }
     {
@@ -40,7 +40,7 @@ impl Screen {
         Ok(Screen { rows })
     }
 
-    /// Whether a pixel is lit: outside the screen none is.
+    /// Whether a pixel is lit. No pixel outside the screen is lit.
     pub(crate) fn lit(&self, column: usize, row: usize) -> bool
         ensures member { result ≡ is_lit self.now column row }
         ensures on_screen { IsOnScreen self.now }
@@ -52,7 +52,7 @@ impl Screen {
         }
     }
 
-    /// The pixels of a row, the leftmost the highest bit: past the last row none is lit.
+    /// The pixels of a row; the leftmost is the highest bit. Past the last row, no pixel is lit.
     pub(crate) fn row(&self, row: usize) -> u128
         ensures points { (column : ℕ) → column < 128
             → lights result column ≡ is_lit self.now column row }
@@ -69,14 +69,14 @@ impl Screen {
         darken(&mut self.rows);
     }
 
-    /// Moves every pixel down, and loses those that leave.
+    /// Moves every pixel down by this many rows, and loses those that leave the screen.
     pub(crate) fn scroll_down(&mut self, rows: usize)
         ensures { self.new ≡ scrolled_down rows self.old }
     {
         lower(&mut self.rows, rows);
     }
 
-    /// Moves every pixel right by so many columns, and loses those that leave.
+    /// Moves every pixel right by this many columns, and loses those that leave the screen.
     pub(crate) fn scroll_right(&mut self, columns: usize)
         requires { columns ≤ 8 }
         ensures { self.new ≡ scrolled_right columns self.old }
@@ -84,7 +84,7 @@ impl Screen {
         to_the_right(&mut self.rows, columns);
     }
 
-    /// Moves every pixel left by so many columns, and loses those that leave.
+    /// Moves every pixel left by this many columns, and loses those that leave the screen.
     pub(crate) fn scroll_left(&mut self, columns: usize)
         requires { columns ≤ 8 }
         ensures { self.new ≡ scrolled_left columns self.old }
@@ -92,7 +92,7 @@ impl Screen {
         to_the_left(&mut self.rows, columns);
     }
 
-    /// Another screen with the same pixels.
+    /// Returns another screen with the same pixels. Fails only if memory runs out.
     pub(crate) fn copy_of(&self) -> Result<Self, AllocError>
         ensures { IfOk result (λ screen. screen ≡ self.now) }
     {
@@ -107,7 +107,7 @@ impl Screen {
         self.rows.copy_from_slice(&other.rows);
     }
 
-    /// Has these rows of pixels, the leftmost pixel the highest bit.
+    /// Replaces the pixels by these rows, in which the leftmost pixel is the highest bit.
     pub(crate) fn set_rows(&mut self, rows: &[u128])
         requires { length rows.now ≡ 64 }
         ensures { self.new ≡ in_rows rows.now }
@@ -115,14 +115,14 @@ impl Screen {
         self.rows.copy_from_slice(rows);
     }
 
-    /// Whether another screen has the same pixels: true only where it has.
+    /// True only if another screen has the same pixels.
     pub(crate) fn is_same(&self, other: &Screen) -> bool
         ensures { IsTrue result → self.now ≡ other.now }
     {
         self.rows == other.rows
     }
 
-    /// Draws a sprite, and answers whether it covers a pixel that was lit.
+    /// Draws a sprite, and returns whether it covers a pixel that was lit.
     #[inline(always)]
     pub(crate) fn draw(&mut self, wraps: bool, high: bool, x: u8, y: u8, sprite: &[u8]) -> bool
         ensures lit { self.new
@@ -142,7 +142,7 @@ fn darken(rows: &mut [u128])
     }
 }
 
-/// Moves each item to the place `by` later, as far as it stays inside.
+/// Moves each item `by` places later, and drops those that leave the slice.
 fn move_later<T: Copy>(items: &mut [T], by: usize)
     requires { by ≤ length items.old }
     ensures { (k : ℕ) (d : T) → by ≤ k → k < length items.old
@@ -164,8 +164,8 @@ fn lower(rows: &mut [u128], n: usize)
     darken(&mut rows[..n]);
 }
 
-/// Moves the columns of each row right by `n`. The same call stands twice, since a shift by a
-/// constant, as the usual four, is faster.
+/// Moves the columns of each row right by `n`. The call is written twice, because a shift by a
+/// constant, such as the usual 4, is faster.
 fn to_the_right(rows: &mut [u128], n: usize)
     requires { n < 128 }
     ensures bits { (row : ℕ) → slice_index rows.old row < 2 ^ 128 }
@@ -192,7 +192,7 @@ fn shift_right(rows: &mut [u128], n: usize)
     }
 }
 
-/// Moves the columns of each row left by `n`, as `to_the_right`.
+/// Moves the columns of each row left by `n`, like `to_the_right`.
 fn to_the_left(rows: &mut [u128], n: usize)
     requires { n < 128 }
     ensures { (row : ℕ) → row < length rows.old
@@ -217,8 +217,8 @@ fn shift_left(rows: &mut [u128], n: usize)
     }
 }
 
-/// Turns the pixels of a stripe of columns in so many rows, and gives the columns in which one of
-/// them was lit.
+/// Inverts the pixels of a stripe of columns in `count` rows, and returns the columns in which one
+/// of them was lit.
 fn turn(rows: &mut [u128], from: usize, count: usize, stripe: u128) -> u128
     requires { from + count ≤ length rows.old }
     ensures { AreTurned from (from + count) (λ column row. lights stripe column) rows.old rows.new
@@ -232,8 +232,8 @@ fn turn(rows: &mut [u128], from: usize, count: usize, stripe: u128) -> u128
     met
 }
 
-/// Turns each pixel that a sprite covers, and says whether one of them was lit. What wraps, or has
-/// wide rows in the low size, has a loop of its own: all else is drawn by a faster one.
+/// Inverts each pixel that a sprite covers, and returns whether one of them was lit. Sprites that
+/// wrap, or have wide rows in the low size, have their own loop, and a faster one draws all others.
 #[inline(always)]
 fn toggle(rows: &mut [u128], wraps: bool, high: bool, x: u8, y: u8, sprite: &[u8]) -> bool
     requires { length rows.old ≡ 64 }
@@ -254,8 +254,8 @@ fn is_clipped(wraps: bool, high: bool, sprite: &[u8]) -> bool
     !wraps && (sprite.len() != SPRITE_BYTES || high)
 }
 
-/// Turns each pixel that a sprite covers, line by line over the whole screen, and says whether one
-/// of them was lit.
+/// Inverts each pixel that a sprite covers, line by line over the whole screen, and returns whether
+/// one of them was lit.
 #[inline(never)]
 fn toggle_all_lines(rows: &mut [u128], wraps: bool, high: bool, x: u8, y: u8, sprite: &[u8]) -> bool
     requires { length rows.old ≡ 64 }
@@ -270,15 +270,15 @@ fn toggle_all_lines(rows: &mut [u128], wraps: bool, high: bool, x: u8, y: u8, sp
     met != 0
 }
 
-/// Turns each pixel that a clipped sprite covers, and says whether one of them was lit. The same
-/// call stands twice, since each is compiled for its own width.
+/// Inverts each pixel that a clipped sprite covers, and returns whether one of them was lit. The
+/// call is written twice, because each copy is compiled for its own width.
 #[inline(never)]
 fn toggle_clipped(rows: &mut [u128], high: bool, x: u8, y: u8, sprite: &[u8]) -> bool
     requires { length rows.old ≡ 64 }
     ensures { AreTurned 0 64 (covers_by_length high x y sprite.now) rows.old rows.new result }
 {
-    // A loop for each size, width and half: there all are constants, which is faster than one for
-    // all.
+    // Each size, width and half has its own loop, because loops over constants are faster than one
+    // loop for all.
     if !high {
         toggle_in(rows, false, x, y, sprite)
     } else if sprite.len() == SPRITE_BYTES {
@@ -288,7 +288,7 @@ fn toggle_clipped(rows: &mut [u128], high: bool, x: u8, y: u8, sprite: &[u8]) ->
     }
 }
 
-/// Turns them by the loop for the half in which the sprite's columns lie.
+/// Inverts the covered pixels with the loop for the half in which the sprite's columns lie.
 #[inline(always)]
 fn toggle_in(rows: &mut [u128], high: bool, x: u8, y: u8, sprite: &[u8]) -> bool
     requires { length rows.old ≡ 64 }
@@ -301,7 +301,7 @@ fn toggle_in(rows: &mut [u128], high: bool, x: u8, y: u8, sprite: &[u8]) -> bool
     }
 }
 
-/// Turns them line by line, for a sprite whose columns lie in this half.
+/// Inverts the covered pixels line by line, for a sprite whose columns lie in this half.
 #[inline(always)]
 fn toggle_lines(rows: &mut [u128], high: bool, half: Half, x: u8, y: u8, sprite: &[u8]) -> bool
     requires size { length rows.old ≡ 64 }

@@ -9,13 +9,13 @@ ghost use Rattle.chip_machine.specs.inner.SpriteBytes.{LiesIn, covers, covers_by
 use crate::doubled::DOUBLED;
 use crate::limits::SPRITE_BYTES;
 
-/// How many columns the screen has.
+/// The number of columns of the screen.
 pub(crate) const WIDTH: usize = 128;
 
-/// How many rows the screen has.
+/// The number of rows of the screen.
 pub(crate) const HEIGHT: usize = 64;
 
-/// How many stored pixels wide and high a pixel is.
+/// The width and height of a pixel in stored pixels.
 pub(crate) fn scale_of(high: bool) -> usize
     ensures value { result ≡ scale high }
     ensures some { 1 ≤ result }
@@ -24,14 +24,15 @@ pub(crate) fn scale_of(high: bool) -> usize
     if high { 1 } else { 2 }
 }
 
-/// A byte of a sprite, and zero past its end.
+/// The byte of a sprite at a place, or 0 past its end.
 fn byte_at(sprite: &[u8], at: usize) -> u8
     ensures { result ≡ slice_index sprite.now at }
 {
     if at < sprite.len() { sprite[at] } else { 0 }
 }
 
-/// How many rows a sprite has: in the high size two bytes are a row where there are `SPRITE_BYTES`.
+/// The number of rows of a sprite: in the high size, a sprite of `SPRITE_BYTES` bytes has two bytes
+/// per row.
 #[tactic(auto, unfolding(crate::specs::inner::SpriteBytes::row_bytes_by_length))]
 fn rows_of(high: bool, sprite: &[u8]) -> usize
     ensures { length sprite.now ≤ row_bytes_by_length high sprite.now * result }
@@ -43,8 +44,8 @@ fn rows_of(high: bool, sprite: &[u8]) -> usize
     }
 }
 
-/// The lines that a sprite may cover: the first of them, and how many they are. A line is a row of
-/// pixels of the size.
+/// The first line that a sprite may cover, and the number of lines. A line is a row of pixels of
+/// the size.
 pub(crate) fn lines_under(high: bool, y: u8, sprite: &[u8]) -> (usize, usize)
     ensures first { result.0 ≡ y % (64 / scale high) }
     ensures on_screen { scale high * (result.0 + result.1) ≤ 64 }
@@ -58,19 +59,19 @@ pub(crate) fn lines_under(high: bool, y: u8, sprite: &[u8]) -> (usize, usize)
     (first, rows_of(high, sprite).min(height - first))
 }
 
-/// Where the sixteen columns that a row of a sprite has at most lie among the stored ones: a loop
-/// for each of these reads and writes no more than it has to.
+/// The part of the stored columns in which the at most sixteen columns of a sprite's row lie. Each
+/// part has its own loop, which reads and writes no more than it has to.
 #[derive(Clone, Copy)]
 pub(crate) enum Half {
-    /// All of them in the left half.
+    /// All columns are in the left half.
     Left,
-    /// They begin in the left half, and may reach into the right one.
+    /// The columns begin in the left half, and may reach into the right one.
     Middle,
-    /// They begin in the right half.
+    /// The columns begin in the right half.
     Right,
 }
 
-/// Where the columns of a sprite lie.
+/// The part of the screen in which the columns of a sprite lie.
 pub(crate) fn half_of(high: bool, x: u8) -> Half
     ensures { LiesIn result (first_column high x) }
 {
@@ -85,7 +86,8 @@ pub(crate) fn half_of(high: bool, x: u8) -> Half
     }
 }
 
-/// The bits that a row of a sprite, whose columns lie in this half, covers in each row of its line.
+/// The bits that a row of a sprite covers in each row of its line; the sprite's columns lie in this
+/// half.
 pub(crate) fn covered_bits(high: bool, half: Half, x: u8, sprite: &[u8], row: usize) -> u128
     requires half { LiesIn half (first_column high x) }
     requires few { row < 64 }
@@ -99,8 +101,8 @@ pub(crate) fn covered_bits(high: bool, half: Half, x: u8, sprite: &[u8], row: us
     placed(pattern, half, scale * left)
 }
 
-/// Sixteen columns, the first of them at `start`, as far as they are on the screen. Each shift is
-/// by under 64 columns, which is faster than one by any number.
+/// Sixteen columns shifted so that the first is at `start`; those outside the screen are lost. Each
+/// shift is by less than 64 columns, which is faster than one by any number.
 fn placed(columns: u16, half: Half, start: usize) -> u128
     requires on_screen { start < 128 }
     requires half { LiesIn half start }
@@ -113,7 +115,7 @@ fn placed(columns: u16, half: Half, start: usize) -> u128
     }
 }
 
-/// The sixteen stored columns that a row of a sprite has at most, the leftmost the highest bit.
+/// The at most sixteen stored columns of a sprite's row; the leftmost is the highest bit.
 fn pattern_at(high: bool, sprite: &[u8], row: usize) -> u16
     requires { row < 64 }
     ensures { (i : ℕ) → i < 16
@@ -129,15 +131,15 @@ fn pattern_at(high: bool, sprite: &[u8], row: usize) -> u16
     }
 }
 
-/// Each bit of a byte twice.
+/// The 16 bits in which each bit of a byte occurs twice.
 fn doubled(byte: u8) -> u16
     ensures { (k : ℕ) → k < 16 → bit_at result k ≡ bit_at byte (k / 2) }
 {
     DOUBLED[byte as usize]
 }
 
-/// The bits that a sprite, which may wrap or have wide rows in the low size, covers in each row of a
-/// line.
+/// The bits that a sprite covers in each row of a line; the sprite may wrap or have wide rows in
+/// the low size.
 pub(crate) fn stripe_over(wraps: bool, high: bool, x: u8, y: u8, sprite: &[u8], line: usize) -> u128
     requires { line < 64 / scale high }
     ensures { (column at : ℕ) → column < 128 → scale high * line ≤ at
@@ -160,7 +162,7 @@ pub(crate) fn stripe_over(wraps: bool, high: bool, x: u8, y: u8, sprite: &[u8], 
     }
 }
 
-/// Columns moved right by `start`: those that leave come in at the left.
+/// The columns rotated right by `start`: those that leave at the right come in at the left.
 fn around(columns: u128, start: usize) -> u128
     requires { start < 128 }
     ensures { (column : ℕ) → column < 128
@@ -169,7 +171,7 @@ fn around(columns: u128, start: usize) -> u128
     columns >> start | columns << ((128 - start) % 128)
 }
 
-/// The columns of a row of a sprite, which begins at the left edge.
+/// The columns of a row of a sprite that begins at the left edge.
 fn row_bits(high: bool, sprite: &[u8], row: usize) -> u128
     requires { row < 64 }
     ensures { (column : ℕ) → column < 128 → lights result column
@@ -178,7 +180,7 @@ fn row_bits(high: bool, sprite: &[u8], row: usize) -> u128
     u128::from(wide_pattern_at(high, sprite, row)) << 96
 }
 
-/// The 32 stored columns that a row of a sprite has at most, the leftmost the highest bit.
+/// The at most 32 stored columns of a sprite's row; the leftmost is the highest bit.
 fn wide_pattern_at(high: bool, sprite: &[u8], row: usize) -> u32
     requires { row < 64 }
     ensures { (i : ℕ) → i < 32

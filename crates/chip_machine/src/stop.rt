@@ -3,14 +3,14 @@
 ghost use Rattle.std.specs.Prelude.{◌≡◌};
 ghost use Rattle.chip_machine.specs.Numbers.{stop_number};
 
-/// Why a machine stopped. A step that stops changes nothing else.
+/// The reason why a machine stopped. A step that stops changes nothing else.
 #[derive(Clone, Copy, PartialEq, Eq)]
 pub enum Stop {
     /// S1: the program ended.
     Exit,
     /// S2: the word at pc is not an instruction.
     NoInstruction,
-    /// S3: no word stands at pc, which is above `LAST_WORD`.
+    /// S3: there is no word at pc, which is above `LAST_WORD`.
     PcOutOfRange,
     /// S4: a call with `FRAMES` return addresses on the call stack.
     FramesFull,
@@ -18,12 +18,12 @@ pub enum Stop {
     NoFrame,
     /// S6: an instruction would access a byte past the end of the memory.
     AddressOutOfRange,
-    /// S7: a flag register above 7 was named.
+    /// S7: the instruction names a flag register above 7.
     NoFlag,
 }
 
 impl Stop {
-    /// The number k of the cause, which is printed as `Sk`: 1 to 7.
+    /// The number k of the cause, 1 to 7. Messages print the cause as `Sk`.
     pub fn number(self) -> u8
         ensures { result ≡ stop_number self }
     {

@@ -1,4 +1,4 @@
-//! What a step touched.
+//! The addresses that a step touched.
 
 ghost use Rattle.std.specs.Prelude.{◌≡◌, ℕ, ◌+◌, ◌<◌, ◌≤◌, ◌↔◌, [], ◌∷◌, ◌++◌, All, length, min, IsTrue, IfSome, slice_get, slice_index, slice_set};
 ghost use Rattle.std.specs.Bool.{OnTrue, OnFalse};
@@ -14,8 +14,8 @@ use std::marker::Model;
 pub struct Touch {
     addresses: [u16; TOUCHES],
     count: usize,
-    /// Where the newest addresses begin, which stand in a row and aren't written out before others
-    /// follow.
+    /// The first of the newest addresses. These are consecutive, and are written out only when
+    /// others follow.
     row_start: u16,
     row_len: usize,
 }
@@ -35,7 +35,7 @@ impl Model for Touch {
         × All (λ at. at < MEMORY_BYTES) (take t.count t.addresses) };
 }
 
-/// The addresses of so many bytes in a row that an instruction accesses, or none.
+/// The consecutive addresses that an instruction accesses, or none.
 #[derive(Drop)]
 pub(crate) struct Span {
     start: u16,
@@ -56,7 +56,7 @@ impl Model for Span {
 }
 
 impl Span {
-    /// No address.
+    /// Returns a span without addresses.
     #[inline(always)]
     pub(crate) fn none() -> Self
         ensures { result ≡ [] }
@@ -64,7 +64,7 @@ impl Span {
         Span { start: 0, len: 0 }
     }
 
-    /// The addresses of so many bytes.
+    /// Returns the addresses of `len` bytes from `start` on.
     #[inline(always)]
     pub(crate) fn new(start: u16, len: usize) -> Self
         requires few { len ≤ SPRITE_BYTES }
@@ -74,7 +74,7 @@ impl Span {
         Span { start, len }
     }
 
-    /// Notes a step at the addresses, as `Touch::note`.
+    /// Notes a step at the addresses, like `Touch::note`.
     #[inline(always)]
     pub(crate) fn note(&self, first_touch: &mut [u32], number: u32)
         requires { length first_touch.old ≡ MEMORY_BYTES }
@@ -85,7 +85,7 @@ impl Span {
 }
 
 impl Touch {
-    /// No address yet.
+    /// Returns a list without addresses.
     pub fn new() -> Self
         ensures { result ≡ [] }
     {
@@ -97,7 +97,7 @@ impl Touch {
         }
     }
 
-    /// Lets go of all addresses.
+    /// Removes all addresses.
     pub fn clear(&mut self)
         ensures { self.new ≡ [] }
     {
@@ -105,7 +105,7 @@ impl Touch {
         self.row_len = 0;
     }
 
-    /// How many addresses are held, 0 to `TOUCHES`.
+    /// The number of addresses held, 0 to `TOUCHES`.
     pub fn len(&self) -> usize
         ensures value { result ≡ length self.now }
         ensures at_most { result ≤ TOUCHES }
@@ -120,8 +120,8 @@ impl Touch {
         self.len() == 0
     }
 
-    /// The address at a place, in the order in which they were added, and `None` from the length
-    /// on.
+    /// The address at a place, in the order in which the addresses were added, or `None` if `place`
+    /// is not below the length.
     pub fn get(&self, place: usize) -> Option<u16>
         ensures value { result ≡ slice_get self.now place }
         ensures in_memory { IfSome result (λ at. at < MEMORY_BYTES) }
@@ -135,8 +135,8 @@ impl Touch {
         }
     }
 
-    /// Adds an address, and answers whether it did: not where `TOUCHES` are held, nor past the end
-    /// of the memory.
+    /// Adds an address, and returns whether it did. An address isn't added if `TOUCHES` are held
+    /// already, or if it lies past the end of the memory.
     pub fn add(&mut self, at: u16) -> bool
         ensures room { IsTrue result ↔ ((length self.old < TOUCHES) × (at < MEMORY_BYTES)) }
         ensures added { OnTrue result (self.new ≡ self.old ++ at ∷ []) }
@@ -149,7 +149,7 @@ impl Touch {
         true
     }
 
-    /// Notes a step at the addresses: in the table each address keeps the least number of a step
+    /// Notes a step at the addresses: each address keeps in the table the least number of a step
     /// that was noted there.
     #[inline(always)]
     pub fn note(&self, first_touch: &mut [u32], number: u32)
@@ -168,7 +168,7 @@ impl Touch {
         self.add_span(span.start, span.len);
     }
 
-    /// Adds the addresses of so many bytes.
+    /// Adds the addresses of `bytes` bytes from `at` on.
     pub(crate) fn add_span(&mut self, at: u16, bytes: usize)
         requires in_memory { at + bytes ≤ MEMORY_BYTES }
         requires room { length self.old + bytes ≤ TOUCHES }
@@ -204,7 +204,7 @@ pub(crate) fn note_at(first_touch: &mut [u32], at: usize, number: u32)
     }
 }
 
-/// Notes a step at addresses of a list.
+/// Notes a step at the addresses of a list.
 #[inline(always)]
 fn note_list(first_touch: &mut [u32], addresses: &[u16], number: u32)
     requires table { length first_touch.old ≡ MEMORY_BYTES }
@@ -216,7 +216,7 @@ fn note_list(first_touch: &mut [u32], addresses: &[u16], number: u32)
     }
 }
 
-/// Notes a step at addresses in a row.
+/// Notes a step at `len` consecutive addresses.
 #[inline(always)]
 fn note_row(first_touch: &mut [u32], start: usize, len: usize, number: u32)
     requires table { length first_touch.old ≡ MEMORY_BYTES }
@@ -226,7 +226,7 @@ fn note_row(first_touch: &mut [u32], start: usize, len: usize, number: u32)
     note_all(&mut first_touch[start..start + len], number);
 }
 
-/// Notes a step at each place of a part of the table.
+/// Notes a step at each address of a part of the table.
 #[inline(always)]
 fn note_all(part: &mut [u32], number: u32)
     ensures { (k : ℕ) → k < length part.old

@@ -1,5 +1,5 @@
--- How the parts of the state are stored as data, by which a proof tells two states apart.
--- Source: own.
+-- How the parts of the state are stored as data, with which a proof distinguishes two states.
+-- Source: chosen by this project.
 use Rattle.std.specs.Prelude.{ℕ, Bool, List, Option, refl}
 use Rattle.std.specs.Coded.{Coded, code_by, coded×, coded_ℕ, coded_bool, coded_list, coded_option}
 use Rattle.chip_machine.specs.contracts.stop.Stop as stops

@@ -1,5 +1,5 @@
 -- Proofs, which a reader may skip: memory after bytes were exchanged, address by address.
--- Source: own.
+-- Source: chosen by this project.
 use Rattle.std.proofs.Common.{◌≡◌, ◌≢◌, ℕ, ◌+◌, ◌-◌, ◌<◌, ◌≤◌, true, false, List, length, take, get_or, set, slice_index, refl, sym, ap, ◌∙◌, subst, arith, inl, inr, get_or-take, get_or-set_same, get_or-set_other, length-set, length-take}
 use Rattle.std.specs.Prelude.{◌==◌, ◌&&◌, not, nat_le, if◌then◌else◌}
 use Rattle.std.proofs.lemmas.List.{ext_get_or, get_or_past, take_all}
@@ -8,7 +8,7 @@ use Rattle.std.proofs.lemmas.Bool.{cases_lt, cases_eq}
 use Rattle.std.proofs.lemmas.Bool.Decides.{nat_tests}
 use Rattle.chip_machine.specs.State.{differ_at, exchanged}
 
--- the new byte where it differs from the old one, and else the byte that is there
+-- the new byte if it differs from the old one, otherwise the byte of the memory
 abbrev pub chosen : ℕ → ℕ → ℕ → ℕ
 chosen there old new = if not (old == new) then new else there
 
@@ -56,7 +56,7 @@ unfolding exchanged
 get_or-exchanged m from old new at l =
     get_or-map-range_with_len (byte_after m from old new) 0 (length m) at at 0 l (omega arith)
 
--- before the address, and at a place of the bytes
+-- the byte at an address before the exchanged ones, and the byte at a place among them
 pub get_or-exchanged_before : (m : List ℕ) (from : ℕ) (old new : List ℕ) (at : ℕ) → at < length m
     → at < from → get_or (exchanged m from old new) at 0 ≡ get_or m at 0
 get_or-exchanged_before m from old new at l low =
@@ -68,7 +68,7 @@ pub get_or-exchanged_at : (m : List ℕ) (from : ℕ) (old new : List ℕ) (at i
 get_or-exchanged_at m from old new at i l e =
     get_or-exchanged m from old new at l ∙ byte_after-at m from old new at i e
 
--- a memory that has these bytes
+-- a memory with these bytes is the exchanged memory
 pub is_exchanged : (m n : List ℕ) (from : ℕ) (old new : List ℕ) → length n ≡ length m
     → ((at : ℕ) → at < length m → at < from → get_or n at 0 ≡ get_or m at 0)
     → ((at i : ℕ) → at < length m → at ≡ from + i
@@ -84,7 +84,7 @@ is_exchanged m n from old new size before bytes =
           ∙ sym (get_or-exchanged_at m from old new at (at - from) within (omega arith))
     ])
 
--- bytes of which the same are chosen
+-- if the same bytes are chosen, the exchanged memories are the same
 pub exchanged_alike : (m : List ℕ) (from : ℕ) (old new old' new' : List ℕ)
     → ((i x : ℕ) → chosen x (get_or old i 0) (get_or new i 0)
     ≡ chosen x (get_or old' i 0) (get_or new' i 0))
@@ -105,7 +105,7 @@ take_other n xs i off =
       | inr a ↦ get_or-take_past n xs i a ∙ sym (get_or-take_past (n + 1) xs i (omega arith))
     ]
 
--- the next byte is not exchanged yet
+-- the next byte before it is exchanged
 pub exchanged-next : (m : List ℕ) (from : ℕ) (old new : List ℕ) (at i : ℕ) → at < length m
     → at ≡ from + i → get_or (exchanged m from (take i old) (take i new)) at 0 ≡ get_or m at 0
 exchanged-next m from old new at i l e =
@@ -113,14 +113,14 @@ exchanged-next m from old new at i l e =
     ∙ chosen-same (get_or m at 0) (get_or (take i old) i 0) (get_or (take i new) i 0)
     (get_or-take_past i old i (omega arith) ∙ sym (get_or-take_past i new i (omega arith)))
 
--- nothing is exchanged yet
+-- the memory before any byte is exchanged
 pub exchanged_none : (m : List ℕ) (from : ℕ) (old new : List ℕ)
     → m ≡ exchanged m from (take 0 old) (take 0 new)
 exchanged_none m from old new =
     is_exchanged m m from (take 0 old) (take 0 new) refl (λ at l low. refl)
     (λ at i l e. sym (chosen-same (get_or m at 0) 0 0 refl))
 
--- one place more
+-- the memory after one more place
 pub exchanged_more : (m : List ℕ) (from : ℕ) (old new : List ℕ) (at i v : ℕ) → at ≡ from + i
     → v ≡ chosen (get_or m at 0) (get_or old i 0) (get_or new i 0)
     → set (exchanged m from (take i old) (take i new)) at v
@@ -156,7 +156,7 @@ exchanged_more m from old new at i v e is =
           (take_other i new j other))
     ])
 
--- a place at which they do not differ
+-- a place where the two don't differ
 pub exchanged_skip : (m : List ℕ) (from : ℕ) (old new : List ℕ) (i : ℕ)
     → get_or old i 0 ≡ get_or new i 0
     → exchanged m from (take i old) (take i new)
@@ -177,7 +177,7 @@ exchanged_skip m from old new i same =
           ∙ ap (λ y. chosen x (get_or (take (i + 1) old) j 0) y) (take_other i new j off)
     ])
 
--- no further place at which they differ
+-- no later place where the two differ
 pub exchanged_rest : (m : List ℕ) (from : ℕ) (old new : List ℕ) (n : ℕ)
     → ((i : ℕ) → n ≤ i → get_or old i 0 ≡ get_or new i 0)
     → exchanged m from (take n old) (take n new) ≡ exchanged m from old new
@@ -193,7 +193,7 @@ exchanged_rest m from old new n same =
           ∙ sym (chosen-same x (get_or old i 0) (get_or new i 0) (same i a))
     ])
 
--- all places
+-- the memory after all places
 pub exchanged_all : (m : List ℕ) (from : ℕ) (old new : List ℕ) (n : ℕ) → length old ≤ n
     → length new ≤ n → exchanged m from (take n old) (take n new) ≡ exchanged m from old new
 exchanged_all m from old new n lo ln =

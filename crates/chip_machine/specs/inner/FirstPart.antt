@@ -1,10 +1,10 @@
 -- The part of a text before its first comma, as the code finds it.
--- Source: own.
+-- Source: chosen by this project.
 use Rattle.std.specs.Prelude.{◌≡◌, List, ℕ, ◌∷◌, ◌++◌, length, Option, Some, None}
 use Rattle.memchr.specs.Find.{Nowhere, Passes, is_byte}
 use Rattle.chip_machine.specs.QuirkList.{comma}
 
--- and what follows the comma, if there is one
+-- the part before the comma, and the rest after it if there is a comma
 abbrev pub IsFirstPart : (text part : List ℕ) → Option (List ℕ) → Type 0
 IsFirstPart text part None =
     (text ≡ part) × Nowhere (Passes (is_byte comma) part) 0 (length part)

@@ -1,6 +1,7 @@
--- Proofs, which a reader may skip: the frame law holds, by what the instruction needs of the memory
--- (nothing, bytes that it reads, or bytes that it writes), and a step keeps a state proper.
--- Source: own.
+-- Proofs, which a reader may skip: the frame law holds, by cases on what the instruction needs of
+-- the memory (nothing, bytes that it reads, or bytes that it writes), and a step keeps a state
+-- proper.
+-- Source: chosen by this project.
 use Rattle.std.proofs.Common.{◌≡◌, ℕ, ◌+◌, ◌-◌, ◌<◌, ◌≤◌, Bool, true, false, IsFalse, List, [], ◌∷◌, length, take, drop, get_or, refl, sym, ap, ◌∙◌, arith, Some, suc, subst, Result, Ok, Err, nat_lt, is_some, if◌then◌else◌, inl, inr}
 use Rattle.std.specs.List.{range_with_len}
 use Rattle.std.proofs.lemmas.Bool.{cases_Bool}
@@ -19,7 +20,7 @@ use Rattle.chip_machine.specs.Frame.{FrameLaw, StepKeepsProper, SameOff, SameOn,
 use Rattle.chip_machine.specs.inner.Overwritten.{get_or-overwrite, in_row_true, length-overwrite}
 use Rattle.chip_machine.specs.Forgotten.{is_in_row}
 
--- two outcomes are alike, and each kept its bytes in the set
+-- two outcomes are alike, and each kept the bytes of its memory in the set
 abbrev AreAlike : (ℕ → Bool) → List ℕ → List ℕ → Result State Stop → Result State Stop → Type 0
 AreAlike set m n (Ok x) (Ok y) =
     (x.core ≡ y.core) × SameOff set x.memory y.memory × SameOn set x.memory m
@@ -27,7 +28,7 @@ AreAlike set m n (Ok x) (Ok y) =
 AreAlike set m n (Err v) (Err w) = v ≡ w
 AreAlike set m n _ _ = ⊥
 
--- an address of a span that misses the set
+-- an address of a span that misses the set isn't in the set
 missed : (set : ℕ → Bool) (i count at : ℕ) → Misses set (range_with_len i count) → i ≤ at
     → at < i + count → IsFalse (set at)
 missed set i count at misses low high =
@@ -35,7 +36,7 @@ missed set i count at misses low high =
     = grind (arith, get_or-range_with_len) in
     rw e at (misses (at - i) 0 (rw length-range_with_len (omega arith)))
 
--- the bytes that are read are the same
+-- the bytes that both read are the same
 same_part : (set : ℕ → Bool) (m n : List ℕ) (i count : ℕ) → length m ≡ MEMORY_BYTES
     → length n ≡ MEMORY_BYTES → SameOff set m n → Misses set (range_with_len i count)
     → take count (drop i m) ≡ take count (drop i n)
@@ -45,7 +46,7 @@ same_part set m n i count lm ln same misses =
     let e = same (i + k) (missed set i count (i + k) misses (omega arith) (omega arith)) in
     grind (arith, places))
 
--- what is written is the same, and what is not written stays
+-- the written bytes are the same, and the other bytes stay
 writes_alike : (set : ℕ → Bool) (m n : List ℕ) (i : ℕ) (bytes : List ℕ)
     → i + length bytes ≤ MEMORY_BYTES → length m ≡ MEMORY_BYTES → length n ≡ MEMORY_BYTES
     → SameOff set m n → SameOff set (overwrite m i bytes) (overwrite n i bytes)
@@ -94,7 +95,7 @@ store_alike set i core m n bytes lm ln same false e misses =
       writes_keep set n i bytes fits ln misses,
     )
 
--- the same effect on two memories
+-- the same effect performed on two memories
 perform_alike : (set : ℕ → Bool) (keys : ℕ) (c : Core) (m n : List ℕ) (effect : Effect)
     → length m ≡ MEMORY_BYTES → length n ≡ MEMORY_BYTES → SameOff set m n
     → Misses set (accessed c.index effect)
@@ -129,7 +130,7 @@ settle_alike set tick c m n (Err v) (Err w) same h = (
 )
 settle_alike set tick c m n _ _ same h = absurd h
 
--- what stands at pc is the same, and so is its effect
+-- the words at pc are the same, and so are their effects
 effect_alike : (set : ℕ → Bool) (c : Core) (m n : List ℕ) (rest : List ℕ) (past : Bool)
     → SameOff set m n → nat_lt LAST_WORD c.pc ≡ past
     → Misses set (if past then [] else (c.pc ∷ (c.pc + 1) ∷ rest))
@@ -142,7 +143,7 @@ effect_alike set c m n rest false same e misses =
     ap (λ (w : ℕ). if nat_lt LAST_WORD c.pc then Stops cause.PcOutOfRange
     else effect_of_word (decode_of w) c) word
 
--- the touches and the step, where the two tests that come first are given
+-- the touches and the step, given the results of the two tests that come first
 abbrev touched_by : Bool → Bool → Core → List ℕ → List ℕ
 touched_by stopped past c m =
     if stopped then []
@@ -154,14 +155,14 @@ stepped_by stopped keys tick c m =
     let s : State = record { core = c; memory = m } in
     if stopped then s else settle tick s (perform keys s (effect_at s))
 
--- no byte at I that is accessed is in the set
+-- no accessed byte at I is in the set
 access_misses : (set : ℕ → Bool) (c : Core) (m : List ℕ) (past : Bool)
     → nat_lt LAST_WORD c.pc ≡ past → Misses set (touched_by false past c m)
     → Misses set (accessed c.index (effect_at (record { core = c; memory = m })))
 access_misses set c m true e misses = rw e (λ k d h. absurd (omega arith))
 access_misses set c m false e misses = λ k d h. misses (suc (suc k)) d (omega arith)
 
--- the touches and the step of two states, by the two tests that come first
+-- the touches and the step of two states, by cases on the two tests that come first
 step_alike : (set : ℕ → Bool) (keys : ℕ) (tick : Bool) (c : Core) (m n : List ℕ)
     → length m ≡ MEMORY_BYTES → length n ≡ MEMORY_BYTES → SameOff set m n → (stopped past : Bool)
     → nat_lt LAST_WORD c.pc ≡ past → Misses set (touched_by stopped past c m)
@@ -202,7 +203,7 @@ frame_law set keys tick a b proper_a proper_b agree misses =
     (frame_core set keys tick a.core a.memory b.memory proper_a.memory_size proper_b.memory_size
     agree.memory misses)
 
--- the memory of an outcome has its size
+-- the memory of an outcome has its full size
 abbrev HasSize : Result State Stop → Type 0
 HasSize (Ok s) = length s.memory ≡ MEMORY_BYTES
 HasSize (Err why) = Unit {0}

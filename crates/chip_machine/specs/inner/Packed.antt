@@ -1,5 +1,6 @@
--- Proofs, which a reader may skip: what is forgotten as one number, and what it is put together from.
--- Source: own.
+-- Proofs, which a reader may skip: a set of forgotten parts and bytes as one number, and the fields
+-- that make it up.
+-- Source: chosen by this project.
 use Rattle.std.proofs.Common.{◌≡◌, ℕ, ◌+◌, ◌*◌, ◌/◌, ◌%◌, ◌^◌, ◌<◌, ap, ◌∙◌}
 use Rattle.std.proofs.lemmas.Nat.{div-mul-add, mod-mul-add}
 use Rattle.chip_machine.specs.declared.forgotten.Forgotten.TheInside.{Inside}

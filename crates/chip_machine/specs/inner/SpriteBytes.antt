@@ -1,5 +1,5 @@
 -- A sprite as the code draws it, by its bytes alone.
--- Source: own.
+-- Source: chosen by this project.
 use Rattle.std.specs.Prelude.{ℕ, ◌+◌, ◌*◌, ◌/◌, ◌%◌, ◌<◌, ◌≤◌, Bool, ◌&&◌, ◌==◌, List, length, if◌then◌else◌}
 use Rattle.chip_machine.specs.declared.limits.TheConstants.{SPRITE_BYTES}
 use Rattle.chip_machine.specs.Points.{Points, points_where}
@@ -7,14 +7,15 @@ use Rattle.chip_machine.specs.Sprite.{clipped_over, draws_over, scale}
 use Rattle.chip_machine.specs.declared.sprite.Half.{Half}
 use Rattle.chip_machine.specs.declared.sprite.Half.TheVariants.{Left, Middle, Right}
 
--- the bytes in a row of a sprite that is clipped: in the high size so many bytes are sixteen rows
+-- the number of bytes per row of a clipped sprite, by its length: in the high size, a sprite of
+-- `SPRITE_BYTES` bytes has sixteen wide rows
 unfoldable pub row_bytes_by_length : Bool → List ℕ → ℕ
 row_bytes_by_length high sprite = if high && (length sprite == SPRITE_BYTES) then 2 else 1
 
 abbrev pub covers_by_length : Bool → ℕ → ℕ → List ℕ → ℕ → ℕ → Bool
 covers_by_length high x y sprite = clipped_over high x y (row_bytes_by_length high sprite) sprite
 
--- the bytes in a row in both sizes: so many bytes are sixteen wide rows
+-- the number of bytes per row in both sizes: a sprite of `SPRITE_BYTES` bytes has sixteen wide rows
 unfoldable pub sprite_row_bytes : List ℕ → ℕ
 sprite_row_bytes sprite = if length sprite == SPRITE_BYTES then 2 else 1
 
@@ -28,7 +29,8 @@ covered_by_bytes wraps high x y sprite = points_where (covers wraps high x y spr
 abbrev pub first_column : Bool → ℕ → ℕ
 first_column high x = scale high * (x % (128 / scale high))
 
--- where sixteen columns from one on lie: the code draws each half by a loop of its own
+-- the half of the screen where sixteen columns from a given one on lie; the code draws each half by
+-- its own loop
 abbrev pub LiesIn : Half → ℕ → Type 0
 LiesIn Left start = start + 16 ≤ 64
 LiesIn Middle start = start < 64

@@ -1,5 +1,5 @@
--- Which pixels 64 rows of 128 bits light, and rows whose pixels were turned.
--- Source: own.
+-- The pixels that 64 rows of 128 bits light, and rows after some pixels were inverted.
+-- Source: chosen by this project.
 use Rattle.std.specs.Prelude.{◌≡◌, ℕ, zero, suc, ◌<◌, ◌≤◌, ◌&&◌, ◌||◌, Bool, true, false, not, List, slice_index}
 use Rattle.chip_machine.specs.Points.{Points, points_where, lights}
 
@@ -7,7 +7,7 @@ use Rattle.chip_machine.specs.Points.{Points, points_where, lights}
 abbrev pub in_rows : List ℕ → Points
 in_rows rows = points_where (λ column row. lights (slice_index rows row) column)
 
--- one of two, and not both
+-- exactly one of two
 abbrev pub differ : Bool → Bool → Bool
 differ true b = not b
 differ false b = b
@@ -17,8 +17,8 @@ unfoldable pub any_below : (ℕ → Bool) → ℕ → Bool
 any_below test zero = false
 any_below test (suc n) = any_below test n || test n
 
--- the rows from `start` up to `end` after the pixels that a test covers were turned there, and whether
--- one of these was lit: all other rows are as they were
+-- the rows from `start` up to `end` have their covered pixels inverted, and `met` says whether one of
+-- these was lit; all other rows stay
 pub record AreTurned (start end : ℕ) (cover : ℕ → ℕ → Bool) (old new : List ℕ)
     (met : Bool) : Type 0 where
   pub turned : (row column : ℕ) → start ≤ row → row < end → column < 128

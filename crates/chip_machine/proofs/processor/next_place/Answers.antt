@@ -3,13 +3,13 @@ use Rattle.std.proofs.Math.Nat.{suc-mul, mul-mod_left}
 use Rattle.std.proofs.lemmas.Nat.{div-add-mod', mod-mul-add}
 use Rattle.chip_machine.proofs.processor.next_place.Goals as goal
 
--- past a number whose rest is the last one
+-- after the greatest remainder, the next number has remainder 0
 turned_over : (draws n : ℕ) → draws % n + 1 ≡ n → (draws + 1) % n ≡ 0
 turned_over draws n last =
     let whole : draws + 1 ≡ (draws / n + 1) * n = omega (arith, div-add-mod' draws n, suc-mul (draws / n) n) in
     ap (λ x. x % n) whole ∙ mul-mod_left (draws / n + 1) n
 
--- past any other
+-- otherwise the remainder grows by 1
 one_more : (draws n : ℕ) → draws % n + 1 < n → (draws + 1) % n ≡ draws % n + 1
 one_more draws n below =
     let whole : draws + 1 ≡ draws / n * n + (draws % n + 1) = omega (arith, div-add-mod' draws n) in

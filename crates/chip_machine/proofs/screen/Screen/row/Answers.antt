@@ -6,11 +6,11 @@ use Rattle.chip_machine.proofs.BitLemmas.{dark_row}
 use Rattle.chip_machine.proofs.PointLemmas.{is_lit-points_where, dark_outside}
 use Rattle.chip_machine.proofs.screen.Screen.row.Goals as goal
 
--- no column of zero is lit
+-- the row zero has no lit column
 dark_zero : (column : ℕ) → lights 0 column ≡ false
 dark_zero column = ap (λ bit. bit == 1) (bit_at-zero (127 - column))
 
--- a row is zero exactly where it is dark
+-- a row is zero if and only if it is dark
 zero_or_lit : (bits row : ℕ) (lit : Points) → bits < 2 ^ 128 → ((column : ℕ) → column < 128 → lights bits column ≡ is_lit lit column row)
     → (bits ≡ 0) ↔ ((column : ℕ) → column < 128 → is_lit lit column row ≡ false)
 zero_or_lit bits row lit fits same =
