@@ -1,4 +1,4 @@
--- Some steps of a run at once.
+-- Several steps of a run at once.
 use Rattle.std.proofs.Common.{◌≡◌, ℕ, zero, suc, ◌+◌, ◌<◌, ◌≤◌, min, max, Bool, true, false, cond, List, length, slice_index, refl, sym, ap, ◌∙◌, subst, arith, inl, inr}
 use Rattle.std.proofs.lemmas.Bool.{cases_lt, false≢true}
 use Rattle.chip_machine.specs.Block.{block, first_noted, ticks}
@@ -6,7 +6,7 @@ use Rattle.chip_replay.specs.Limits.{last_step, memory_size, never}
 use Rattle.chip_replay.specs.Run.{run}
 use Rattle.chip_replay.specs.inner.Kept.{IsFirst, IsTouched}
 
--- a step no later than n is noted where it passes
+-- a step up to n is noted if it passes the test
 noted_by : (b : Bool) (p : ℕ → Bool) (n t v w : ℕ) → p t ≡ b → IsFirst p n v → t ≤ n → t < never → w ≡ cond b (min v t) v → IsFirst p (max n (t + 1)) w
 noted_by true p n t v w passes f l small e =
     record {

@@ -12,7 +12,7 @@ use Rattle.chip_replay.specs.Mask.{mask}
 use Rattle.chip_replay.proofs.KeyFacts.{mask-bits, mask-same}
 use Rattle.chip_replay.specs.Keys.{Events, event_at, is_down, held}
 
--- one place more of a table is filled
+-- one more entry of a table is filled
 pub set_more : (xs : List Bool) (i : ℕ) (x : Bool) (f : ℕ → Bool) → i < length xs → ((k : ℕ) → k < i → slice_index_or xs k false ≡ f k) → x ≡ f i → (k : ℕ) → k < i + 1 → slice_index_or (set xs i x) k false ≡ f k
 set_more xs i x f inside below here k l =
     elim (cases_eq k i) [
@@ -24,7 +24,7 @@ pub was_down-above : (events : Events) (key step : ℕ) → step ≢ 0 → was_d
 was_down-above events key zero n = absurd (n refl)
 was_down-above events key (suc step) n = let same : step ≡ suc step - 1 = omega arith in ap (is_down events key) same
 
--- what is known when a step begins holds in it, where no event is passed
+-- the keys known when a step begins are held in it, if no event is passed
 pub knows_holds : (events : Events) (s : ℕ) (h : Holding) → KnowsKeys events s h → s < h.until → HoldsKeys events s h
 knows_holds events s h knows within =
     record {
@@ -34,7 +34,7 @@ knows_holds events s h knows within =
       stays = λ r k lr lu lk. ap (was_down events k) (sym (add-one r)) ∙ knows.before (r + 1) k (omega arith) (omega arith) lk;
     }
 
--- what holds in a step holds in the later ones before the next event
+-- the keys held in a step are held in the later steps before the next event
 pub holds_later : (events : Events) (s t : ℕ) (h : Holding) → HoldsKeys events s h → s ≤ t → t < h.until → HoldsKeys events t h
 holds_later events s t h holds later within =
     record {
@@ -57,12 +57,12 @@ pub holds_held : (events : Events) (s : ℕ) (h : Holding) → HoldsKeys events 
 unfolding held
 holds_held events s h holds = holds.as_mask ∙ mask-same _ _ 16 (λ k l. sym (holds.stays s k (omega arith) holds.within l))
 
--- no event from one step on up to another: the key is as it was before them
+-- if there is no event from one step up to another, the key stays as it was
 is_down-was_down : (events : Events) (k from s : ℕ) → from ≤ s + 1 → ((r : ℕ) → from ≤ r → r ≤ s → event_at events r k ≡ None) → is_down events k s ≡ was_down events k from
 is_down-was_down events k zero s l none = is_down-none events k s (λ r lr. none r (omega arith) lr)
 is_down-was_down events k (suc from) s l none = is_down-stays events k from s (omega arith) (λ r lf lr. none r (omega arith) lr)
 
--- what is known by events that hold the same keys in each step
+-- the known keys under events that hold the same keys in each step
 was_same : (events later : Events) → held later ≡ held events → (k s : ℕ) → k < 16 → was_down later k s ≡ was_down events k s
 unfolding held
 was_same events later same k zero l = refl
@@ -91,8 +91,8 @@ after_suc down (e ∷ es) (suc n) d l = after_suc (set down e.key e.down) es n d
 pub after_more : (down : List Bool) (es : List Event) (n : ℕ) (d : Event) → n < length es → after_events down es (n + 1) ≡ set (after_events down es n) (get_or es n d).key (get_or es n d).down
 after_more down es n d l = ap (after_events down es) (add-one n) ∙ after_suc down es n d l
 
--- what a table says after the events in order up to a place: each key is so in a step up to which
--- those are, and none of its later ones
+-- the table after the events in order up to a place: it gives for each key the state in each step
+-- that includes these events and no later event of that key
 abbrev pub IsUpTo : Events → List Event → ℕ → ℕ → List Bool → Type 0
 IsUpTo events es from place down =
     (k s : ℕ) → k < 16 → from ≤ s + 1
@@ -138,7 +138,7 @@ module _ (events : Events) (es : List Event) (order : IsInOrder es) (same : Says
         ∙ sym (get_or-set_other down e.key k e.down false other))
   ]
 
-  -- the events of a part that stands at the place are passed, up to one of them
+  -- the events of a part that begins at the place are passed, up to one of them
   pub up_to_passed : (from place : ℕ) (down : List Bool) (part : List Event) (n : ℕ) → place + length part ≤ length es → ((i : ℕ) (d : Event) → i < length part → get_or es (place + i) d ≡ get_or part i d) → n ≤ length part → length down ≡ 16 → IsUpTo events es from place down → IsUpTo events es from (place + n) (after_events down part n)
   up_to_passed from place down part zero within there l size before = subst (λ p. IsUpTo events es from p down) (omega arith) before
   up_to_passed from place down part (suc n) within there l size before =
@@ -152,7 +152,7 @@ module _ (events : Events) (es : List Event) (order : IsInOrder es) (same : Says
       subst (λ p. IsUpTo events es from p (after_events down part (suc n))) next
       (subst (λ xs. IsUpTo events es from (place + n + 1) xs) (sym (after_suc down part n none inside)) passed)
 
-  -- no event that isn't passed is in the steps up to the next one's
+  -- every event in the steps before the next event's step has been passed
   pub up_to_holds : (from place step until : ℕ) (down : List Bool) → from ≤ step → IsUpTo events es from place down → ((i : ℕ) (d : Event) → i < place → (get_or es i d).step ≤ step) → ((i : ℕ) (d : Event) → place ≤ i → i < length es → until ≤ (get_or es i d).step) → (s k : ℕ) → step ≤ s → s < until → k < 16 → is_down events k s ≡ slice_index_or down k false
   up_to_holds from place step until down low before early late s k ls lu lk =
       before k s lk (omega arith) (λ i d l. omega (arith, early i d l)) (λ i d l li under q. omega (arith, late i d l li, under))
@@ -161,7 +161,7 @@ was_down-same : (events later : Events) (from t k : ℕ) → t ≤ from → ((s 
 was_down-same events later from zero k l same = refl
 was_down-same events later from (suc t) k l same = same t (omega arith) k
 
--- what is known of the keys when a step begins, under events that are alike in the steps below from
+-- the keys known when a step begins, under events that agree in the steps below `from`
 pub knows_cut : (events later : Events) (t from : ℕ) (h : Holding) → t ≤ from → ((s : ℕ) → s < from → (k : ℕ) → is_down later k s ≡ is_down events k s) → KnowsKeys events t h
     → KnowsKeys later t (record h { until = min h.until from })
 knows_cut events later t from h within same before =

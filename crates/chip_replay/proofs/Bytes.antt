@@ -20,7 +20,7 @@ get_or-padded image i l =
           ∙ get_or-replicate {A = ℕ} (image_room - length image) (i - length image) 0 0 (omega arith) ∙ sym (get_or_past image i 0 a)
     ]
 
--- where the old byte is there, the new one is chosen
+-- if the memory has the old byte, the new one is chosen
 chosen-there : (old new : ℕ) → chosen old old new ≡ new
 chosen-there old new = elim (cases_eq old new) [
   | inl same ↦ chosen-same old old new same ∙ same

@@ -11,7 +11,7 @@ use Rattle.chip_replay.proofs.Pages.{split_set}
 use Rattle.chip_replay.specs.inner.Changes.{rank, IsInOrder, IsFirstFrom, change_at}
 use Rattle.chip_replay.specs.declared.by_step.Event.{Event}
 
--- whether an event is a key's at a step
+-- whether an event belongs to a key and a step
 abbrev is_event : Event → ℕ → ℕ → Bool
 is_event e s k = eqb s e.step && eqb k e.key
 
@@ -40,7 +40,7 @@ change_none (e ∷ es) s k other =
     ap (λ b. cond b (Some e.down) (change_at es s k)) (not_event e s k (other 0 e (omega arith)))
     ∙ change_none es s k (λ i d l. other (suc i) d (omega arith))
 
--- events in front of which none is the key's at the step
+-- events before which none belongs to the key and the step
 skipped : (xs ys : List Event) (s k : ℕ) → ((i : ℕ) (d : Event) → i < length xs → is_event (get_or xs i d) s k ≡ false) → change_at (xs ++ ys) s k ≡ change_at ys s k
 skipped [] ys s k other = refl
 skipped (e ∷ xs) ys s k other =
@@ -78,7 +78,7 @@ module _ (es : List Event) (order : IsInOrder es) where
         keys = λ i d l. omega (arith, order.keys (n + i) d (omega (arith, l, fits)), ap (λ (e : Event). e.key) (same i d l));
       }
 
-  -- a place that parts the events at a step
+  -- a place that separates the events at a step
   pub is_first : (step place : ℕ) → place ≤ length es → ((d : Event) → 0 < place → (get_or es (place - 1) d).step < step) → ((d : Event) → place < length es → step ≤ (get_or es place d).step) → IsFirstFrom es step place
   is_first step place within last next =
       record {
@@ -93,7 +93,7 @@ module _ (es : List Event) (order : IsInOrder es) where
         ];
       }
 
-  -- by the ranks
+  -- the place found by the ranks
   pub first_by_rank : (step place : ℕ) → place ≤ length es → ((i : ℕ) (d : Event) → i < place → rank (get_or es i d) < step * 16 + 0) → ((i : ℕ) (d : Event) → place ≤ i → i < length es → step * 16 + 0 ≤ rank (get_or es i d)) → IsFirstFrom es step place
   first_by_rank step place within before after =
       record {
@@ -102,7 +102,7 @@ module _ (es : List Event) (order : IsInOrder es) where
         after = λ i d l li. omega (arith, after i d l li, order.keys i d li);
       }
 
-  -- up to an event and from it on
+  -- the events up to one, and those from it on
   pub below_all : (m wanted : ℕ) → m < length es → ((d : Event) → rank (get_or es m d) < wanted) → (i : ℕ) (d : Event) → i < m + 1 → rank (get_or es i d) < wanted
   below_all m wanted lm low i d l = elim (cases_lt i m) [
     | inl a ↦ omega (arith, order.rising i m d a lm, low d)
@@ -123,14 +123,14 @@ module _ (es : List Event) (order : IsInOrder es) where
       | inr a ↦ (let same : place ≡ i = omega arith in omega (arith, after i d l li, other d (omega arith), ap (λ j. rank (get_or es j d)) same))
     ]
 
-    -- none is there
+    -- there is no event
     absent_by : ((d : Event) → place < length es → rank (get_or es place d) ≢ step * 16 + key) → change_at es step key ≡ None
     absent_by other = change_none es step key (λ i d li p q. elim (cases_lt i place) [
       | inl a ↦ omega (arith, before i d a, p, q)
       | inr a ↦ omega (arith, above other i d a li, p, q)
     ])
 
-    -- or one is there
+    -- there is an event
     pub at_place : is_some (change_at es step key) ≡ true → (place < length es) × ((d : Event) → rank (get_or es place d) ≡ step * 16 + key)
     at_place there = elim (cases_lt place (length es)) [
       | inl a ↦ (
@@ -160,7 +160,7 @@ module _ (es : List Event) (order : IsInOrder es) where
         ap (λ x. is_event x s k) (get_or-take place es i d low)
         ∙ other_rank (get_or es i d) s k (λ h. omega (arith, h, p, q, before i d low))
 
-    -- the front, an event of the key's at the step, and the rest
+    -- the events before, an event of the key at the step, and the rest
     with_event : (e : Event) (rest : List Event) (b : Bool) (s k : ℕ) → step ≡ e.step → key ≡ e.key → change_at es s k ≡ change_at (take place es ++ rest) s k ⊎ (is_event e s k ≡ true) → is_event e s k ≡ b → change_at (take place es ++ e ∷ rest) s k ≡ cond b (Some e.down) (change_at es s k)
     with_event e rest true s k p q same test =
         let here : s ≡ e.step = by_step s k e test in
@@ -184,7 +184,7 @@ module _ (es : List Event) (order : IsInOrder es) where
       split : (d : Event) → es ≡ take place es ++ get_or es place d ∷ drop (suc place) es
       split d = sym (take-append-drop place es) ∙ ap (λ xs. take place es ++ xs) (drop-cons es place d inside)
 
-      -- without the event at the place, where another is looked for
+      -- the events without the one at the place, when another is searched for
       without : (s k : ℕ) → (s ≡ step → k ≢ key) → change_at es s k ≡ change_at (take place es ++ drop (suc place) es) s k
       without s k other = elim es as (λ ds. es ≡ ds → change_at es s k ≡ change_at (take place es ++ drop (suc place) es) s k) [
         | [] ↦ λ e. absurd (omega (arith, inside, ap length e))
@@ -218,7 +218,7 @@ module _ (es : List Event) (order : IsInOrder es) where
       removed_by true s k test = gone s k (grind (arith, nat_tests)) (grind (arith, nat_tests))
       removed_by false s k test = sym (without s k (λ f g. (let no : eqb s step ≡ true = grind (arith, nat_tests) in let never : eqb k key ≡ true = grind (arith, nat_tests) in false≢true (sym test ∙ ap (λ b. b && eqb k key) no ∙ never))))
 
-      -- the event is taken out
+      -- the event is removed
       pub removed : (s k : ℕ) → change_at (remove es place) s k ≡ cond (eqb s step && eqb k key) None (change_at es s k)
       removed s k = removed_by _ s k refl
 

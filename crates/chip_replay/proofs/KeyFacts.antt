@@ -36,15 +36,15 @@ insert_fault-in_range events step key b c s k e f =
     rw (le-ltb last_step step s, le-ltb 15 key k)
     (ap (λ t. cond t (Some EventThere) (cond (leb most_events (map.len events)) (Some TooManyEvents) None)) e ∙ ap (λ t. cond b (Some EventThere) (cond t (Some TooManyEvents) None)) f)
 
--- where an edit is not refused, its event is there
+-- if an edit is not refused, its event exists
 pub there_if_no_fault : (events : Events) (step key : ℕ) → edit_fault events step key ≡ None → is_some (event_at events step key) ≡ true
 there_if_no_fault events step key h = grind (arith, nat_tests)
 
--- and its key is one of the 16
+-- if an edit is not refused, its key is one of the 16
 pub key_if_no_fault : (events : Events) (step key : ℕ) → edit_fault events step key ≡ None → key < 16
 key_if_no_fault events step key h = grind (arith, nat_tests)
 
--- where an event may be added, none is there
+-- if an event may be added, there is none at its step and key
 pub absent_if_no_fault : (events : Events) (step key : ℕ) → insert_fault events step key ≡ None → event_at events step key ≡ None
 absent_if_no_fault events step key h = grind (arith, nat_tests)
 
@@ -57,7 +57,7 @@ mask-same p q zero same = refl
 mask-same p q (suc n) same =
     ap (λ m. m + cond (p n) (2 ^ n) 0) (mask-same p q n (λ k l. same k (omega arith))) ∙ ap (λ b. mask q n + cond b (2 ^ n) 0) (same n (omega arith))
 
--- and only then
+-- equal masks have the same top bit and the same rest
 top_bit : (a b : Bool) (m n t : ℕ) → m < t → n < t → m + cond a t 0 ≡ n + cond b t 0 → (a ≡ b) × (m ≡ n)
 top_bit true true m n t l h e = (refl, omega (arith, e))
 top_bit true false m n t l h e = absurd (omega (arith, e))
@@ -74,7 +74,7 @@ mask-bits p q (suc n) e k l =
       | inr other ↦ mask-bits p q n top.1 k (omega (arith, other))
     ]
 
--- after a place of a table is set, its bit is as set and not as it was
+-- after an entry of a table is set, its bit is the new one and not the old one
 pub mask-set : (xs : List Bool) (i : ℕ) (b : Bool) (n : ℕ) → i < length xs → i < n → mask (λ k. slice_index_or (set xs i b) k false) n + cond (slice_index_or xs i false) (2 ^ i) 0 ≡ mask (λ k. slice_index_or xs k false) n + cond b (2 ^ i) 0
 unfolding mask
 mask-set xs i b zero inside l = absurd (omega arith)
@@ -98,7 +98,7 @@ apart q m n =
       | Greater ↦ λ e. refl
     ] refl
 
--- whether two moments are one
+-- whether two moments are the same
 module _ (step key s k : ℕ) where
   abbrev there : Moment
   there = record { step = step; key = key }
@@ -137,7 +137,7 @@ pub says_set : (events later : Events) (es fs : List Event) (step key : ℕ) (ev
 says_set events later es fs step key event says set edited = λ s k l.
     set s k ∙ ap (cond (eqb s step && eqb k key) event) (says s k l) ∙ sym (edited s k)
 
--- events that are alike in the steps up to s hold the same keys at s
+-- events that agree in the steps up to s hold the same keys at s
 is_down-same : (events later : Events) (key s : ℕ) → ((r : ℕ) → r ≤ s → event_at later r key ≡ event_at events r key) → is_down later key s ≡ is_down events key s
 is_down-same events later key zero same = ap (λ o. unwrap_or o false) (same 0 (omega arith))
 is_down-same events later key (suc s) same =
@@ -151,7 +151,7 @@ remove_before : (events : Events) (step key r k : ℕ) → r < step → event_at
 remove_before events step key r k l =
     event_at-remove events step key r k ∙ ap (λ b. cond (b && eqb k key) None (event_at events r k)) (ne_eqb r step (λ e. omega (arith, e, l)))
 
--- an edit leaves the keys before its step as they are
+-- an edit doesn't change the keys before its step
 pub is_down-insert : (events : Events) (step key : ℕ) (down : Bool) (s : ℕ) → s < step → (k : ℕ) → is_down (map.insert events (record { step = step; key = key }) down) k s ≡ is_down events k s
 is_down-insert events step key down s l k =
     is_down-same events (map.insert events (record { step = step; key = key }) down) k s (λ r lr. insert_before events step key down r k (omega arith))

@@ -1,4 +1,4 @@
--- What the last event of a key up to a step says.
+-- The last event of a key up to a step.
 use Rattle.std.proofs.Common.{◌≡◌, ℕ, zero, suc, ◌<◌, ◌≤◌, Bool, false, Some, None, unwrap_or, refl, sym, ap, ◌∙◌, subst, arith, inl, inr}
 use Rattle.std.proofs.lemmas.Bool.{cases_eq, false≢true}
 use Rattle.std.specs.Prelude.{List, IsSome}
@@ -12,7 +12,7 @@ use Rattle.chip_replay.specs.declared.keys.Moment.{Moment}
 use Rattle.chip_replay.specs.Keys.{Events, event_at, is_down, moment_cmp}
 use Rattle.chip_replay.proofs.Moments.{get_moment}
 
--- no event up to the step: the key is up
+-- if there is no event up to the step, the key is up
 pub is_down-none : (events : Events) (key step : ℕ) → ((s : ℕ) → s ≤ step → event_at events s key ≡ None) → is_down events key step ≡ false
 is_down-none events key zero none = ap (λ o. unwrap_or o false) (none 0 (omega arith))
 is_down-none events key (suc step) none =
@@ -70,7 +70,7 @@ step_within : (key step : ℕ) (m : Moment) → m.key ≡ key → is_gt (moment_
 step_within key step m e high =
     not_after m.step step (ap (λ r. is_gt (ordering_then r (nat_cmp m.step step))) (nat_cmp_is m.key key Equal e) ∙ high)
 
--- the last entry of the key's up to the step says it
+-- the last entry of the key up to the step decides
 pub is_down-from_last : (es : List (Moment × Bool)) (key step : ℕ) (m : Moment) (down : Bool)
     → is_gt (moment_cmp (moment key 0) m) ≡ false → is_gt (moment_cmp m (moment key step)) ≡ false
     → lookup (is_at (moment_cmp m)) es ≡ Some down
@@ -94,7 +94,7 @@ is_down-from_last es key step m down low high there last =
           absurd (false≢true (sym not_before ∙ ap is_lt before)))
     ] refl
 
--- no entry of the key up to the step: it is up
+-- if there is no entry of the key up to the step, the key is up
 pub is_down-from_none : (es : List (Moment × Bool)) (key step : ℕ)
     → ((q : Moment) → is_gt (moment_cmp (moment key 0) q) ≡ false → is_gt (moment_cmp q (moment key step)) ≡ false → lookup (is_at (moment_cmp q)) es ≡ None)
     → is_down (finmap.from_entries es) key step ≡ false

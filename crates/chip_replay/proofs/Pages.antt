@@ -1,4 +1,4 @@
--- A list of lists, of which one is edited.
+-- A list of lists, one of which is edited.
 use Rattle.std.proofs.Common.{◌≡◌, ℕ, suc, ◌+◌, ◌-◌, ◌<◌, ◌≤◌, List, [], ◌∷◌, ◌++◌, length, take, drop, set, get_or, refl, sym, ap, ◌∙◌, arith, inl, inr, length-append, length-set, get_or-set_same, get_or-set_other}
 use Rattle.std.specs.List.{flat_map, insert, remove}
 use Rattle.std.proofs.lemmas.Bool.{cases_lt}
@@ -18,11 +18,11 @@ split_set xs i x l =
     ∙ ap (λ y. take i xs ++ y ∷ drop (suc i) (set xs i x)) (get_or-set_same xs i x x l)
     ∙ ap (λ ys. take i xs ++ x ∷ ys) (drop-set-lt (suc i) xs i x (omega arith))
 
--- what was read at a place stands there, whatever stands past the end
+-- the element read at a place is there, whatever lies past the end
 pub read_at : {A : Type 0} (xs : List A) (i : ℕ) (x : A) → i < length xs → x ≡ get_or xs i x → (d : A) → get_or xs i d ≡ x
 read_at xs i x l read d = get_or_default xs i d x l ∙ sym read
 
--- an element is replaced, and another put after it
+-- an element is replaced, and another is inserted after it
 pub first_part : {A : Type 0} (xs : List A) (i : ℕ) (y z d : A) → i < length xs → get_or (insert (set xs i y) (i + 1) z) i d ≡ y
 first_part xs i y z d l = get_or-insert_below (set xs i y) (i + 1) z d i (omega arith) (omega (arith, length-set xs i y)) ∙ get_or-set_same xs i y d l
 
@@ -78,7 +78,7 @@ module _ {X A : Type 0} (f : X → List A) (xs : List X) where
     pub count_within : length (flat_map f (take i xs)) + length (f x) ≤ length (flat_map f xs)
     count_within = omega (arith, length-flat_map-take f xs i x within, ap (λ y. length (f y)) read)
 
-    -- an element of the list, among all
+    -- an element of the list, as one of all elements
     pub element : (j : ℕ) (d : A) → j < length (f x) → get_or (flat_map f xs) (length (flat_map f (take i xs)) + j) d ≡ get_or (f x) j d
     element j d l =
         get_or-flat_map f xs i j x d within (omega (arith, l, ap (λ y. length (f y)) read)) ∙ ap (λ y. get_or (f y) j d) (sym read)
@@ -116,13 +116,13 @@ module _ {X A : Type 0} (f : X → List A) (xs : List X) where
       pub flat_remove : (y : X) → j < length (f x) → f y ≡ remove (f x) j → flat_map f (set xs i y) ≡ remove (flat_map f xs) (length (flat_map f (take i xs)) + j)
       flat_remove y l is = parts_set y ∙ ap (λ ys. before ++ (ys ++ behind)) is ∙ part_removed l
 
-      -- the list goes with its only element
+      -- the list is removed with its only element
       pub flat_removed : j < length (f x) → length (f x) ≡ 1 → flat_map f (remove xs i) ≡ remove (flat_map f xs) (length (flat_map f (take i xs)) + j)
       flat_removed l one =
           let none : remove (f x) j ≡ [] = nil_from_length (remove (f x) j) (omega (arith, length-remove (f x) j l)) in
           flat_map-append f (take i xs) (drop (suc i) xs) ∙ ap (λ ys. before ++ (ys ++ behind)) (sym none) ∙ part_removed l
 
-    -- the list is parted into two
+    -- the list is split in two
     pub flat_parted : (y z : X) → f y ++ f z ≡ f x → flat_map f (insert (set xs i y) (i + 1) z) ≡ flat_map f xs
     flat_parted y z both =
         let next : i + 1 ≡ suc i = omega arith in

@@ -12,8 +12,8 @@ module _ (pages : List (Vec Event)) (order : IsInOrder (all_events pages)) (i : 
   page_in_order =
       part_in_order (all_events pages) order page.items (count_before pages i) (count_within (λ (p : Vec Event). p.items) pages i page within read) (λ j d l. element (λ (p : Vec Event). p.items) pages i page within read j d l)
 
-  -- the place in the page that parts its events at a rank, where the earlier pages' are below that
-  -- and the last of its own is not
+  -- the place in a page that separates its events at a rank, if the events of earlier pages are
+  -- below that rank and the last event of this page is not
   module _ (wanted j : ℕ) (earlier : (k : ℕ) (d : Event) → k < count_before pages i → rank (get_or (all_events pages) k d) < wanted) (last : (k : ℕ) (d : Event) → i < length pages → count_before pages (i + 1) ≤ k + 1 → k < length (all_events pages) → wanted ≤ rank (get_or (all_events pages) k d)) (some : 0 < length page.items) (es : List Event) (same : es ≡ page.items) (at_most : j ≤ length es) (below : (k : ℕ) (d : Event) → k < j → rank (get_or es k d) < wanted) (above : (k : ℕ) (d : Event) → j ≤ k → k < length es → wanted ≤ rank (get_or es k d)) where
     at : (k : ℕ) (d : Event) → rank (get_or es k d) ≡ rank (get_or page.items k d)
     at k d = ap (λ xs. rank (get_or xs k d)) same

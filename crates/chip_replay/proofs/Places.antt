@@ -1,4 +1,4 @@
--- The places at which two images differ, and the least of what stands in a table at them.
+-- The places at which two images differ, and the least entry of a table at these places.
 use Rattle.std.proofs.Common.{◌≡◌, ◌≢◌, ℕ, ◌+◌, ◌<◌, ◌≤◌, true, false, List, take, drop, length, get_or, slice_index, ◌⊎◌, inl, inr, arith, sym, ap, ◌∙◌, min, below_more, get_or-take, get_or-drop}
 use Rattle.std.specs.Prelude.{◌==◌, not}
 use Rattle.std.proofs.lemmas.List.{get_or_past}
@@ -28,14 +28,14 @@ differs-part old new from n i k l e =
     ap (λ x. not (x == slice_index (take n (drop from new)) k)) (get_or-part old from n i k l e)
     ∙ ap (λ y. not (slice_index old i == y)) (get_or-part new from n i k l e)
 
--- v is the least of what stands at the places below n at which the images differ, and of `most`; it
--- stands at a place below room, or is `most`
+-- v is the least of `most` and the table's entries at the places below n at which the images
+-- differ; it is `most`, or an entry at a place below `room`
 pub record IsLeast (touch : ℕ → ℕ) (old new : List ℕ) (n room most v : ℕ) : Type 0 where
   pub within : v ≤ most
   pub least : (i : ℕ) → i < n → differs old new i ≡ true → v ≤ touch i
   pub attained : (v ≡ most) ⊎ ((i : ℕ) × (i < room) × (differs old new i ≡ true) × (v ≡ touch i))
 
--- with one place more, at which the images differ, or do not
+-- one more place, at which the images may differ
 pub least_more : (touch : ℕ → ℕ) (old new : List ℕ) (i room most v w : ℕ) → i < room → IsLeast touch old new i room most v
     → ((slice_index old i ≢ slice_index new i) × (w ≡ min v (touch i))) ⊎ ((slice_index old i ≡ slice_index new i) × (w ≡ v))
     → IsLeast touch old new (i + 1) room most w

@@ -1,9 +1,9 @@
--- Numbers by their quotient and rest at a divisor p.
+-- Numbers by their quotient and remainder at a divisor p.
 use Rattle.std.proofs.Common.{◌≡◌, ℕ, ◌+◌, ◌-◌, ◌*◌, ◌/◌, ◌%◌, ◌<◌, ◌≤◌, arith}
 use Rattle.std.proofs.Math.Nat.{suc-mul, mod-lt, mul-le-mul_right, div-mul-le_self}
 use Rattle.std.proofs.lemmas.Nat.{div-add-mod', le-div}
 
--- the next multiple of p after s, by the count that is left up to it
+-- the next multiple of p after s, by the number left up to it
 pub multiple_left : (s p left : ℕ) → 0 < p → left ≡ p - s % p → s + left ≡ (s / p + 1) * p
 multiple_left s p left above is =
     let below : s % p < p = mod-lt s above in

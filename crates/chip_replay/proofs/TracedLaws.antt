@@ -32,7 +32,7 @@ pub record IsMemory {S : Type 0} (memory : S → List ℕ) (with_memory : S → 
   pub same : (s : S) → with_memory s (memory s) ≡ s
   pub replaced : (s : S) (old new : List ℕ) → with_memory (with_memory s old) new ≡ with_memory s new
 
--- the laws of a machine, as its trait has them
+-- the laws of a machine, in the form of its trait
 pub record IsTraced {S : Type 0} (memory : S → List ℕ) (with_memory : S → List ℕ → S) (proper : S → Type 0) (touches : S → List ℕ) (after : S → ℕ → Bool → S) : Type 0 where
   pub part : IsMemory memory with_memory
   pub size : (s : S) → proper s → length (memory s) ≡ memory_size

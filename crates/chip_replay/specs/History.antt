@@ -1,8 +1,9 @@
--- What a replay is seen as, and what a question changes.
--- Source: own.
---     History          the start state, the rate, the spacing, the events, how many checkpoints are
---                      kept, up to which step the kept run is sound, and how many steps were made
---     state_at         the state at a step, by the start state and the events
+-- A replay as contracts see it, and what a question changes.
+-- Source: chosen by this project.
+--     History          the start state, the rate, the spacing, the key events, the number of
+--                      checkpoints kept, the step up to which the kept run is sound, and the number
+--                      of steps made
+--     state_at         the state at a step, from the start state and the key events
 --     Answered         what a question changes
 use Rattle.std.specs.Prelude.{◌≡◌, ℕ, ◌+◌, ◌-◌, ◌*◌, ◌/◌, ◌<◌, ◌≤◌, Bool, min, Result, OnOk, refl}
 use Rattle.std.specs.Coded.{Coded, code_by, coded×, coded_ℕ}
@@ -13,14 +14,14 @@ use Rattle.chip_replay.specs.Keys.{Events, coded_events, held}
 pub record History (M : Type 0) : Type 0 where
   pub start : M
   pub rate : ℕ
-  -- how many steps lie between one checkpoint and the next
+  -- the number of steps between two checkpoints
   pub spacing : ℕ
   pub keys : Events
-  -- the checkpoint of step 0 included
+  -- the number of checkpoints, including that of step 0
   pub kept : ℕ
-  -- the steps below it were made under the start state and the events as they are
+  -- the steps below this number were made under the present start state and key events
   pub reach : ℕ
-  -- it stays at 2 ^ 64 - 1
+  -- the number of steps made; the count stops at 2 ^ 64 - 1
   pub ran : ℕ
 
 abbrev pub history_code : {M : Type 0} → Coded M → Coded (History M)
@@ -44,8 +45,8 @@ abbrev pub state_at : {M : Type 0} → (M → ℕ → Bool → M) → History M 
 state_at step_of h t = run step_of h.rate (held h.keys) h.start t
 
 -- a question at a step keeps the start state, the rate, the spacing and the events; it makes no
--- more steps than those from the last checkpoint that it may use, and reaches the step if it is
--- answered
+-- more steps than those from the last checkpoint that it may use, and the replay reaches the step
+-- if the question is answered
 pub record Answered {M A E : Type 0} (old new : History M) (step : ℕ)
     (result : Result A E) : Type 0 where
   pub same_start : new.start ≡ old.start

@@ -1,11 +1,11 @@
--- Key events, and which keys are held in a step.
--- Source: COSMAC VIP manual for the 16 keys; own for the events.
---     moment_cmp      by key, and then by step
---     Events          what each event says, down (true) or up, by its step and key
+-- Key events, and the keys that are held in a step.
+-- Source: COSMAC VIP manual for the 16 keys; the events are chosen by this project.
+--     moment_cmp      the order of moments: by key, and then by step
+--     Events          the key events: down (true) or up for a step and a key
 --     is_down         whether a key is down in a step
---     held            the mask of the 16 keys in a step
---     insert_fault, edit_fault      why an event cannot be inserted; why one cannot be replaced or
---                                   deleted
+--     held            the mask of the 16 keys that are held in a step
+--     insert_fault, edit_fault      why an event can't be inserted; why an event can't be replaced
+--                                   or deleted
 use Rattle.std.specs.Prelude.{ℕ, zero, suc, Bool, false, Option, Some, None, nat_lt, nat_le, is_some, unwrap_or, if◌then◌else◌}
 use Rattle.std.specs.declared.cmp.Ordering.{Ordering}
 use Rattle.std.specs.Ordering.{nat_cmp, ordering_then}
@@ -32,20 +32,21 @@ Events = map.FinMap moment_cmp Bool
 abbrev pub coded_events : Coded Events
 coded_events = map.code coded_moment coded_bool
 
--- what the key's event at the step says, if there is one
+-- the event of a key at a step (down or up), if there is one
 abbrev pub event_at : Events → ℕ → ℕ → Option Bool
 event_at events step key = map.get events (record { key = key; step = step })
 
--- what the key's event with the greatest step not above this one says, or up
+-- whether a key is down: its event with the greatest step up to this one decides, and without one
+-- the key is up
 abbrev pub is_down : Events → ℕ → ℕ → Bool
 is_down events key zero = unwrap_or (event_at events 0 key) false
 is_down events key (suc step) = unwrap_or (event_at events (suc step) key) (is_down events key step)
 
--- key k at bit k
+-- the mask has key k at bit k
 unfoldable pub held : Events → ℕ → ℕ
 held events step = mask (λ key. is_down events key step) 16
 
--- the first refusal, in the order of the tests
+-- the first refusal that applies, in the order of the tests
 abbrev pub insert_fault : Events → ℕ → ℕ → Option KeyFault
 insert_fault events step key =
     if nat_lt last_step step then Some StepTooLarge

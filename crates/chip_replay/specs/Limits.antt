@@ -1,12 +1,13 @@
 -- The limits of a replay: the constants of the code, under the names that the definitions use.
--- Source: COSMAC VIP manual for the memory and the address of a program; own for the rest.
---     last_step      the last step that is answered, and that an event may have
---     most_events    how many key events there may be
---     IsSpacing      how many steps may lie between one checkpoint and the next
---     memory_size    how many bytes the memory has
+-- Source: COSMAC VIP manual for the memory and the address of a program; the rest is chosen by this
+-- project.
+--     last_step      the last step that a question or an event may have
+--     most_events    the greatest number of key events
+--     IsSpacing      a number of steps allowed between two checkpoints
+--     memory_size    the number of bytes of the memory
 --     image_start    the first address of an image
---     image_room     the most bytes of an image
---     never          no step
+--     image_room     the greatest number of bytes of an image
+--     never          a number that is no step
 use Rattle.std.specs.Prelude.{ℕ, ◌≤◌}
 use Rattle.chip_machine.specs.Limits.{IMAGE_BYTES, IMAGE_START, MEMORY_BYTES}
 use Rattle.chip_replay.specs.declared.limits.TheConstants.{LAST_STEP, MOST_EVENTS, LEAST_SPACING, MOST_SPACING, NEVER}

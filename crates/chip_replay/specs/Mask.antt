@@ -1,6 +1,6 @@
 -- Masks.
--- Source: own.
---     mask            the number whose bit k, below n, is set where p k
+-- Source: chosen by this project.
+--     mask            the number in which bit k, for k below n, is set if p k is true
 use Rattle.std.specs.Prelude.{ℕ, zero, suc, ◌+◌, ◌^◌, Bool, if◌then◌else◌}
 
 unfoldable pub mask : (ℕ → Bool) → ℕ → ℕ

@@ -1,4 +1,4 @@
-//! The events of the keys by their steps.
+//! The key events in the order of their steps.
 
 ghost use Rattle.std.specs.Prelude.{◌≡◌, ℕ, ◌+◌, ◌*◌, ◌<◌, ◌≤◌, ◌==◌, ◌&&◌, [], ◌∷◌, ◌++◌, length, None, Some, IsTrue, IsSome, IfOk, OnOk, OnErr, if◌then◌else◌, slice_index_or};
 ghost use Rattle.std.specs.List.{All, insert, remove};
@@ -8,36 +8,36 @@ ghost use Rattle.chip_replay.specs.inner.Changes.{change_at, rank, all_events, c
 use crate::limits::{KEY_COUNT, NEVER};
 use std::alloc::{AllocError, Global};
 
-/// The most events of a page.
+/// The greatest number of events in a page.
 const PAGE_EVENTS: usize = 128;
 
-/// The events of a full page that stay in it when it is parted.
+/// The number of events that stay in a full page when it is split.
 const HALF_PAGE: usize = PAGE_EVENTS / 2;
 
-/// A key goes down, or up, at a step.
+/// A key event: a key goes down, or up, at a step.
 #[derive(Clone, Copy)]
 pub(crate) struct Event {
     pub(crate) step: u32,
-    /// 0 to 15.
+    /// The number of the key, 0 to 15.
     pub(crate) key: u8,
     pub(crate) down: bool,
 }
 
-/// Where an event stands.
+/// The place of an event.
 #[derive(Clone, Copy)]
 pub(crate) struct Place {
     page: usize,
-    /// Among the events of the page.
+    /// The index among the events of the page.
     index: usize,
 }
 
 impl Place {
-    /// That of the first event.
+    /// The place of the first event.
     pub(crate) const FIRST: Place = Place { page: 0, index: 0 };
 }
 
-/// The events in the order of their steps, and in a step of their keys. They stand in pages, so
-/// that an edit moves the events of one page alone.
+/// The events in the order of their steps, and within a step of their keys. They are stored in
+/// pages, so that an edit moves only the events of one page.
 #[derive(Drop)]
 pub(crate) struct Steps {
     pub(crate) pages: Vec<Vec<Event>>,
@@ -45,7 +45,7 @@ pub(crate) struct Steps {
 }
 
 impl Steps {
-    /// No events.
+    /// Returns a list without events.
     pub(crate) fn new(alloc: Global) -> Self
         ensures { all_events result.pages.items ≡ [] }
     {
@@ -54,7 +54,7 @@ impl Steps {
         }
     }
 
-    /// The step of the event at a place, and `NEVER` past the last one.
+    /// The step of the event at a place, or `NEVER` past the last event.
     pub(crate) fn step_at(&self, place: Place) -> u32
         requires { IsPlace self.now.pages.items place }
         ensures there { (d : Event)
@@ -73,7 +73,7 @@ impl Steps {
         }
     }
 
-    /// The events of a page from one on.
+    /// The events of a page from a place on.
     pub(crate) fn rest_of_page(&self, place: Place) -> &[Event]
         requires place { IsPlace self.now.pages.items place }
         requires there { index_of self.now.pages.items place
@@ -91,8 +91,8 @@ impl Steps {
         &self.pages[place.page][place.index..]
     }
 
-    /// The place so many events after one in its page: of the next page's first event where these
-    /// are all of the rest.
+    /// The place `count` events after another one in its page. If no event of that page is left, it
+    /// is the place of the next page's first event.
     pub(crate) fn later(&self, place: Place, count: usize) -> Place
         requires page { place.page < length self.now.pages.items }
         requires within { (d : Vec Event)
@@ -117,7 +117,7 @@ impl Steps {
         }
     }
 
-    /// The place of the first event that is not before a key's at a step.
+    /// The place of the first event that does not come before a given key and step.
     #[cold]
     #[inline(never)]
     fn place(&self, step: u32, key: u8) -> Place
@@ -142,7 +142,7 @@ impl Steps {
         }
     }
 
-    /// The first page that has an event whose rank is not below one.
+    /// The first page with an event whose rank is at least `wanted`.
     fn page(&self, wanted: u64) -> usize
         requires { IsInOrder (all_events self.now.pages.items) }
         ensures at_most { result ≤ length self.now.pages.items }
@@ -181,8 +181,8 @@ impl Steps {
         events[events.len() - 1]
     }
 
-    /// The place of the first event that is not before a step's. `guess` is tried before it is
-    /// looked for.
+    /// The place of the first event whose step is not before `step`. The function tries `guess`
+    /// before it searches.
     pub(crate) fn first_from(&self, step: u32, guess: Place) -> Place
         requires { IsInOrder (all_events self.now.pages.items) }
         ensures place { IsPlace self.now.pages.items result }
@@ -196,7 +196,7 @@ impl Steps {
         }
     }
 
-    /// Whether a place is that of an event, the first one that is not before a step's.
+    /// Whether a place holds the first event whose step is not before `step`.
     fn is_first_from(&self, place: Place, step: u32) -> bool
         requires { IsInOrder (all_events self.now.pages.items) }
         ensures place { IsTrue result → IsPlace self.now.pages.items place }
@@ -217,8 +217,8 @@ impl Steps {
         place.page == 0 || self.last_of(place.page - 1).step < step
     }
 
-    /// Adds an event where its key has none at its step. Errors: memory ran out, and the events
-    /// stay.
+    /// Adds an event; its key must not have one at its step. Fails if memory runs out, and then the
+    /// events stay.
     pub(crate) fn insert(&mut self, event: Event) -> Result<(), AllocError>
         requires key { event.key < KEY_COUNT }
         requires in_order { IsInOrder (all_events self.old.pages.items) }
@@ -235,8 +235,8 @@ impl Steps {
         Ok(())
     }
 
-    /// Adds an event in front of the one at a place, or behind all. Errors: memory ran out, and the
-    /// events stay.
+    /// Adds an event in front of the one at a place, or after all events. Fails if memory runs out,
+    /// and then the events stay.
     fn insert_at(&mut self, place: Place, event: Event) -> Result<(), AllocError>
         requires place { IsPlace self.old.pages.items place }
         requires at_most { index_of self.old.pages.items place
@@ -255,8 +255,8 @@ impl Steps {
         Ok(())
     }
 
-    /// The place in a page with room for an event; a full page is parted into two. Errors: memory
-    /// ran out.
+    /// Returns a place in a page with room for an event; a full page is split in two. Fails if
+    /// memory runs out.
     fn with_room(&mut self, place: Place) -> Result<Place, AllocError>
         requires page { place.page < length self.old.pages.items }
         requires place { IsPlace self.old.pages.items place }
@@ -270,7 +270,7 @@ impl Steps {
         }
         self.pages.reserve(1)?;
         let later = self.pages[place.page].split_off(HALF_PAGE)?;
-        // There is room for it.
+        // The list of pages has room for one more.
         self.pages.insert(place.page + 1, later)?;
         if place.index <= HALF_PAGE {
             Ok(place)
@@ -282,7 +282,7 @@ impl Steps {
         }
     }
 
-    /// Adds an event after all others. Errors: memory ran out, and the events stay.
+    /// Adds an event after all others. Fails if memory runs out, and then the events stay.
     fn push(&mut self, event: Event) -> Result<(), AllocError>
         ensures ok { OnOk result (all_events self.new.pages.items
             ≡ all_events self.old.pages.items ++ event ∷ []) }
@@ -300,7 +300,7 @@ impl Steps {
         Ok(())
     }
 
-    /// Changes what the event of a key at a step says.
+    /// Changes the event of a key at a step to down or up.
     pub(crate) fn replace(&mut self, event: Event)
         requires key { event.key < KEY_COUNT }
         requires in_order { IsInOrder (all_events self.old.pages.items) }
@@ -314,7 +314,7 @@ impl Steps {
         self.pages[place.page][place.index] = event;
     }
 
-    /// Takes out the event of a key at a step.
+    /// Removes the event of a key at a step.
     pub(crate) fn remove(&mut self, step: u32, key: u8)
         requires key { key < KEY_COUNT }
         requires in_order { IsInOrder (all_events self.old.pages.items) }
@@ -328,7 +328,7 @@ impl Steps {
         self.remove_at(place);
     }
 
-    /// Takes out the event at a place, and its page where it has no other.
+    /// Removes the event at a place, and its page if no other event is left there.
     fn remove_at(&mut self, place: Place)
         requires place { IsPlace self.old.pages.items place }
         requires there { index_of self.old.pages.items place
@@ -344,7 +344,7 @@ impl Steps {
     }
 }
 
-/// The first event in a page that is not below a rank.
+/// The index of the first event in a page whose rank is at least `wanted`.
 fn index_in(events: &[Event], wanted: u64) -> usize
     requires { IsInOrder events.now }
     ensures at_most { result ≤ length events.now }

@@ -1,4 +1,4 @@
-//! What is kept of a machine's run.
+//! The data kept about a machine's run.
 
 ghost use Rattle.std.specs.Prelude.{◌≡◌, ℕ, Bool, ◌+◌, ◌-◌, ◌*◌, ◌/◌, ◌<◌, ◌≤◌, ◌==◌, List, [], ◌∷◌, ◌++◌, length, min, max, IfOk, IfSome, IsSome, None, OnOk, OnErr, if◌then◌else◌, slice_index, slice_index_or, slice_set, take, map, nat_lt, true, ◌⊎◌};
 ghost use Rattle.chip_replay.specs.Limits.{image_start, image_room};
@@ -15,34 +15,35 @@ use crate::limits::{IMAGE_START, LAST_STEP, MEMORY_BYTES, NEVER};
 use crate::traced::Traced;
 use std::alloc::{AllocError, Global};
 
-/// How many first touches are cut together.
+/// The number of first touches that are cut off together.
 const PART: usize = 256;
 
-/// What is kept of a run.
+/// The part of a machine's run that a replay keeps.
 #[derive(Drop)]
 pub(crate) struct Kept<M: Traced> {
-    /// How many steps lie between one checkpoint and the next.
+    /// The number of steps between two checkpoints.
     pub(crate) spacing: u32,
     /// The states after `spacing` steps, twice as many and so on, up to `reach`.
     pub(crate) checkpoints: Vec<M>,
-    /// States whose memory the next checkpoints take. What they hold means nothing.
+    /// States whose memory later checkpoints reuse. Their contents have no meaning.
     pub(crate) spare: Vec<M>,
-    /// For each address the first step below `reach` that touched it, or `NEVER`.
+    /// For each address, the first step below `reach` that touched it, or `NEVER`.
     pub(crate) first_touch: Vec<u32>,
-    /// How many steps of the run are known.
+    /// The number of steps of the run that are known.
     pub(crate) reach: u32,
     /// The current state: the one that the last question reached.
     pub(crate) current: M,
-    /// Its step, unless it is void.
+    /// The step of the current state; `None` if that state is void.
     pub(crate) current_step: Option<u32>,
-    /// The keys that are held from that step on.
+    /// The keys that are held from the step of the current state on.
     pub(crate) holding: Holding,
-    /// How many steps were made.
+    /// The number of steps made.
     pub(crate) ran: u64,
 }
 
 impl<M: Traced> Kept<M> {
-    /// Nothing but the start state, of which `start` is a copy.
+    /// Returns a kept run that knows only the start state, of which `start` is a copy. Fails only
+    /// if memory runs out.
     pub(crate) fn new(alloc: Global, start: M, spacing: u32) -> Result<Kept<M>, AllocError>
         ensures current { IfOk result (λ kept. (kept.current ≡ start) × (kept.current_step ≡ Some 0)) }
         ensures checkpoints { IfOk result (λ kept. kept.checkpoints.items ≡ []) }
@@ -68,8 +69,9 @@ impl<M: Traced> Kept<M> {
         })
     }
 
-    /// Brings the current state to a step, by the steps from the nearest state that is kept, and
-    /// keeps what is due on the way. After an error the current state may be void.
+    /// Brings the current state to a step, starting from the nearest kept state, and keeps the
+    /// checkpoints that are due on the way. Fails if memory runs out; the current state may then be
+    /// void.
     pub(crate) fn go_to(
         &mut self,
         start: &M,
@@ -104,8 +106,9 @@ impl<M: Traced> Kept<M> {
         Ok(())
     }
 
-    /// Goes on by some steps up to the next checkpoint at most, of which the current state is before
-    /// the first. After an error the run is known as far as before, and the current state is void.
+    /// Makes `count` steps from step `at`, whose state is the current one; they reach the next
+    /// checkpoint at most. After an error, the run is known as far as before, and the current state
+    /// is void.
     fn go_on(&mut self, keys: &Keys, rate: u32, at: u32, count: u32) -> Result<(), AllocError>
         requires rate { 0 < rate }
         requires spaced { 0 < self.old.spacing }
@@ -135,8 +138,8 @@ impl<M: Traced> Kept<M> {
         self.extend(last, last)
     }
 
-    /// Makes some steps, of which the current state is before the first, and answers how many it
-    /// made: none where they change nothing.
+    /// Makes `count` steps from step `at`, whose state is the current one. Returns the number of
+    /// steps made, which is 0 if the steps would change nothing.
     fn make_steps(&mut self, keys: &Keys, rate: u32, at: u32, count: u32) -> u32
         requires rate { 0 < rate }
         requires in_range { at + count ≤ LAST_STEP }
@@ -170,8 +173,8 @@ impl<M: Traced> Kept<M> {
         count
     }
 
-    /// What is known of the keys after some steps, of which the current state is before the first,
-    /// where these change nothing, and touch nothing for the first time.
+    /// Returns what is known of the keys after `count` steps from step `at`, whose state is the
+    /// current one, if these steps change nothing and touch no address for the first time.
     fn idle_until(&self, keys: &Keys, at: u32, count: u32) -> Option<Holding>
         requires in_range { at + count ≤ LAST_STEP }
         requires holding { KnowsKeys keys.now at self.now.holding }
@@ -182,7 +185,7 @@ impl<M: Traced> Kept<M> {
             self.now.current self.now.first_touch.items }
         ensures holding { IfSome result (KnowsKeys keys.now (at + count)) }
     {
-        // A single step is made as fast.
+        // Making a single step is as fast as this test.
         if count < 2 {
             return None;
         }
@@ -200,9 +203,10 @@ impl<M: Traced> Kept<M> {
         Some(holding)
     }
 
-    /// The run is known up to a step, where the current state is that of the steps from `at` up to
-    /// it, and the first touches are noted: a checkpoint is kept if the next one is of one of these
-    /// steps. After an error it is known as far as before, and the current state is void.
+    /// Extends the known run to step `last`. The current state is that of each step from `at` to
+    /// `last`, and the first touches are noted. A checkpoint is kept if the next one is due within
+    /// these steps. After an error, the run is known as far as before, and the current state is
+    /// void.
     #[inline(always)]
     fn extend(&mut self, at: u32, last: u32) -> Result<(), AllocError>
         requires spaced { 0 < self.old.spacing }
@@ -235,8 +239,9 @@ impl<M: Traced> Kept<M> {
         Ok(())
     }
 
-    /// Whether a checkpoint has to be kept of a state that is that of the steps from `at` up to
-    /// another: where the next one is of one of them, and no earlier checkpoint is the same.
+    /// Whether a checkpoint has to be kept of a state that is that of each step from `at` to
+    /// `last`: true if the next one is due within these steps and no earlier checkpoint is the
+    /// same.
     fn is_due(&self, at: u32, last: u32) -> bool
         requires few { length self.now.checkpoints.items ≤ LAST_STEP }
         ensures { result ≡ is_due self.now.spacing (length self.now.checkpoints.items) at last }
@@ -270,9 +275,9 @@ impl<M: Traced> Kept<M> {
         Ok(())
     }
 
-    /// Makes the current state one from which the run can go on to a step, and answers a step that
-    /// it is of: it stays where no checkpoint up to that step is nearer, and where it is the state
-    /// of each later step. An error changes nothing.
+    /// Makes the current state one from which the run can go on to a step, and returns a step that
+    /// it belongs to. The current state stays if no checkpoint up to that step is nearer, or if it
+    /// is the state of every later step. An error changes nothing.
     fn set_out(&mut self, start: &M, keys: &Keys, step: u32) -> Result<u32, AllocError>
         requires spaced { 0 < self.old.spacing }
         ensures within { IfOk result (λ from. from ≤ step) }
@@ -295,7 +300,8 @@ impl<M: Traced> Kept<M> {
     {
         let known = self.reach.min(step);
         match self.current_step {
-            // Where the run has come no further: a division would take longer than a step.
+            // The run is known no further than the current state, and a division would take longer
+            // than a step.
             Some(current_step) if known <= current_step && current_step <= step => return Ok(
                 current_step,
             ),
@@ -320,7 +326,7 @@ impl<M: Traced> Kept<M> {
         }
     }
 
-    /// Drops what was kept of the steps from one on.
+    /// Drops everything kept of the steps from `from` on.
     pub(crate) fn forget(&mut self, from: u32)
         requires { 0 < self.old.spacing }
         ensures right { (rate : ℕ) (start : M) (events later : Events)
@@ -343,7 +349,7 @@ impl<M: Traced> Kept<M> {
         self.holding.until = self.holding.until.min(from);
     }
 
-    /// Drops what was kept of the steps from one on, which are known.
+    /// Drops everything kept of the steps from `reach` on; the run must be known up to there.
     fn cut_off(&mut self, reach: u32)
         requires { 0 < self.old.spacing }
         ensures right { (rate : ℕ) (start : M) (events : Events)
@@ -365,8 +371,8 @@ impl<M: Traced> Kept<M> {
         self.reach = reach;
     }
 
-    /// Changes the first touches from a step on to none: there is none where the current state,
-    /// that of an earlier step, stays as it is.
+    /// Removes the first touches of the steps from `reach` on. There are none if the current state,
+    /// which belongs to an earlier step, stays as it is.
     fn cut_touches(&mut self, reach: u32)
         requires within { IfSome self.old.current_step (λ t. t ≤ reach) }
         ensures table { (rate : ℕ) (start : M) (events : Events) (known : ℕ)
@@ -385,8 +391,8 @@ impl<M: Traced> Kept<M> {
         cut(&mut self.first_touch, reach);
     }
 
-    /// Puts the bytes of the new image in the place of the old one's in each state that is kept.
-    /// They agree outside the places from `first` up to `end`.
+    /// Replaces the bytes of the old image by those of the new one in each kept state. The images
+    /// agree outside the places from `first` up to `end`.
     pub(crate) fn patch(&mut self, first: usize, end: usize, old: &[u8], new: &[u8])
         requires old_fits { length old.now ≤ image_room }
         requires new_fits { length new.now ≤ image_room }
@@ -403,15 +409,15 @@ impl<M: Traced> Kept<M> {
     }
 }
 
-/// A byte of an image, 0 past its end.
+/// The byte of an image at a place, or 0 past its end.
 fn byte_at(image: &[u8], place: usize) -> u8
     ensures { result ≡ slice_index image.now place }
 {
     if place < image.len() { image[place] } else { 0 }
 }
 
-/// The first step, below `reach`, that touches a byte at which the images differ, or `reach`. The
-/// images agree outside the places from `first` up to `end`.
+/// The first step below `reach` that touches a byte at which the images differ, or `reach` if there
+/// is none. The images agree outside the places from `first` up to `end`.
 pub(crate) fn least_touch(
     first_touch: &[u32],
     reach: u32,
@@ -447,7 +453,7 @@ pub(crate) fn least_touch(
     least
 }
 
-/// The least of the steps at the places where the bytes differ, and of `most`.
+/// The least of `most` and the steps at the places where the bytes differ.
 fn least_at_changes(steps: &[u32], most: u32, old: &[u8], new: &[u8]) -> u32
     requires old_alike { length old.now ≡ length steps.now }
     requires new_alike { length new.now ≡ length steps.now }
@@ -466,7 +472,7 @@ fn least_at_changes(steps: &[u32], most: u32, old: &[u8], new: &[u8]) -> u32
     least
 }
 
-/// Puts the bytes of the new image in the place of the old one's. They agree outside the places
+/// Replaces the bytes of the old image by those of the new one. The images agree outside the places
 /// from `first` up to `end`.
 pub(crate) fn patch<M: Traced>(state: &mut M, first: usize, end: usize, old: &[u8], new: &[u8])
     requires old_fits { length old.now ≤ image_room }
@@ -486,7 +492,7 @@ pub(crate) fn patch<M: Traced>(state: &mut M, first: usize, end: usize, old: &[u
     }
 }
 
-/// Puts the bytes of the new image in the place of the old one's in each state.
+/// Replaces the bytes of the old image by those of the new one in each state.
 fn patch_all<M: Traced>(states: &mut [M], first: usize, end: usize, old: &[u8], new: &[u8])
     requires old_fits { length old.now ≤ image_room }
     requires new_fits { length new.now ≤ image_room }
@@ -498,8 +504,8 @@ fn patch_all<M: Traced>(states: &mut [M], first: usize, end: usize, old: &[u8], 
     }
 }
 
-/// Changes the first touches from a step on to none. A part of the table that no step touched is
-/// read alone.
+/// Removes the first touches of the steps from `reach` on. A part of the table that no step touched
+/// is only read.
 fn cut(first_touch: &mut [u32], reach: u32)
     ensures { first_touch.new
         ≡ map (λ first. if nat_lt first reach then first else NEVER) first_touch.old }
@@ -512,7 +518,7 @@ fn cut(first_touch: &mut [u32], reach: u32)
     cut_each(&mut first_touch[parts * PART..], reach);
 }
 
-/// Forgets the touches of a part of the table from a step on.
+/// Removes the touches of the steps from `reach` on from a part of the table.
 fn cut_part(part: &mut [u32], reach: u32)
     ensures { part.new ≡ map (λ first. if nat_lt first reach then first else NEVER) part.old }
 {
@@ -521,7 +527,7 @@ fn cut_part(part: &mut [u32], reach: u32)
     }
 }
 
-/// The least of some steps, or `NEVER` where there are none.
+/// The least of the steps, or `NEVER` if there are none.
 fn least_of(steps: &[u32]) -> u32
     ensures { (i : ℕ) → i < length steps.now → result ≤ slice_index steps.now i }
 {
@@ -532,7 +538,7 @@ fn least_of(steps: &[u32]) -> u32
     least
 }
 
-/// Forgets the touches from a step on, address by address.
+/// Removes the touches of the steps from `reach` on, address by address.
 fn cut_each(first_touch: &mut [u32], reach: u32)
     ensures { first_touch.new
         ≡ map (λ first. if nat_lt first reach then first else NEVER) first_touch.old }
@@ -542,7 +548,7 @@ fn cut_each(first_touch: &mut [u32], reach: u32)
     }
 }
 
-/// A step, if there is one and it is no later than `reach`.
+/// The step, if there is one and it is not later than `reach`.
 fn if_within(step: Option<u32>, reach: u32) -> Option<u32>
     ensures { IfSome result (λ t. (t ≤ reach) × (step ≡ Some t)) }
 {
@@ -552,14 +558,14 @@ fn if_within(step: Option<u32>, reach: u32) -> Option<u32>
     }
 }
 
-/// A step, if it is before `reach`, and else no step.
+/// The step if it is before `reach`, otherwise no step.
 fn if_before(step: u32, reach: u32) -> u32
     ensures { result ≡ (if nat_lt step reach then step else NEVER) }
 {
     if step < reach { step } else { NEVER }
 }
 
-/// Takes out the states from a place on. Their memory is kept where there is room for them.
+/// Removes the states from a place on. Their memory is kept for reuse if there is room for them.
 fn set_apart<M: Traced>(states: &mut Vec<M>, spare: &mut Vec<M>, place: usize)
     ensures { states.new.items ≡ take place states.old.items }
 {
@@ -573,7 +579,8 @@ fn set_apart<M: Traced>(states: &mut Vec<M>, spare: &mut Vec<M>, place: usize)
     }
 }
 
-/// The start state, or the checkpoint at a place, counted from 1, and the last one past it.
+/// The start state for place 0, otherwise the checkpoint at a place, counted from 1. Past the last
+/// checkpoint, the last one.
 fn nearest<'a, M: Traced>(start: &'a M, checkpoints: &'a [M], place: usize) -> &'a M
     ensures start { min place (length checkpoints.now) ≡ 0 → result.now ≡ start.now }
     ensures checkpoint { (i : ℕ) → min place (length checkpoints.now) ≡ i + 1

@@ -1,4 +1,4 @@
-//! The events of the keys.
+//! The key events.
 
 ghost use Rattle.std.specs.Prelude.{◌≡◌, ℕ, ◌<◌, ◌≤◌, false, length, MatchOption, IsOkUnless, OnOk, OnErr, slice_index_or, slice_set};
 ghost use Rattle.chip_replay.specs.inner.Changes.{after_events};
@@ -12,16 +12,16 @@ use std::collections::BTreeMap;
 use std::marker::Model;
 use thiserror::Error;
 
-/// A key and a step, in the order of the keys and then of the steps.
+/// A key and a step. Moments are ordered by key and then by step.
 #[derive(Clone, Copy, PartialEq, Eq, PartialOrd, Ord)]
 pub struct Moment {
-    /// 0 to 15.
+    /// The number of the key, 0 to 15.
     pub key: u32,
-    /// 0 to `LAST_STEP`.
+    /// The number of the step, 0 to `LAST_STEP`.
     pub step: u32,
 }
 
-/// Why an edit of the events was refused.
+/// The reason why an edit of the events was refused.
 #[derive(Clone, Copy, Debug, PartialEq, Eq, Error)]
 pub enum KeyFault {
     /// N5: the step is above the last one.
@@ -36,7 +36,7 @@ pub enum KeyFault {
     /// N8: the key has no event at this step.
     #[error("the key has no event at this step")]
     NoEvent,
-    /// N9: there are as many events as there may be.
+    /// N9: the greatest number of events has been reached.
     #[error("there are {MOST_EVENTS} events")]
     TooManyEvents,
     /// N10: memory ran out.
@@ -47,18 +47,19 @@ pub enum KeyFault {
 /// Keys that are down for some steps.
 #[derive(Clone, Copy)]
 pub(crate) struct Holding {
-    /// Key k at bit k.
+    /// The mask of the keys that are down, key k at bit k.
     pub(crate) keys: u16,
     /// Whether each key is down.
     pub(crate) down: [bool; KEY_COUNT],
     /// The first step whose events are not covered.
     pub(crate) until: u32,
-    /// Where its events begin among those in order, unless an event was added or taken out since.
+    /// The place of that step's events in the order of events, unless an event was added or removed
+    /// since.
     pub(crate) place: Place,
 }
 
 impl Holding {
-    /// Every key is up, and nothing is known of any step.
+    /// Every key is up, and nothing is known about any step.
     pub(crate) const NONE: Holding = Holding {
         keys: 0,
         down: [false; KEY_COUNT],
@@ -67,7 +68,7 @@ impl Holding {
     };
 }
 
-/// The keys in the steps of a run, by their events.
+/// The keys in the steps of a run, given by the key events.
 #[derive(Drop)]
 pub(crate) struct Cursor<'a> {
     pub(crate) keys: &'a Keys,
@@ -92,13 +93,12 @@ impl HeldKeys for Cursor<'_> {
     }
 }
 
-/// The events of the keys, each at a step: a key goes down or up, and stays so until its next
-/// event.
+/// The key events. At each of them, a key goes down or up, and stays so until its next event.
 #[derive(Drop)]
 pub struct Keys {
-    /// In the order of the keys, for the last event of a key up to a step.
+    /// The events ordered by key, to find the last event of a key up to a step.
     events: BTreeMap<Moment, bool>,
-    /// All events in the order of the steps, for the next events of any key.
+    /// The events ordered by step, to find the next events of any key.
     steps: Steps,
 }
 
@@ -125,7 +125,7 @@ impl Keys {
     ghost use Rattle.chip_replay.specs.Keys.{event_at, is_down, held, insert_fault, edit_fault};
     ghost use Rattle.chip_replay.specs.inner.Changes.{KnowsKeys, HoldsKeys};
 
-    /// No events: every key is up.
+    /// Returns a list without events, under which every key is up.
     pub fn new(alloc: Global) -> Self
         ensures { result ≡ map.empty }
     {
@@ -135,15 +135,15 @@ impl Keys {
         }
     }
 
-    /// The keys that are down in a step, key k at bit k: each is as its last event up to then says,
-    /// and up if there is none.
+    /// The mask of the keys that are down in a step, key k at bit k. The last event of a key up to
+    /// that step decides; a key without one is up.
     pub fn held(&self, step: u32) -> u16
         ensures { result ≡ held self.now step }
     {
         mask_of(&self.down_in(step))
     }
 
-    /// Whether each key is down in a step.
+    /// For each key, whether it is down in a step.
     fn down_in(&self, step: u32) -> [bool; KEY_COUNT]
         ensures size { length result ≡ KEY_COUNT }
         ensures each { (k : ℕ) → k < KEY_COUNT
@@ -156,7 +156,7 @@ impl Keys {
         down
     }
 
-    /// Whether a key is down in a step: what its last event up to then says.
+    /// Whether a key is down in a step, as its last event up to that step says.
     fn is_down(&self, key: u32, step: u32) -> bool
         ensures { result ≡ is_down self.now key step }
     {
@@ -187,7 +187,7 @@ impl Keys {
         }
     }
 
-    /// From what is known of the keys when a step begins to those that are down in it.
+    /// Updates the keys known when a step begins to the keys that are down in it.
     #[inline(always)]
     pub(crate) fn hold(&self, known: &mut Holding, step: u32)
         requires in_range { step < NEVER }
@@ -199,8 +199,8 @@ impl Keys {
         }
     }
 
-    /// From the keys that were down before the events of an earlier step, or of this one, to those
-    /// that are down in it and from there on.
+    /// Updates the keys that were down before the events of this step, or of an earlier one, to the
+    /// keys that are down in it and up to the next event.
     #[inline(never)]
     fn pass_events(&self, known: &mut Holding, step: u32)
         requires in_range { step < NEVER }
@@ -221,9 +221,9 @@ impl Keys {
         known.place = place;
     }
 
-    /// Adds an event: the key goes down, or up, at the step. Errors, the first that holds: the step
-    /// is above the last one, the key is above 15, an event is there, there are `MOST_EVENTS`
-    /// events, memory ran out. An error changes nothing.
+    /// Adds an event: the key goes down, or up, at the step. Returns the first error that applies:
+    /// the step is above the last one, the key is above 15, there is an event already, there are
+    /// `MOST_EVENTS` events, or memory ran out. An error changes nothing.
     pub fn insert(&mut self, step: u32, key: u32, down: bool) -> Result<(), KeyFault>
         ensures fault { MatchOption (insert_fault self.old step key)
             (IsOkUnless result KeyFault.OutOfMemory) (λ fault. result ≡ Err fault) }
@@ -253,8 +253,9 @@ impl Keys {
         }
     }
 
-    /// Changes what an event says, and takes no memory. Errors, the first that holds: the step is
-    /// above the last one, the key is above 15, no event is there. An error changes nothing.
+    /// Changes an event to down or up, and takes no memory. Returns the first error that applies:
+    /// the step is above the last one, the key is above 15, or there is no event. An error changes
+    /// nothing.
     pub fn replace(&mut self, step: u32, key: u32, down: bool) -> Result<(), KeyFault>
         ensures fault { MatchOption (edit_fault self.old step key) (result ≡ Ok tt)
             (λ fault. result ≡ Err fault) }
@@ -265,7 +266,7 @@ impl Keys {
         if let Some(fault) = self.edit_fault(step, key) {
             return Err(fault);
         }
-        // An event that is there is overwritten in place, so memory is not wanted.
+        // The event exists and is overwritten in place, so no memory is needed.
         match self.events.insert(Moment { key, step }, down) {
             Ok(_) => {}
             Err(_) => return Err(KeyFault::OutOfMemory),
@@ -278,7 +279,7 @@ impl Keys {
         Ok(())
     }
 
-    /// Deletes an event, and takes no memory. Errors as `replace`.
+    /// Deletes an event, and takes no memory. The errors are those of `replace`.
     pub fn delete(&mut self, step: u32, key: u32) -> Result<(), KeyFault>
         ensures fault { MatchOption (edit_fault self.old step key) (result ≡ Ok tt)
             (λ fault. result ≡ Err fault) }
@@ -294,7 +295,7 @@ impl Keys {
         Ok(())
     }
 
-    /// Why an event cannot be added.
+    /// Returns why an event can't be added, if there is a reason.
     fn insert_fault(&self, step: u32, key: u32) -> Option<KeyFault>
         ensures { result ≡ insert_fault self.now step key }
     {
@@ -313,7 +314,7 @@ impl Keys {
         None
     }
 
-    /// Why an event cannot be changed or taken out.
+    /// Returns why an event can't be changed or deleted, if there is a reason.
     fn edit_fault(&self, step: u32, key: u32) -> Option<KeyFault>
         ensures { result ≡ edit_fault self.now step key }
     {
@@ -331,8 +332,8 @@ impl Keys {
     }
 }
 
-/// Takes over what the events up to a step say, which are the first ones, and answers how many they
-/// are.
+/// Applies the events up to a step, which are the first of the list, to the keys. Returns the
+/// number of these events.
 #[inline(always)]
 fn pass(events: &[Event], step: u32, keys: &mut u16, down: &mut [bool; KEY_COUNT]) -> usize
     requires keys { (i : ℕ) (d : Event) → i < length events.now
@@ -358,7 +359,7 @@ fn pass(events: &[Event], step: u32, keys: &mut u16, down: &mut [bool; KEY_COUNT
     passed
 }
 
-/// The mask of these keys after one of them went down or up.
+/// The mask of the keys after one of them went down or up.
 #[inline(always)]
 fn with_key(keys: u16, down: &[bool; KEY_COUNT], key: usize, is_down: bool) -> u16
     requires key { key < KEY_COUNT }
@@ -368,7 +369,7 @@ fn with_key(keys: u16, down: &[bool; KEY_COUNT], key: usize, is_down: bool) -> u
     keys - (u16::from(down[key]) << key) + (u16::from(is_down) << key)
 }
 
-/// A mask with key k at bit k.
+/// The mask of a table of keys, key k at bit k.
 #[tactic(auto, unfolding(crate::specs::Mask::mask))]
 fn mask_of(down: &[bool; KEY_COUNT]) -> u16
     ensures { result ≡ mask (λ k. slice_index_or down.now k false) 16 }

@@ -1,4 +1,4 @@
-//! What the frame law says of whole runs.
+//! The consequences of the frame law for whole runs.
 
 ghost use Rattle.std.specs.Prelude.{◌≡◌, ℕ, ◌<◌, ◌≤◌, ◌+◌, Bool, true, false, List, length, drop};
 ghost use Rattle.chip_replay.specs.Limits.{image_start, image_room};
@@ -9,9 +9,9 @@ ghost use Rattle.chip_machine.specs.State.{differs};
 
 use crate::traced::Traced;
 
-/// A state of a run up to which no step touched a byte at which two images differ, patched at
-/// these bytes, is the state of the run from the patched start: that is the start with the new
-/// image, and zeros after it, in the place of the old one.
+/// Take a state of a run up to which no step touched a byte at which two images differ, and patch
+/// it at these bytes. The result is the state of the run from the patched start, in which the new
+/// image, followed by zeros, replaces the old one.
 pub fn patched_checkpoint<M: Traced>()
     ensures start { (start : M) (old new : List ℕ)
         → length old ≤ image_room

@@ -1,4 +1,4 @@
-//! Replay of a machine from its start state, with checkpoints.
+//! A replay of a machine from its start state, with checkpoints.
 #![tactic(auto)]
 
 mod by_step;

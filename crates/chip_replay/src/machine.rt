@@ -1,4 +1,4 @@
-//! The machine as one that a replay can run.
+//! Makes the machine one that a replay can run.
 
 ghost use Rattle.std.specs.Prelude.{◌+◌, ◌<◌, IsTrue, slice_index};
 
@@ -80,7 +80,7 @@ impl Traced for Machine {
     ghost frame_law = { machine_framed };
 }
 
-/// Whether the word at an address was touched before a step.
+/// True only if both bytes of the word at an address were touched before a step.
 fn is_noted(first_touch: &[u32], address: u16, at: u32) -> bool
     ensures { IsTrue result → (slice_index first_touch.now address < at)
         × (slice_index first_touch.now (address + 1) < at) }

@@ -1,4 +1,4 @@
-//! A machine's run under the events of its keys.
+//! The run of a machine under its key events.
 
 ghost use Rattle.std.specs.Prelude.{◌≡◌, ◌+◌, ◌/◌, ◌<◌, ◌≤◌, ◌↔◌, length, min, drop, IfOk, OnOk, OnErr, IsOkUnless, MatchOption};
 
@@ -11,7 +11,7 @@ use std::marker::Model;
 use std::ops::Range;
 use thiserror::Error;
 
-/// Why a question has no answer.
+/// The reason why a question has no answer.
 #[derive(Clone, Copy, Debug, PartialEq, Eq, Error)]
 pub enum AtError {
     /// Q2: the step is above the last one.
@@ -22,7 +22,7 @@ pub enum AtError {
     OutOfMemory,
 }
 
-/// A machine's start state and the events of its keys, with what was kept of its run.
+/// A machine's start state and key events, and what is kept of its run.
 pub struct Replay<M: Traced> {
     start: M,
     rate: u32,
@@ -30,7 +30,8 @@ pub struct Replay<M: Traced> {
     kept: Kept<M>,
 }
 
-// It goes by one call, and not part by part in each function that lets one go.
+// Dropping is one call. A derived `Drop` would be expanded, and proved, in every function that
+// drops a replay.
 impl<M: Traced> Drop for Replay<M> {
     fn drop(self) {
         let Replay {
@@ -77,9 +78,9 @@ impl<M: Traced> Replay<M> {
     ghost use Rattle.chip_replay.specs.Keys.{held, insert_fault, edit_fault};
     ghost use Rattle.chip_replay.specs.contracts.replay.Replay.{the_row};
 
-    /// The run from a state, with no events; the timers tick at each step whose number plus 1 is a
-    /// multiple of the rate, which is at least 1. A checkpoint is kept after each `spacing` steps.
-    /// Errors: memory ran out.
+    /// Returns the run from a start state, without key events. The timers tick at each step whose
+    /// number plus 1 is a multiple of `rate`, which is at least 1. A checkpoint is kept after every
+    /// `spacing` steps. Fails only if memory runs out.
     pub fn new(alloc: Global, start: M, rate: u32, spacing: u32) -> Result<Replay<M>, AllocError>
         requires rate { 0 < rate }
         requires spacing { (LEAST_SPACING ≤ spacing) × (spacing ≤ MOST_SPACING) }
@@ -102,7 +103,7 @@ impl<M: Traced> Replay<M> {
         })
     }
 
-    /// How many checkpoints are held, that of step 0 included.
+    /// The number of checkpoints held, including that of step 0.
     pub fn kept(&self) -> usize
         ensures value { result ≡ self.now.kept }
         ensures few { result ≤ LAST_STEP / self.now.spacing + 1 }
@@ -110,7 +111,7 @@ impl<M: Traced> Replay<M> {
         self.kept.checkpoints.len() + 1
     }
 
-    /// Up to which step the kept run is sound, 0 to `LAST_STEP`.
+    /// The step up to which the kept run is sound, 0 to `LAST_STEP`.
     pub fn reach(&self) -> u32
         ensures value { result ≡ self.now.reach }
         ensures in_range { result ≤ LAST_STEP }
@@ -118,24 +119,24 @@ impl<M: Traced> Replay<M> {
         self.kept.reach
     }
 
-    /// How many steps were made so far; it stays at the greatest value of a `u64`.
+    /// The number of steps made so far. The count stops at the greatest `u64`.
     pub fn ran(&self) -> u64
         ensures { result ≡ self.now.ran }
     {
         self.kept.ran
     }
 
-    /// The events of the keys.
+    /// The key events.
     pub fn keys(&self) -> &Keys
         ensures { result.now ≡ self.now.keys }
     {
         &self.keys
     }
 
-    /// The state at a step: that after the steps 0 to `step - 1`, under the events as they are. It
-    /// is made from the nearest checkpoint, or from the current state where that is
-    /// nearer. Errors, the first that holds: the step is above the last one, memory ran out; later
-    /// answers are then as if the question had not been asked.
+    /// The state at a step, which is the state after steps 0 to `step - 1` under the present key
+    /// events. The replay makes it from the nearest checkpoint, or from the current state if that
+    /// is nearer. Returns the first error that applies: the step is above the last one, or memory
+    /// ran out. After an error, later answers are as if the question had not been asked.
     pub fn at(&mut self, step: u32) -> Result<&M, AtError>
         ensures past_the_last { (result ≡ Err AtError.StepTooLarge) ↔ (LAST_STEP < step) }
         ensures state { IfOk result (λ state. state.now ≡ state_at M.step_of self.old step) }
@@ -151,8 +152,8 @@ impl<M: Traced> Replay<M> {
         }
     }
 
-    /// Adds a key event, as `Keys::insert`. What is kept of the run up to its step stays. An error
-    /// changes nothing.
+    /// Adds a key event, like `Keys::insert`. The kept part of the run up to its step stays. An
+    /// error changes nothing.
     pub fn insert_key(&mut self, step: u32, key: u32, down: bool) -> Result<(), KeyFault>
         ensures fault { MatchOption (insert_fault self.old.keys step key)
             (IsOkUnless result KeyFault.OutOfMemory) (λ fault. result ≡ Err fault) }
@@ -169,8 +170,8 @@ impl<M: Traced> Replay<M> {
         Ok(())
     }
 
-    /// Changes what a key event says, as `Keys::replace`. What is kept of the run up to its step
-    /// stays. An error changes nothing.
+    /// Changes a key event to down or up, like `Keys::replace`. The kept part of the run up to its
+    /// step stays. An error changes nothing.
     pub fn replace_key(&mut self, step: u32, key: u32, down: bool) -> Result<(), KeyFault>
         ensures fault { MatchOption (edit_fault self.old.keys step key)
             (result ≡ Ok tt) (λ fault. result ≡ Err fault) }
@@ -187,7 +188,7 @@ impl<M: Traced> Replay<M> {
         Ok(())
     }
 
-    /// Deletes a key event, as `Keys::delete`. What is kept of the run up to its step stays. An
+    /// Deletes a key event, like `Keys::delete`. The kept part of the run up to its step stays. An
     /// error changes nothing.
     pub fn delete_key(&mut self, step: u32, key: u32) -> Result<(), KeyFault>
         ensures fault { MatchOption (edit_fault self.old.keys step key)
@@ -205,9 +206,9 @@ impl<M: Traced> Replay<M> {
         Ok(())
     }
 
-    /// The machine starts with another image in its memory from now on: the bytes of `new`, and
-    /// zeros after them, stand in the place of those of `old`. What is kept of the run up to the
-    /// first step that touches a byte at which they differ stays. It takes no memory.
+    /// Makes the machine start with another image in its memory: the bytes of `new`, followed by
+    /// zeros, replace those of `old`. The kept part of the run up to the first step that touches a
+    /// byte at which they differ stays. Takes no memory.
     pub fn image_changed(&mut self, old: &[u8], new: &[u8])
         requires old_fits { length old.now ≤ image_room }
         requires new_fits { length new.now ≤ image_room }
@@ -223,8 +224,8 @@ impl<M: Traced> Replay<M> {
         self.image_changed_within(0..IMAGE_BYTES, old, new);
     }
 
-    /// As `image_changed`, where it is known outside which places of the images they agree: only
-    /// bytes at those places are read.
+    /// Changes the image like `image_changed`, given the places outside which the images agree.
+    /// Only the bytes at those places are read.
     pub fn image_changed_within(&mut self, changed: Range<usize>, old: &[u8], new: &[u8])
         requires old_fits { length old.now ≤ image_room }
         requires new_fits { length new.now ≤ image_room }

@@ -1,4 +1,4 @@
-//! What a replay asks of a machine.
+//! The trait that a machine implements so that a replay can run it.
 
 ghost use Rattle.std.specs.Prelude.{◌≡◌, ℕ, ◌+◌, ◌^◌, ◌<◌, ◌≤◌, ◌↔◌, Bool, List, [], All, Contains, IfOk, IfSome, OnOk, OnErr, IsFalse, IsTrue, length, slice_index, slice_set, true};
 ghost use Rattle.chip_machine.specs.Block.{block, IsBlockNoted};
@@ -12,9 +12,10 @@ use chip_machine::keys::HeldKeys;
 use chip_machine::touch::Touch;
 use std::alloc::AllocError;
 
-/// A machine with `MEMORY_BYTES` bytes of memory whose steps say which addresses they touch.
+/// A machine with `MEMORY_BYTES` bytes of memory, whose steps report the addresses that they touch.
 pub trait Traced: Drop + Sized {
-    /// The state after a step, by the mask of the keys that are down and whether the timers tick.
+    /// The state after a step, given the mask of the keys that are down and whether the timers
+    /// tick.
     ghost step_of: { Self → ℕ → Bool → Self };
 
     /// The addresses that the next step reads or writes.
@@ -23,22 +24,22 @@ pub trait Traced: Drop + Sized {
     /// The bytes of the memory.
     ghost memory: { Self → List ℕ };
 
-    /// The state with other bytes, and nothing else changed.
+    /// The state with other bytes in its memory, and nothing else changed.
     ghost with_memory: { Self → List ℕ → Self };
 
-    /// Holds of each state of a machine.
+    /// A property that holds for each state of a machine.
     ghost is_proper: { Self → Type 0 };
 
-    /// Makes one step with these keys down (key k at bit k), where the timers tick if `tick` says
-    /// so. `touch` then holds the addresses that the step read or wrote, in any order.
+    /// Makes one step with these keys down (key k at bit k); the timers tick if `tick` is true.
+    /// `touch` then holds the addresses that the step read or wrote, in any order.
     fn step(&mut self, keys: u16, tick: bool, touch: &mut Touch)
         ensures state { self.new ≡ step_of self.old keys tick }
         ensures touched { (at : ℕ) → Contains touch.new at ↔ Contains (touches self.old) at }
         ensures proper { is_proper self.new };
 
     /// Makes the next `count` steps. The first has the number `from`; step t uses the keys held at
-    /// t, and the timers tick where t + 1 is a multiple of the rate. Each address keeps in
-    /// `first_touch` the least number of a step that touched it.
+    /// t, and the timers tick if t + 1 is a multiple of the rate. In `first_touch`, each address
+    /// keeps the least number of a step that touched it.
     fn steps<K: HeldKeys>(
         &mut self,
         keys: &mut K,
@@ -67,7 +68,7 @@ pub trait Traced: Drop + Sized {
         }
     }
 
-    /// Whether each step leaves the state as it is, and touches nothing: true only where it does.
+    /// True only if each step leaves the state as it is and touches nothing.
     fn is_still(&self) -> bool
         ensures still { IsTrue result → IsStill step_of self.now }
         ensures untouched { IsTrue result → touches self.now ≡ [] }
@@ -75,9 +76,9 @@ pub trait Traced: Drop + Sized {
         false
     }
 
-    /// Whether each step with these keys down, or with any, leaves the state as it is, and touches
-    /// only addresses that a step before `at` has touched, as the table of first touches says: true
-    /// only where it does.
+    /// True only if each step with these keys down, or with any keys for `None`, leaves the state
+    /// as it is and touches only addresses that a step before `at` has touched, as the table of
+    /// first touches says.
     fn stays(&self, keys: Option<u16>, first_touch: &[u32], at: u32) -> bool
         ensures still { IsTrue result → (down : ℕ) (tick : Bool) → IfSome keys (λ k. down ≡ k)
             → step_of self.now down tick ≡ self.now }
@@ -93,8 +94,8 @@ pub trait Traced: Drop + Sized {
         ensures byte { self.new ≡ with_memory self.old (slice_set (memory self.old) at byte) }
         ensures proper { is_proper self.new };
 
-    /// Puts the bytes of `new` from an address on in the place of those of `old`, where the two
-    /// differ: all other bytes stay.
+    /// Replaces the bytes of `old`, from an address on, by those of `new` wherever the two differ.
+    /// All other bytes stay.
     fn exchange(&mut self, at: u16, old: &[u8], new: &[u8])
         requires alike { length old.now ≡ length new.now }
         requires in_memory { at + length new.now ≤ memory_size }
@@ -102,12 +103,12 @@ pub trait Traced: Drop + Sized {
         ensures others { self.new ≡ with_memory self.old (memory self.new) }
         ensures proper { is_proper self.new };
 
-    /// A second machine in the same state. Errors: memory ran out.
+    /// Returns a second machine in the same state. Fails if memory runs out.
     fn copy_of(&self) -> Result<Self, AllocError>
         ensures same { IfOk result (λ copy. copy ≡ self.now) }
         ensures proper { is_proper self.now };
 
-    /// Takes the state of another machine. Errors: memory ran out, and nothing is changed.
+    /// Takes over the state of another machine. Fails if memory runs out, and then changes nothing.
     fn copy_from(&mut self, other: &Self) -> Result<(), AllocError>
         ensures ok { OnOk result (self.new ≡ other.now) }
         ensures err { OnErr result (self.new ≡ self.old) }
@@ -124,7 +125,8 @@ pub trait Traced: Drop + Sized {
     ghost changed_twice: { (s : Self) (m n : List ℕ)
         → with_memory (with_memory s m) n ≡ with_memory s n };
 
-    /// The memory of a proper state has `MEMORY_BYTES` bytes, and no more is asked of it.
+    /// The memory of a proper state has `MEMORY_BYTES` bytes. Nothing else is required of the
+    /// memory.
     ghost proper_size: { (s : Self) → is_proper s → length (memory s) ≡ memory_size };
 
     ghost proper_changed: { (s : Self) (m : List ℕ) → is_proper s → length m ≡ memory_size

@@ -1,20 +1,20 @@
--- What is kept of the key events in the order of their steps.
--- Source: own.
---     rank           the number of an event's step and key in that order
+-- The data kept about the key events in the order of their steps.
+-- Source: chosen by this project.
+--     rank           the number of an event in that order, from its step and key
 --     IsInOrder      events are in that order, and each has one of the 16 keys
---     IsFirstFrom    a place parts events into those before a step and the others
---     all_events     the events of some pages
---     count_before   how many events the pages before one have
---     index_of       where the event at a place in the pages stands among all of them
+--     IsFirstFrom    a place separates the events before a step from the others
+--     all_events     the events of all pages
+--     count_before   the number of events in the pages before a page
+--     index_of       the index, among all events, of the event at a place in the pages
 --     IsPage         a page is neither empty nor too large
---     IsPlace        a place is that of an event, or past all pages
---     HasRoom        an event can be put at a place of a page
---     after_events   what a table of the keys says after the first of some events
---     change_at      what the events say of a key at a step
+--     IsPlace        a place is that of an event, or lies past all pages
+--     HasRoom        an event can be inserted at a place of a page
+--     after_events   a table that says for each key whether it is down, after the first n events
+--     change_at      the event of a key at a step (down or up) in a list of events
 --     was_down       whether a key was down before a step's events
---     KnowsKeys      what is known of the keys when a step begins
+--     KnowsKeys      which keys are known to be down when a step begins
 --     SaysTheSame    two lists of events say the same
---     HoldsKeys      what is known of the keys in a step, and in the steps up to the next event
+--     HoldsKeys      which keys are known to be down in a step, and up to the next event
 use Rattle.std.specs.Prelude.{◌≡◌, ℕ, ◌+◌, ◌*◌, ◌<◌, ◌≤◌, ◌==◌, ◌&&◌, zero, suc, Bool, false, List, [], ◌∷◌, length, take, Option, None, Some, slice_index_or, slice_set, min, if◌then◌else◌}
 use Rattle.std.specs.List.{flat_map}
 use Rattle.std.specs.Global.{Vec}
@@ -28,20 +28,20 @@ use Rattle.chip_replay.specs.declared.keys.Holding.{Holding}
 abbrev pub rank : Event → ℕ
 rank e = e.step * 16 + e.key
 
--- by their steps, and in a step by their keys
+-- the events are sorted by their steps, and within a step by their keys
 pub record IsInOrder (events : List Event) : Type 0 where
   pub rising : (i j : ℕ) (d : Event) → i < j → j < length events
       → rank (slice_index_or events i d) < rank (slice_index_or events j d)
   pub keys : (i : ℕ) (d : Event) → i < length events → (slice_index_or events i d).key < 16
 
--- the events below a place are those of the steps before one
+-- the events below the place are those before the step
 pub record IsFirstFrom (events : List Event) (step place : ℕ) : Type 0 where
   pub at_most : place ≤ length events
   pub before : (i : ℕ) (d : Event) → i < place → (slice_index_or events i d).step < step
   pub after : (i : ℕ) (d : Event) → place ≤ i → i < length events
       → step ≤ (slice_index_or events i d).step
 
--- one page after another
+-- the events of all pages, one page after another
 abbrev pub all_events : List (Vec Event) → List Event
 all_events pages = flat_map (λ page. page.items) pages
 
@@ -64,13 +64,13 @@ HasRoom pages place = (place.page < length pages)
     × ((d : Vec Event) → (place.index ≤ length (slice_index_or pages place.page d).items)
     × (length (slice_index_or pages place.page d).items < PAGE_EVENTS))
 
--- each of the first events sets its key
+-- each of the first n events sets its key
 abbrev pub after_events : List Bool → List Event → ℕ → List Bool
 after_events down es zero = down
 after_events down [] (suc n) = down
 after_events down (e ∷ es) (suc n) = after_events (slice_set down e.key e.down) es n
 
--- what the first event of the key's at the step says, if there is one
+-- the first event of the key at the step (down or up), if there is one
 abbrev pub change_at : List Event → ℕ → ℕ → Option Bool
 change_at [] step key = None
 change_at (e ∷ es) step key =
@@ -80,8 +80,8 @@ abbrev pub was_down : Events → ℕ → ℕ → Bool
 was_down events key zero = false
 was_down events key (suc step) = is_down events key step
 
--- which keys were down before the events of the steps from this one up to another, or of the other
--- alone where it is no later, and their mask
+-- the keys that were down before the events of each step from `step` up to `until`, or of `until`
+-- alone if that isn't later; and the mask of these keys
 pub record KnowsKeys (events : Events) (step : ℕ) (h : Holding) : Type 0 where
   pub size : length h.down ≡ 16
   pub as_mask : h.keys ≡ mask (λ k. slice_index_or h.down k false) 16
@@ -95,6 +95,6 @@ pub record HoldsKeys (events : Events) (step : ℕ) (h : Holding) : Type 0 where
   pub stays : (s k : ℕ) → step ≤ s → s < h.until → k < 16
       → is_down events k s ≡ slice_index_or h.down k false
 
--- the events by key and those in order say the same of each key at each step
+-- the events by key and the events in order agree for each key at each step
 abbrev pub SaysTheSame : Events → List Event → Type 0
 SaysTheSame events in_order = (s k : ℕ) → k < 16 → change_at in_order s k ≡ event_at events s k

@@ -1,11 +1,11 @@
--- Proofs, which a reader may skip: the law of the keys that a machine asks for.
--- Source: own.
+-- Proofs, which a reader may skip: the law about the keys that a machine asks for.
+-- Source: chosen by this project.
 use Rattle.std.proofs.Common.{ℕ, ◌≤◌, arith}
 use Rattle.chip_replay.specs.inner.Changes.{KnowsKeys}
 use Rattle.chip_replay.specs.Keys.{Events}
 use Rattle.chip_replay.specs.declared.keys.Holding.{Holding}
 
--- what is known when a step begins is known when a later one begins
+-- the keys known when a step begins are known when a later step begins
 pub knows_later : (events : Events) (s t : ℕ) (h : Holding) → KnowsKeys events s h → s ≤ t
     → KnowsKeys events t h
 knows_later events s t h knows l =

@@ -1,14 +1,15 @@
--- What is kept of a run.
--- Source: own.
+-- The data kept about a run.
+-- Source: chosen by this project.
 --     IsFirst          the first step below n that passes a test, or a number that is no step
---     IsTouched        a table has for each address the first step below n that touches it, or no step
---     AreCheckpoints   the checkpoints are those of a run
---     is_due           whether the next checkpoint is that of one of some steps
+--     IsTouched        a table holds for each address the first step below n that touches it, or no
+--                      step
+--     AreCheckpoints   the checkpoints are states of a run
+--     is_due           whether the next checkpoint is due within some steps
 --     IsNoted          a state is that of a step, and the first touches up to there are noted
---     IsAt             the current state is that of a step, and the keys are known of it
---     IsKnown          what is kept, where the first touches are those below some step
---     IsAhead          what is kept, where the current state is also that of some steps
---     IsRight          what is kept is that of the run from a start state under the events
+--     IsAt             the current state is that of a step, and the keys at that step are known
+--     IsKnown          what is kept is right, and the first touches are those below a given step
+--     IsAhead          what is kept is right, and the current state is also that of some steps
+--     IsRight          what is kept belongs to the run from a start state under the events
 use Rattle.std.specs.Prelude.{◌≡◌, ℕ, ◌+◌, ◌*◌, ◌/◌, ◌<◌, ◌≤◌, ◌&&◌, nat_lt, nat_le, Bool, true, List, length, slice_index, slice_index_or, max, IfSome}
 use Rattle.chip_machine.specs.Touched.{touched}
 use Rattle.chip_replay.specs.Limits.{last_step, memory_size, never}
@@ -30,9 +31,9 @@ pub record IsTouched {M : Type 0} (touched : M → ℕ → Bool) (state : ℕ �
   pub first : (at : ℕ) → at < memory_size
       → IsFirst (λ s. touched (state s) at) n (slice_index table at)
 
--- the first ones of the checkpoints that are due, one each p steps, of the steps of a run below
--- reach; where others are due, the state of the last one, or the start state, is that of all later
--- steps
+-- the checkpoints are the first of those due, one every p steps, for the steps of a run below
+-- `reach`. If more are due than there are, the state of the last checkpoint, or the start state, is
+-- the state of all later steps
 pub record AreCheckpoints {M : Type 0} (proper : M → Type 0) (step_of : M → ℕ → Bool → M)
     (state : ℕ → M) (p reach : ℕ) (checkpoints : List M) : Type 0 where
   pub proper_start : proper (state 0)
@@ -43,29 +44,30 @@ pub record AreCheckpoints {M : Type 0} (proper : M → Type 0) (step_of : M → 
   pub ends_still : length checkpoints < reach / p
       → IsStill step_of (state (length checkpoints * p))
 
--- whether the next checkpoint, after so many one each p steps, is that of one of the steps from at
--- up to last, and the one before it is that of a step before at
+-- whether the next checkpoint, after `count` checkpoints that are p steps apart, is that of a step
+-- from `at` up to `last`, and the one before it is that of a step before `at`
 abbrev pub is_due : ℕ → ℕ → ℕ → ℕ → Bool
 is_due p count at last =
     nat_le at ((count + 1) * p) && nat_le ((count + 1) * p) last && nat_lt ((count + 1) * p) (at + p)
 
--- a state is that of a step of a run, and a table has the first touches of the steps below it, and
--- of those below reach
+-- a state is that of step `at` of a run, and a table holds the first touches of the steps below
+-- `at` and of those below `reach`
 pub record IsNoted {M : Type 0} (touches : M → List ℕ) (step_of : M → ℕ → Bool → M) (rate : ℕ)
     (start : M) (events : Events) (reach at : ℕ) (now : M) (first_touch : List ℕ) : Type 0 where
   pub current : now ≡ run step_of rate (held events) start at
   pub table : IsTouched (touched touches) (run step_of rate (held events) start)
       (max reach at) first_touch
 
--- the current state is that of a step, which is no later than one, and the keys are known of it
+-- the current state is that of step `at`, which is at most `known`, and the keys at that step are
+-- known
 pub record IsAt {M : Type 0} (step_of : M → ℕ → Bool → M) (rate : ℕ) (start : M) (events : Events)
     (now : M) (keys : Holding) (known at : ℕ) : Type 0 where
   pub reached : at ≤ known
   pub current : now ≡ run step_of rate (held events) start at
   pub holding : KnowsKeys events at keys
 
--- the checkpoints, the first touches below a step, and the current state with the keys that are
--- known of its step are those of the run from a start state under the events
+-- the checkpoints, the first touches below a step, and the current state with the keys known at its
+-- step all belong to the run from a start state under the events
 pub record IsKnown {M : Type 0} (proper : M → Type 0) (touches : M → List ℕ)
     (step_of : M → ℕ → Bool → M) (rate : ℕ) (start : M) (events : Events) (kept : Kept M)
     (known : ℕ) : Type 0 where
@@ -81,8 +83,8 @@ abbrev pub IsRight : {M : Type 0} → (M → Type 0) → (M → List ℕ) → (M
 IsRight proper touches step_of rate start events kept =
     IsKnown proper touches step_of rate start events kept kept.reach
 
--- what is kept, where the current state is also that of the steps from at up to last, no later than
--- the next checkpoint, and the first touches are those of the steps below last too
+-- what is kept is right; the current state is also that of the steps from `at` up to `last`, which
+-- isn't later than the next checkpoint; and the first touches include the steps below `last`
 pub record IsAhead {M : Type 0} (proper : M → Type 0) (touches : M → List ℕ)
     (step_of : M → ℕ → Bool → M) (rate : ℕ) (start : M) (events : Events) (kept : Kept M)
     (at last : ℕ) : Type 0 where

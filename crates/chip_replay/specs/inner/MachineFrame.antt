@@ -1,5 +1,5 @@
 -- The machine's frame law in the form of the trait.
--- Source: own.
+-- Source: chosen by this project.
 --     machine_framed          the frame law
 --     machine_step_keeps      a step keeps a state proper
 use Rattle.std.specs.Prelude.{◌≡◌, ℕ, Bool, All, IsFalse}

@@ -15,8 +15,8 @@ taken_alike old new n i same = elim (cases_lt i n) [
   | inr a ↦ get_or-take_past n old i a ∙ sym (get_or-take_past n new i a)
 ]
 
--- the exchange of the changed bytes that both images have is that of all up to the first one that
--- one has alone
+-- exchanging the changed bytes that both images have exchanges all changed bytes up to the first
+-- one that only one image has
 module _ (m old new : List ℕ) (first end from to shorter n : ℕ) (agree : AgreeOutside first end old new) (is_from : from ≡ min first to) (is_to : to ≡ min end shorter) (size : n ≡ to - from) where
   outside : (i : ℕ) → i < max first shorter → (i < from) ⊎ (to ≤ i) → get_or old i 0 ≡ get_or new i 0
   outside i l (inl a) = agree.before i (omega arith)
@@ -66,7 +66,7 @@ loop-i-init g c =
     ∙ both_have (m.memory s) c.args.old.now c.args.new.now c.args.first c.args.end from to c.min-shorter.result n c.requires.alike c.min-from.ensures c.min-to.ensures refl
     ∙ ap (λ t. exchanged (m.memory s) image_start (take t c.args.old.now) (take t c.args.new.now)) (sym c.max-i.ensures))
 
--- the state with one byte more
+-- the state after one more byte
 poked_more : {S : Type 0} (memory : S → List ℕ) (with_memory : S → List ℕ → S) (part : IsMemory memory with_memory) (s before : S) (old new : List ℕ) (i v : ℕ) → before ≡ with_memory s (exchanged (memory s) image_start (take i old) (take i new)) → v ≡ chosen (get_or (memory s) (image_start + i) 0) (get_or old i 0) (get_or new i 0) → with_memory before (set (memory before) (image_start + i) v) ≡ with_memory s (exchanged (memory s) image_start (take (i + 1) old) (take (i + 1) new))
 poked_more memory with_memory part s before old new i v is here =
     let bytes = exchanged (memory s) image_start (take i old) (take i new) in

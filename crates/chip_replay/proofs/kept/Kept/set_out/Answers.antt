@@ -9,7 +9,7 @@ use Rattle.chip_replay.proofs.Spaced.{div_mono}
 use Rattle.chip_replay.proofs.Sound.{nearest_is, stays_to}
 use Rattle.chip_replay.proofs.kept.Kept.set_out.Goals as goal
 
--- the current state is that of each later step
+-- the current state is also that of each later step
 pub returns-in-Some-2-clause-known : goal.returns-in-Some-2-clause-known
 returns-in-Some-2-clause-known g c = λ rate right.
     let m = g.M.Traced in
@@ -27,7 +27,7 @@ returns-in-Some-2-clause-known g c = λ rate right.
       holding = knows_later keys t known kept.holding is.holding later;
     }
 
--- it is the nearest checkpoint
+-- the current state is the nearest checkpoint
 pub returns-in_ok-copy_from-in_default-current_step-clause-known : goal.returns-in_ok-copy_from-in_default-current_step-clause-known
 returns-in_ok-copy_from-in_default-current_step-clause-known g c = λ rate right.
     let m = g.M.Traced in
