@@ -23,7 +23,7 @@ module _ (s : Session) (n : ℕ) (bytes line rest : List ℕ) (first : lines byt
   pub session_later : session_after s (key_commands bytes) ≡ session_after (after s (key_command line)) (key_commands rest)
   session_later = ap (λ ls. session_after s (map key_command ls)) first
 
--- no lines are left
+-- the case that no lines are left
 pub no_lines : (bytes : List ℕ) → (length bytes == 0) ≡ true → lines bytes ≡ []
 no_lines [] e = refl
 no_lines (x ∷ xs) e = absurd (let n : length (x ∷ xs) ≡ 0 = eqb-true (length (x ∷ xs)) 0 e in omega arith)

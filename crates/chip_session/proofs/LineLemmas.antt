@@ -1,5 +1,4 @@
--- How the complete lines and the unfinished one grow by one byte, and what they have to do with the
--- lines.
+-- How the complete lines and the unfinished line grow by one byte, and how they make up the lines.
 use Rattle.std.proofs.Common.{◌≡◌, ℕ, ◌+◌, ◌<◌, ◌≤◌, ◌==◌, ◌||◌, zero, suc, Bool, true, false, cond, List, [], ◌∷◌, ◌++◌, get_or, length, map, take, refl, sym, ◌∙◌, ap, append_assoc, arith}
 use Rattle.std.specs.List.{list_any, slice_split, onto_first}
 use Rattle.std.specs.Str.Lines.{lines_of_parts, strip_carriage_return}
@@ -9,7 +8,7 @@ use Rattle.chip_session.specs.Lines.{all_but_last, last_part, complete_lines, un
 use Rattle.chip_asm.specs.Lines.{is_newline, lines_of}
 use Rattle.chip_asm.proofs.CutSteps.{filled}
 
--- a byte put at the end of the last part
+-- a byte appended to the last part
 abbrev onto_last : ℕ → List (List ℕ) → List (List ℕ)
 onto_last b [] = (b ∷ []) ∷ []
 onto_last b (part ∷ []) = (part ++ b ∷ []) ∷ []
@@ -63,7 +62,7 @@ last_push : (part new : List ℕ) (parts : List (List ℕ)) → last_part ((part
 last_push part new [] = refl
 last_push part new (next ∷ parts) = last_push next new parts
 
--- another byte goes to the unfinished line
+-- a byte other than a newline is appended to the unfinished line
 pub complete_byte : (xs : List ℕ) (b : ℕ) → is_newline b ≡ false → complete_lines (xs ++ b ∷ []) ≡ complete_lines xs
 unfolding complete_lines
 complete_byte xs b other =
@@ -84,7 +83,7 @@ none_here : (a b : Bool) → (a || b) ≡ false → (a ≡ false) × (b ≡ fals
 none_here true b e = absurd (cc)
 none_here false b e = (refl, e)
 
--- so do bytes with no newline among them
+-- bytes without a newline are appended to the unfinished line
 pub complete_part : (part xs : List ℕ) → list_any is_newline part ≡ false → complete_lines (xs ++ part) ≡ complete_lines xs
 complete_part [] xs none = ap complete_lines (append-nil xs)
 complete_part (b ∷ part) xs none =
@@ -130,7 +129,7 @@ lines_of_filled : (part : List ℕ) (parts : List (List ℕ)) →
 lines_of_filled part [] = refl
 lines_of_filled part (next ∷ parts) = ap (λ xs. strip_carriage_return part ∷ xs) (lines_of_filled next parts)
 
--- the lines are the complete ones, and the unfinished one if it isn't empty
+-- the lines are the complete lines, and the unfinished line if it isn't empty
 pub lines_is : (xs : List ℕ) → lines_of xs ≡ complete_lines xs ++ last_line (unfinished_line xs)
 unfolding complete_lines unfinished_line
 lines_is xs =
@@ -146,7 +145,7 @@ pub unfinished_none : unfinished_line [] ≡ []
 unfolding unfinished_line
 unfinished_none = refl
 
--- a list that goes on from a front
+-- a list that continues a front
 pub record GoesOn (front all : List (List ℕ)) : Type 0 where
   pub back : List (List ℕ)
   pub is : all ≡ front ++ back
@@ -161,7 +160,7 @@ one_more_byte xs b = newline_or (is_newline b) refl
       is = ap (λ c. complete_lines (xs ++ c ∷ [])) (eqb-true b 10 same) ∙ complete_newline xs;
     }
 
--- complete lines stay, whatever follows
+-- the complete lines stay, whatever follows
 pub complete_goes_on : (ys xs : List ℕ) → GoesOn (complete_lines xs) (complete_lines (xs ++ ys))
 complete_goes_on [] xs = record { back = []; is = ap complete_lines (append-nil xs) ∙ sym (append-nil (complete_lines xs)) }
 complete_goes_on (y ∷ ys) xs =
@@ -189,7 +188,7 @@ last_filled u h = ap (λ t. cond t [] (u ∷ [])) (positive (length u) h)
 byte_is_last : (u : List ℕ) (b : ℕ) → last_line (u ++ b ∷ []) ≡ (u ++ b ∷ []) ∷ []
 byte_is_last u b = last_filled (u ++ b ∷ []) (omega (arith, length-append u (b ∷ [])))
 
--- a byte more makes a line more than the complete ones
+-- one more byte makes one line more than the complete lines
 longer_byte : (xs : List ℕ) (y : ℕ) (t : Bool) → is_newline y ≡ t → length (complete_lines xs) + 1 ≡ length (lines_of (xs ++ y ∷ []))
 longer_byte xs y false other = sym (ap length (lines_is (xs ++ y ∷ []) ∙ ap (λ u. complete_lines (xs ++ y ∷ []) ++ last_line u) (unfinished_byte xs y other)
     ∙ ap (λ l. complete_lines (xs ++ y ∷ []) ++ l) (byte_is_last (unfinished_line xs) y)
@@ -202,7 +201,7 @@ longer_byte xs y true same = sym (ap (λ c. length (lines_of (xs ++ c ∷ []))) 
 grows : (xs ys : List (List ℕ)) → GoesOn xs ys → length xs ≤ length ys
 grows xs ys g = omega (arith, ap length g.is, length-append xs g.back)
 
--- whatever follows is a line more, at least
+-- one or more further bytes make at least one line more than the complete ones
 pub longer : (ys xs : List ℕ) (y : ℕ) → length (complete_lines xs) < length (lines_of (xs ++ y ∷ ys))
 longer [] xs y = omega (arith, longer_byte xs y (is_newline y) refl)
 longer (z ∷ ys) xs y =

@@ -55,21 +55,21 @@ take_part_more u part = ⊎_elim
 kept_length : {start : Session} {before given : List ℕ} {old : Conversation} {held : Option (List ℕ)} → Reached start before given old held → length old.line.items ≤ KEPT_LEN
 kept_length {given = given} r = omega (arith, ap length r.line, length-take KEPT_LEN (unfinished_line given))
 
--- no more than all of a list is taken
+-- taking at least the length of a list takes all of it
 pub take_min : (k : ℕ) (xs : List ℕ) → take (min k (length xs)) xs ≡ take k xs
 take_min k xs = ⊎_elim
     (λ (less : k < length xs). let same : min k (length xs) ≡ k = omega arith in ap (λ n. take n xs) same)
     (λ (all : length xs ≤ k). let same : min k (length xs) ≡ length xs = omega arith in ap (λ n. take n xs) same ∙ take_all (length xs) xs (omega arith) ∙ sym (take_all k xs all))
     (cases_lt k (length xs))
 
--- what is kept of a line and of bytes after it
+-- the bytes kept of a line and of the bytes after it
 pub kept_more : (line part : List ℕ) (n : ℕ) → length line ≤ KEPT_LEN → n ≡ min (KEPT_LEN - length line) (length part) → line ++ take n part ≡ take KEPT_LEN (line ++ part)
 kept_more line part n short is =
     let room : KEPT_LEN ≡ length line + (KEPT_LEN - length line) = omega arith in
     ap (λ l. line ++ l) (ap (λ k. take k part) is ∙ take_min (KEPT_LEN - length line) part)
     ∙ sym (take-append-add line part (KEPT_LEN - length line)) ∙ ap (λ k. take k (line ++ part)) (sym room)
 
--- where the bytes of a script have led, with the bytes of an unfinished line
+-- the state after the bytes of a script, with the bytes of an unfinished line
 record Partway (start : Session) (before given : List ℕ) (session : Session) (line : List ℕ) (complete taken : ℕ) (holds : Option (List ℕ)) : Type 0 where
   session_is : session ≡ session_after start (complete_lines given)
   line_is : line ≡ take KEPT_LEN (unfinished_line given)
@@ -78,7 +78,7 @@ record Partway (start : Session) (before given : List ℕ) (session : Session) (
   within : WithinBounds given
   told : holds ≡ Some (before ++ transcript_of start (complete_lines given))
 
--- bytes of a line
+-- more bytes of a line
 part_taken : {start : Session} {before given : List ℕ} {old : Conversation} {held : Option (List ℕ)} (part : List ℕ) → list_any is_newline part ≡ false →
     old.taken + length part ≤ SCRIPT_BYTES → old.complete < SCRIPT_LINES → Reached start before given old held →
     Partway start before (given ++ part) old.bench.session (take KEPT_LEN (old.line.items ++ part)) old.complete (old.taken + length part) held
@@ -91,7 +91,7 @@ part_taken {start} {before} {given} {old} {held} part none few h r = record {
   told = r.told ∙ ap (λ l. Some (before ++ transcript_of start l)) (sym (complete_part part given none));
 }
 
--- bytes of a line that are kept
+-- more bytes of a line that are kept
 pub carries_part : {old : Conversation} {held : Option (List ℕ)} (new : Conversation) (part : List ℕ) → list_any is_newline part ≡ false →
     old.taken + length part ≤ SCRIPT_BYTES → old.complete < SCRIPT_LINES →
     new.bench.session ≡ old.bench.session → (length old.line.items ≤ KEPT_LEN → new.line.items ≡ take KEPT_LEN (old.line.items ++ part)) →
@@ -117,7 +117,7 @@ transcript_newline start before given bench e kept k =
     ∙ sym (transcript_push start (complete_lines given) (strip_carriage_return (unfinished_line given)))
     ∙ ap (transcript_of start) (sym (complete_newline given))
 
--- a newline, after which the answer was written
+-- a newline, after which the answer has been written
 reached_newline : {start : Session} {before given : List ℕ} {session : Session} {line : List ℕ} {complete taken : ℕ} {new : Conversation} {held holds : Option (List ℕ)} →
     Partway start before given session line complete taken held → taken < SCRIPT_BYTES → complete < SCRIPT_LINES →
     Appends held holds (reply session (strip_carriage_return line)) →
@@ -177,7 +177,7 @@ stopped_bound {given = given} more some r past = record {
   stopped = (r.within, at_bound r past, some, r.told);
 }
 
--- more taken
+-- more lines are taken
 pub carries_more : {old : Conversation} {held : Option (List ℕ)} (mid : Conversation) (kept : Option (List ℕ)) (new : Conversation) (holds : Option (List ℕ)) (xs ys : List ℕ) (result : Result Unit Stop) →
     Carries old held xs (Ok tt) mid kept → Carries mid kept ys result new holds → Carries old held (xs ++ ys) result new holds
 carries_more mid kept new holds xs ys result one two start before given r =
@@ -245,7 +245,7 @@ reached_none start before c held bench line complete taken h = record {
   told = h ∙ ap Some (sym (append-nil before)) ∙ sym (ap (λ l. Some (before ++ transcript_of start l)) complete_none);
 }
 
--- the bytes before a newline, and it
+-- the bytes before a newline, and the newline
 line_split : (bytes : List ℕ) (n : ℕ) → n < length bytes → get_or bytes n 0 ≡ 10 → take (n + 1) bytes ≡ take n bytes ++ 10 ∷ []
 line_split bytes n lt newline = take_more bytes n 0 lt ∙ ap (λ b. take n bytes ++ b ∷ []) newline
 
@@ -265,14 +265,14 @@ carries_past new holds piece n less full one start before given r =
     (append_assoc given (take n piece) (drop n piece) ∙ ap (λ l. given ++ l) (take-append-drop n piece))
     (stopped_bound (drop n piece) (omega (arith, length-drop n piece)) (one start before given r) (inl full))
 
--- a stop in a front of a piece
+-- a stop within a front of a piece
 pub carries_front : {old : Conversation} {held : Option (List ℕ)} (new : Conversation) (holds : Option (List ℕ)) (piece : List ℕ) (n : ℕ) (e : Stop) →
     Carries old held (take n piece) (Err e) new holds → Carries old held piece (Err e) new holds
 carries_front new holds piece n e one start before given r =
     subst (λ l. Stopped e start before (given ++ l) holds) (take-append-drop n piece)
     (carries_stop new holds (take n piece) (drop n piece) e one start before given r)
 
--- a place of a newline, before which there is none
+-- the place of a newline, with none before it
 record FirstNewline (bytes : List ℕ) (n : ℕ) : Type 0 where
   within : n < length bytes
   newline : get_or bytes n 0 ≡ 10

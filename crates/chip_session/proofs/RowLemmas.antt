@@ -15,7 +15,7 @@ or_false : (a b : Bool) → (a || b) ≡ false → (a ≡ false) × (b ≡ false
 or_false true b e = absurd (cc)
 or_false false b e = (refl, e)
 
--- where none passes, the one at a place doesn't
+-- if no item passes the test, the item at a place doesn't pass
 none_passes : (p : ℕ → Bool) (xs : List ℕ) → list_any p xs ≡ false → (i d : ℕ) → i < length xs → p (get_or xs i d) ≡ false
 none_passes p [] e i d lt = absurd (omega arith)
 none_passes p (x ∷ xs) e zero d lt = (or_false (p x) (list_any p xs) e).0

@@ -1,4 +1,5 @@
--- The transcript of a script in two parts, and of a line that is cut off where it is too long.
+-- The transcript of a script in two parts, and the answer to a line that is cut off because it is
+-- too long.
 use Rattle.std.proofs.Common.{◌≡◌, ◌⊎◌, ℕ, ◌+◌, ◌-◌, ◌<◌, ◌≤◌, ◌==◌, ◌&&◌, Bool, true, false, cond, List, [], ◌∷◌, ◌++◌, length, take, refl, sym, ◌∙◌, ap, append_assoc, arith, None, Ok, Err, Result, IsOkAnd, inl, inr, ⊎_elim}
 use Rattle.std.specs.Result.{OnErr}
 use Rattle.std.specs.Str.Lines.{strip_carriage_return}
@@ -42,7 +43,7 @@ strip_length_by false l = omega arith
 strip_length : (l : List ℕ) → length l ≤ length (strip_carriage_return l) + 1
 strip_length l = strip_length_by _ l
 
--- what is kept of a line answers for the line
+-- the kept bytes of a line have the same answer as the line
 pub reply_kept : (s : Session) (line : List ℕ) → reply s (take KEPT_LEN line) ≡ reply s line
 reply_kept s line = ⊎_elim (λ (long : KEPT_LEN < length line). reply_long s _ _ (rw length-take (omega arith)) (omega arith)) (λ (short : length line ≤ KEPT_LEN). ap (reply s) (take_all KEPT_LEN line short)) (cases_lt KEPT_LEN (length line))
 
@@ -77,17 +78,18 @@ pub refusal_is : (s : Session) (line : List ℕ) (read : Result Command CommandF
 unfolding refusal
 refusal_is s line read h = ap (command_refusal s) h
 
--- a refusal other than that memory ran out is the definition's
+-- a refusal, unless it is for a lack of memory, is the one in the definition
 pub no_memory : {P Q X : Type 0} {e m : X} → P ⊎ ((e ≡ m) × Q) → (e ≡ m → ⊥) → P
 no_memory (inl p) h = p
 no_memory (inr q) h = absurd (h q.0)
 
--- the same of an edit, which says besides whether it may want memory
+-- a refusal of an edit, unless it is for a lack of memory, is the one in the definition; the
+-- hypothesis also says that the edit may need memory
 pub not_for_memory : {P Q R X : Type 0} {e m : X} → P ⊎ ((e ≡ m) × Q × R) → (e ≡ m → ⊥) → P
 not_for_memory (inl p) h = p
 not_for_memory (inr q) h = absurd (h q.0)
 
--- the refusals of changes for which memory ran out say so, and others are none of them
+-- the refusals of edits that run out of memory say so, and no other refusals do
 pub for_memory : (c : Change) → is_for_memory (memory_refusal c) ≡ true
 for_memory (insert_line number text) = refl
 for_memory (replace_line number text) = refl
@@ -99,7 +101,7 @@ for_memory (delete_event step key) = refl
 pub not_memory : (e m : Refusal) → is_for_memory m ≡ true → is_for_memory e ≡ false → e ≡ m → ⊥
 not_memory e m is other same = let never : true ≡ false = sym is ∙ ap is_for_memory (sym same) ∙ other in cc
 
--- what holds in any case holds where there is an error
+-- anything that holds in any case holds if there is an error
 pub on_err : {A E P : Type 0} (r : Result A E) → P → OnErr r P
 on_err (Ok x) h = tt
 on_err (Err e) h = h
@@ -113,7 +115,7 @@ pub ask_not_refused : (P : List ℕ → Type 0) (r : Result (List ℕ) Refusal) 
 ask_not_refused P (Ok bytes) h = refl
 ask_not_refused P (Err why) h = absurd h
 
--- a text is of spaces alone where nothing is left after them
+-- a text has only spaces if nothing is left after them
 pub blank_skipped : (text : List ℕ) → (length (skip_spaces text) == 0) ≡ list_all is_space text
 blank_skipped [] = refl
 blank_skipped (byte ∷ text) = by (is_space byte) (blank_skipped text)

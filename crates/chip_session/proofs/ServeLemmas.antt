@@ -1,4 +1,5 @@
--- From how far a script has been carried out to what a call of `serve` has read and written.
+-- From how far a script has been carried out to the bytes that a call of `serve` has read and
+-- written.
 use Rattle.std.proofs.Common.{◌≡◌, ◌⊎◌, inl, inr, ℕ, ◌+◌, ◌-◌, ◌<◌, ◌≤◌, List, [], ◌∷◌, ◌++◌, length, take, Option, Some, None, Ok, Err, refl, sym, ◌∙◌, ap, subst, append_assoc, arith}
 use Rattle.std.specs.Io.KnownBytes.{Keeps, Consumes, IsAtEnd}
 use Rattle.std.proofs.lemmas.List.{append-nil, length-append, take_all, take_at}
@@ -21,14 +22,14 @@ use Rattle.chip_session.proofs.ScriptLemmas.{transcript-append}
 use Rattle.chip_session.proofs.WriteLemmas.{keeps_known}
 use Rattle.chip_lang.specs.Meter.{one_more}
 
--- where the reader and the writer tell their bytes
+-- the case that the reader and the writer report their bytes
 pub exchanges : (had left held holds : Option (List ℕ)) {P : List ℕ → List ℕ → List ℕ → Type 0} →
     ((all before : List ℕ) → had ≡ Some all → held ≡ Some before → Exchanged all left before holds P) → Exchanges had left held holds P
 exchanges None left held holds f = tt
 exchanges (Some all) left None holds f = tt
 exchanges (Some all) left (Some before) holds f = f all before refl refl
 
--- what a reader that told its bytes has left
+-- the bytes that a reader has left, if it reports its bytes
 pub record Read (rest : List ℕ) (bytes : List ℕ) (left : Option (List ℕ)) : Type 0 where
   pub next : List ℕ
   pub left_is : left ≡ Some next
@@ -46,7 +47,7 @@ pub ended_known : (new : Option (List ℕ)) (rest : List ℕ) → new ≡ Some r
 ended_known None rest e h = cc
 ended_known (Some xs) rest e h = cc
 
--- the script so far, and the reader's rest
+-- the script so far, and the bytes that the reader has left
 pub record Underway (all : List ℕ) (left : Option (List ℕ)) (start : Session) (before : List ℕ) (c : Conversation) (holds : Option (List ℕ)) : Type 0 where
   pub given : List ℕ
   pub rest : List ℕ
@@ -90,7 +91,7 @@ served_end stop.OutOfMemory all given left start before holds e l h =
     }
 served_end stop.TooMuchInput all given left start before holds e l h = absurd h
 
--- the lines within the bounds, at either bound
+-- the lines within the bounds, when either bound is reached
 in_bounds : (done more : List ℕ) → WithinBounds done → length (complete_lines done) ≤ SCRIPT_LINES → (length done ≡ SCRIPT_BYTES) ⊎ (length (complete_lines done) ≡ SCRIPT_LINES) →
     lines_in_bounds (done ++ more) ≡ complete_lines done
 in_bounds done more w few (inl e) =
@@ -108,7 +109,7 @@ passes done [] at h = absurd (omega arith)
 passes done (x ∷ more) (inl e) h = inl (omega (arith, length-append done (x ∷ more)))
 passes done (x ∷ more) (inr e) h = inr (omega (arith, longer more done x))
 
--- what was given up
+-- the bytes read and written if the script was given up
 pub served_stop : (e : Stop) (all given rest : List ℕ) (left : Option (List ℕ)) (start : Session) (before : List ℕ) (holds : Option (List ℕ)) →
     all ≡ given ++ rest → left ≡ Some rest → Stopped e start before given holds → Exchanged all left before holds (Served (Err (fault_of e)) start)
 served_stop stop.WriterFailed all given rest left start before holds a l s =
@@ -158,7 +159,7 @@ served_stop stop.TooMuchInput all given rest left start before holds a l s =
       );
     }
 
--- a script that was given up comes of a source that opens, and the reader didn't fail
+-- if a script was given up, its source opens and the reader didn't fail
 pub opens_stop : (found : Option OpenError) (e : Stop) → found ≡ None → Opens found (Err (fault_of e))
 opens_stop found stop.WriterFailed h = h
 opens_stop found stop.OutOfMemory h = h
@@ -197,7 +198,7 @@ exchanged_given_up {all} {left} {start} {before} {c} {held} new holds stop u k a
     let e : r.next ≡ [] = ended_known new r.next r.left_is at_end in
     served_end stop all u.given new start before holds (u.read ∙ ap (λ l. u.given ++ l) (r.split ∙ e) ∙ append-nil u.given) (r.left_is ∙ ap Some e) (ends start before u.given u.reached)
 
--- one more piece
+-- one more piece of the script
 pub underway_piece : {all : List ℕ} {left : Option (List ℕ)} {start : Session} {before : List ℕ} {c : Conversation} {held : Option (List ℕ)} (next : Option (List ℕ)) (new : Conversation) (holds : Option (List ℕ)) (piece : List ℕ) →
     Underway all left start before c held → Consumes left next piece → Carries c held piece (Ok tt) new holds → Underway all next start before new holds
 underway_piece {all} {left} {start} {before} next new holds piece u k carries =

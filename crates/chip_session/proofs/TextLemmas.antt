@@ -5,14 +5,14 @@ use Rattle.std.proofs.lemmas.Bool.{cases_lt}
 use Rattle.std.proofs.lemmas.List.{append_assoc, drop-drop, get_or-set_other, get_or-set_same, length-append, length-take-le, take_at}
 use Rattle.hex.specs.Hex.{encode_with}
 
--- the digits of some first bytes stand before those of the others
+-- the digits of the first bytes come before those of the others
 digits_split : (t xs : List ℕ) (n : ℕ) → encode_with t (take n xs) ++ encode_with t (drop n xs) ≡ encode_with t xs
 unfolding encode_with
 digits_split t xs zero = refl
 digits_split t [] (suc n) = refl
 digits_split t (x ∷ xs) (suc n) = ap (λ l. slice_index t (x / 16) ∷ slice_index t (x % 16) ∷ l) (digits_split t xs n)
 
--- a block's digits are written behind those of the bytes before it
+-- the digits of a block are written after those of the bytes before it
 pub block_step : (t input output written back : List ℕ) (i e : ℕ) → i ≤ e → written ≡ encode_with t (between i e input) → length written ≡ 2 * (e - i) → 2 * i ≤ length output
     → take (2 * i) output ++ encode_with t (drop i input) ≡ encode_with t input
     → take (2 * e) (take (2 * i) output ++ (written ++ back)) ++ encode_with t (drop e input) ≡ encode_with t input

@@ -1,4 +1,4 @@
--- What a writer holds after one write upon another.
+-- The bytes that a writer holds after two writes.
 use Rattle.std.proofs.Common.{◌≡◌, ℕ, List, ◌++◌, take, drop, Option, Some, None, sym, ◌∙◌, ap, append_assoc}
 use Rattle.std.specs.Io.KnownBytes.{Keeps, Appends}
 use Rattle.std.proofs.KnownBytes.{Appends-trans}
@@ -18,7 +18,7 @@ keeps_known None b before e p = cc
 keeps_known (Some xs) None before e p = absurd p
 keeps_known (Some xs) (Some ys) before e p = ap Some p ∙ e
 
--- a front of the bytes was written, and the rest is left
+-- a front of the bytes has been written, and the rest is left
 pub record Written (held holds : Option (List ℕ)) (bytes rest : List ℕ) : Type 0 where
   pub front : List ℕ
   pub split : bytes ≡ front ++ rest

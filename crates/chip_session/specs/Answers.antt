@@ -1,5 +1,5 @@
--- The answer to each question, from the lines, the key events and the settings of the session alone
--- (own).
+-- The answer to each question, which depends only on the lines, the key events and the settings of
+-- the session (chosen by this project).
 use Rattle.std.specs.Prelude.{ℕ, ◌+◌, ◌*◌, Bool, false, List, [], ◌∷◌, ◌++◌, nat_lt, unwrap_or, if◌then◌else◌, codes, Option, Some, None, Result, Ok, Err}
 use Rattle.std.specs.List.{flat_map}
 use Rattle.std.specs.Fmt.{decimal, signed_decimal}
@@ -29,7 +29,7 @@ abbrev pub image_answer : Option (List ℕ) → Result (List ℕ) Refusal
 image_answer None = Err NoImage
 image_answer (Some bytes) = Ok (hex_line bytes)
 
--- a name, its value and its line
+-- a line for a name, with its value and the number of its line
 abbrev pub symbol_line : List ℕ × Symbol → List ℕ
 symbol_line named =
     named.0 ++ codes " " ++ signed_decimal named.1.value ++ codes " " ++ decimal named.1.line
@@ -38,7 +38,7 @@ symbol_line named =
 abbrev pub symbols_text : List (List ℕ × Symbol) → List ℕ
 symbols_text symbols = flat_map symbol_line symbols ++ full_stop
 
--- a line's number and its fault
+-- a line for a fault, with the number of the faulty line
 abbrev pub fault_line : ℕ × Fault → List ℕ
 fault_line numbered =
     decimal numbered.0 ++ codes " F" ++ decimal (number_of_fault numbered.1) ++ 10 ∷ []
@@ -49,7 +49,7 @@ faults_text faults = flat_map fault_line faults ++ full_stop
 abbrev pub listing_text : List ℕ → List ℕ
 listing_text listing = listing ++ full_stop
 
--- the step that a question is about
+-- the step that a question is about, if it is about one
 abbrev pub step_asked : Question → Option ℕ
 step_asked (Registers step) = Some step
 step_asked (Memory step at count) = Some step
@@ -57,21 +57,21 @@ step_asked (Screen step) = Some step
 step_asked (Disassembly step at count) = Some step
 step_asked _ = None
 
--- the bytes asked for pass the end of the memory
+-- whether the bytes asked for reach past the end of the memory
 abbrev pub asks_past_end : StateQuestion → Bool
 asks_past_end (state.Memory at count) = nat_lt MEMORY_BYTES (at + count)
 asks_past_end (state.Disassembly at count) = nat_lt MEMORY_BYTES (at + 2 * count)
 asks_past_end _ = false
 
--- what is asked of a state
+-- the answer to a question about a state
 abbrev pub state_answer : StateQuestion → State → List ℕ
 state_answer state.Registers s = registers_of s
 state_answer (state.Memory at count) s = memory_line s at count
 state_answer state.Screen s = screen_of s
 state_answer (state.Disassembly at count) s = disassembly_of s at count
 
--- the machine with this image after so many steps from step 0, under the keys and the settings of
--- the session
+-- the machine with this image after a number of steps from step 0, under the session's keys and
+-- settings
 unfoldable pub machine_at : Session → List ℕ → ℕ → State
 machine_at session image step =
     run step_of session.settings.rate (held session.keys)
@@ -81,7 +81,7 @@ machine_at session image step =
 abbrev pub machine_of : Session → ℕ → State
 machine_of session = machine_at session (unwrap_or (image_of session.lines) [])
 
--- the first refusal of a question about a step, if there is one
+-- the first refusal that applies to a question about a step, if there is one
 abbrev pub step_refusal : StateQuestion → ℕ → Option Refusal
 step_refusal asked step =
     if nat_lt last_step step then Some StepPastLast
@@ -92,7 +92,7 @@ abbrev pub unless_refused : Option Refusal → List ℕ → Result (List ℕ) Re
 unless_refused (Some why) bytes = Err why
 unless_refused None bytes = Ok bytes
 
--- the answer to a question about a step of the image's run
+-- the answer to a question about a step of the run of the image
 abbrev pub answer_at : Session → StateQuestion → ℕ → Option (List ℕ) → Result (List ℕ) Refusal
 answer_at session asked step None = Err NoImage
 answer_at session asked step (Some image) =

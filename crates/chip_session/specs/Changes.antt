@@ -1,4 +1,4 @@
--- The changes of the code, seen by the bytes that they hold (own).
+-- The changes of the code, as the bytes that they hold (chosen by this project).
 use Rattle.chip_session.specs.Session.{Change, insert_line, replace_line, delete_line, insert_event, replace_event, delete_event}
 use Rattle.chip_session.specs.declared.change.Change.{Change as Borrowed}
 use Rattle.chip_session.specs.declared.change.Change.TheVariants.{Insert, Replace, Delete, InsertKey, ReplaceKey, DeleteKey}

@@ -1,4 +1,4 @@
--- The commands of the code, seen by the bytes that they hold (own).
+-- The commands of the code, as the bytes that they hold (chosen by this project).
 use Rattle.std.specs.Prelude.{◌≡◌, Result, Ok, Err}
 use Rattle.chip_session.specs.Changes.{change_of}
 use Rattle.chip_session.specs.Commands.{Command, blank, change, ask}
@@ -11,7 +11,7 @@ command_view parsed.Blank = blank
 command_view (parsed.Change c) = change (change_of c)
 command_view (parsed.Ask question) = ask question
 
--- a reading of the code's is this one
+-- the code's reading of a line is the given one
 abbrev pub Reads : Result Parsed CommandFault → Result Command CommandFault → Type 0
 Reads (Ok command) reading = reading ≡ Ok (command_view command)
 Reads (Err fault) reading = reading ≡ Err fault

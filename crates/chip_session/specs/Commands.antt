@@ -1,4 +1,4 @@
--- The command that a line of a script spells (own).
+-- The command that a line of a script spells (chosen by this project).
 use Rattle.std.specs.Prelude.{ℕ, ◌&&◌, ◌==◌, not, Bool, true, false, List, [], ◌∷◌, ◌++◌, length, nat_lt, nat_le, Option, Some, None, Result, Ok, Err, if◌then◌else◌, codes}
 use Rattle.std.specs.Char.{is_digit}
 use Rattle.std.specs.Str.{bytes_eq}
@@ -23,19 +23,19 @@ abbrev pub skip_spaces : Text → Text
 skip_spaces [] = []
 skip_spaces (byte ∷ text) = if is_space byte then skip_spaces text else byte ∷ text
 
--- the number that one to `most` digits write in a base
+-- the number that one to `most` digits spell in a base
 abbrev pub numeral : ℕ → ℕ → Text → Option ℕ
 numeral base most digits =
     if nat_lt 0 (length digits) && nat_le (length digits) most
     && list_all (λ byte. is_digit byte base) digits then Some (digits_value base digits)
     else None
 
--- a number: 1 to 9 decimal digits, or `#` and 1 to 7 hexadecimal ones of either case
+-- a number: 1 to 9 decimal digits, or `#` and 1 to 7 hexadecimal digits of either case
 abbrev pub number_spelled : Text → Option ℕ
 number_spelled [] = None
 number_spelled (byte ∷ word) = if byte == 35 then numeral 16 7 word else numeral 10 9 (byte ∷ word)
 
--- the first word of what is left, and what follows the spaces after it
+-- the first word of the rest of a line, and the text after that word and its spaces
 abbrev pub first_word : Text → Text
 first_word operands = before_first is_space operands
 
@@ -45,7 +45,7 @@ next_words operands = skip_spaces (after_first is_space operands)
 abbrev pub is_empty : Text → Bool
 is_empty text = length text == 0
 
--- the number at the front
+-- the number at the start
 abbrev pub front_number : Text → Option ℕ
 front_number operands = number_spelled (first_word operands)
 
@@ -80,12 +80,12 @@ key_event operands =
     paired (front_number operands)
     (paired (front_number (next_words operands)) (key_state (next_words (next_words operands))))
 
--- what there is makes, or no command
+-- the command made from a value; without a value, the line is no command
 abbrev pub made : {A : Type 0} → (A → Command) → Option A → Result Command CommandFault
 made command None = Err Unknown
 made command (Some x) = Ok (command x)
 
--- What stands after the word of a command, and the command that it makes.
+-- The operands that may follow the word of a command, and the command that they make.
 pub data Syntax : Type 0 where
   nothing : Question → Syntax
   one : (ℕ → Command) → Syntax
@@ -93,10 +93,11 @@ pub data Syntax : Type 0 where
   three : (ℕ → ℕ → ℕ → Command) → Syntax
   -- a step, a key and its state
   event : (ℕ → ℕ → Bool → Command) → Syntax
-  -- a number, one space, and all that follows it
+  -- a number, one space, and the whole text after it
   line_text : (ℕ → Text → Command) → Syntax
 
--- the command that a shape makes of what follows the spaces after the word
+-- the command that operands of this shape make; the operands begin after the spaces that follow the
+-- word
 abbrev pub read_by : Syntax → Text → Result Command CommandFault
 read_by (nothing question) operands = if is_empty operands then Ok (ask question) else Err Unknown
 read_by (one command) operands = made command (one_number operands)
@@ -106,7 +107,7 @@ read_by (event command) operands = made (λ e. command e.0 e.1.0 e.1.1) (key_eve
 read_by (line_text command) operands =
     made (λ n. command n (after_first is_space operands)) (front_number operands)
 
--- a row for each command: its word, and what stands after it
+-- a row for each command: its word and its operands
 abbrev pub CommandRow : Type 0
 CommandRow = Text × Syntax
 
@@ -146,7 +147,7 @@ command_in [] word operands = Err Unknown
 command_in (row ∷ rows) word operands =
     if bytes_eq word row.0 then read_by row.1 operands else command_in rows word operands
 
--- the command of a first word, and of what follows the spaces after it
+-- the command for a first word and the text after that word and its spaces
 abbrev pub worded : Text → Text → Result Command CommandFault
 worded = command_in (line_edits ++ (key_edits ++ (source_questions ++ machine_questions)))
 

@@ -1,4 +1,5 @@
--- Which lines of a script a newline has ended (own). A script's lines are cut as a source's.
+-- The lines of a script that a newline has ended (chosen by this project). A script is split into
+-- lines in the same way as a source.
 use Rattle.std.specs.Prelude.{ℕ, List, [], ◌∷◌, map}
 use Rattle.std.specs.List.{slice_split}
 use Rattle.std.specs.Str.Lines.{strip_carriage_return}
@@ -15,10 +16,10 @@ last_part [] = []
 last_part (part ∷ []) = part
 last_part (part ∷ next ∷ parts) = last_part (next ∷ parts)
 
--- the complete lines: those that a newline ends
+-- the complete lines, each of which ends with a newline
 unfoldable pub complete_lines : List ℕ → List (List ℕ)
 complete_lines bytes = map strip_carriage_return (all_but_last (slice_split is_newline bytes))
 
--- what stands after the last newline
+-- the text after the last newline
 unfoldable pub unfinished_line : List ℕ → List ℕ
 unfinished_line bytes = last_part (slice_split is_newline bytes)

@@ -1,5 +1,5 @@
--- The picture of the screen at a step, from the lines, the key events and the settings of the session
--- alone (own).
+-- The picture of the screen at a step, which depends only on the lines, the key events and the
+-- settings of the session (chosen by this project).
 use Rattle.std.specs.Prelude.{ℕ, List, nat_lt, Option, Some, None, Result, Ok, Err, if◌then◌else◌}
 use Rattle.chip_asm.specs.Program.{image_of}
 use Rattle.chip_machine.specs.State.{State}

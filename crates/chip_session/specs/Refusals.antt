@@ -1,4 +1,4 @@
--- The codes of refusals (own).
+-- The codes of refusals (chosen by this project).
 use Rattle.std.specs.Prelude.{ℕ, Bool, true, false, List, codes}
 use Rattle.chip_asm.specs.declared.refusal.Refusal.{Refusal as SourceRefusal}
 use Rattle.chip_asm.specs.declared.refusal.Refusal.TheVariants as source
@@ -7,7 +7,7 @@ use Rattle.chip_replay.specs.declared.keys.KeyFault.TheVariants as key
 use Rattle.chip_session.specs.declared.refusal.Refusal.{Refusal}
 use Rattle.chip_session.specs.declared.refusal.Refusal.TheVariants as refusal
 
--- the code of a refused edit of a line; N10 and Q4 are never written
+-- the code of a refused edit of a line; the program never writes N10 or Q4
 abbrev pub source_code : SourceRefusal → List ℕ
 source_code source.NoSuchLine = codes "N1"
 source_code source.TextTooLong = codes "N2"
@@ -15,7 +15,7 @@ source_code source.TooManyLines = codes "N3"
 source_code source.LineBreak = codes "N4"
 source_code source.OutOfMemory = codes "N10"
 
--- that of a refused edit of a key event
+-- the code of a refused edit of a key event
 abbrev pub key_code : KeyFault → List ℕ
 key_code key.StepTooLarge = codes "N5"
 key_code key.NoSuchKey = codes "N6"
@@ -33,7 +33,7 @@ refusal_code refusal.StepPastLast = codes "Q2"
 refusal_code refusal.AddressPastEnd = codes "Q3"
 refusal_code refusal.AnswerMemory = codes "Q4"
 
--- memory ran out
+-- whether a refusal says that memory ran out
 abbrev pub is_for_memory : Refusal → Bool
 is_for_memory (refusal.Source source.OutOfMemory) = true
 is_for_memory (refusal.Keys key.OutOfMemory) = true

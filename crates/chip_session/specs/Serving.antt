@@ -1,4 +1,5 @@
--- What a call of `serve` reads and writes, for each way in which it ends (own).
+-- The bytes that a call of `serve` reads and writes, for each way in which it ends (chosen by this
+-- project).
 use Rattle.std.specs.Prelude.{◌≡◌, ◌⊎◌, ℕ, ◌<◌, ◌≤◌, List, [], ◌++◌, length, take, Option, Some, None, IfSome, Result, Ok, Err}
 use Rattle.chip_session.specs.declared.limits.TheConstants.{SCRIPT_BYTES, SCRIPT_LINES}
 use Rattle.chip_asm.specs.Lines.{lines_of}
@@ -11,45 +12,47 @@ use Rattle.chip_session.specs.declared.server.ServeError.{ServeError}
 use Rattle.chip_session.specs.declared.server.ServeError.TheVariants as fault
 use Rattle.chip_lang.specs.Meter.{one_more}
 
--- a script within the bounds of its bytes and its lines
+-- the script stays within the bounds on its bytes and its lines
 pub record WithinBounds (script : List ℕ) : Type 0 where
   pub bytes : length script ≤ SCRIPT_BYTES
   pub line_count : length (lines_of script) ≤ SCRIPT_LINES
 
--- a script past a bound
+-- the script passes one of the bounds
 abbrev pub PassesBound : List ℕ → Type 0
 PassesBound script = (SCRIPT_BYTES < length script) ⊎ (SCRIPT_LINES < length (lines_of script))
 
--- the complete lines among the first bytes, as many of both as a script has at most
+-- the complete lines among the first bytes; both counts are limited to the most that a script may
+-- have
 abbrev pub lines_in_bounds : List ℕ → List (List ℕ)
 lines_in_bounds script = take SCRIPT_LINES (complete_lines (take SCRIPT_BYTES script))
 
--- text begins with front
+-- `text` begins with `front`
 abbrev pub BeginsWith : List ℕ → List ℕ → Type 0
 BeginsWith text front = (back : List ℕ) × (text ≡ front ++ back)
 
--- Where the reader gave `given` and has `rest` left, this is what was written.
+-- The bytes written when the reader has given `given` and has `rest` left.
 abbrev pub Served : Result Unit ServeError → Session → List ℕ → List ℕ → List ℕ → Type 0
--- the reader has ended within the bounds: the whole transcript
+-- the reader has ended within the bounds: the whole transcript was written
 Served (Ok _) start given rest written =
     (rest ≡ []) × WithinBounds given × (written ≡ transcript_of start (lines_of given))
--- the source doesn't open: nothing, and nothing was read
+-- the source doesn't open: nothing was read or written
 Served (Err (fault.Source e)) start given rest written = (given ≡ []) × (written ≡ [])
--- the reader failed: the answers to all complete lines that were read
+-- the reader failed: the answers to all complete lines read were written
 Served (Err fault.ReaderFailed) start given rest written =
     WithinBounds given × (written ≡ transcript_of start (complete_lines given))
--- the writer failed: some front of the transcript
+-- the writer failed: some front of the transcript was written
 Served (Err fault.WriterFailed) start given rest written =
     BeginsWith (transcript_of start (lines_of (given ++ rest))) written
--- memory ran out: the answers to a number of first complete lines
+-- memory ran out: the answers to some number of the first complete lines were written
 Served (Err fault.OutOfMemory) start given rest written =
     (n : ℕ) × (written ≡ transcript_of start (take n (complete_lines given)))
--- more input than the bounds allow: the answers to the complete lines within them
+-- there is more input than the bounds allow: the answers to the complete lines within them were
+-- written
 Served (Err fault.TooMuchInput) start given rest written =
     PassesBound given × (written ≡ transcript_of start (lines_in_bounds given))
 
--- A reader that had `all` has `left` now, a writer that held `before` holds `holds` now, and P says
--- what was read, what is left to read and what was written.
+-- The reader had `all` before and has `left` now, the writer held `before` and holds `holds` now,
+-- and P relates the bytes read, the bytes left to read and the bytes written.
 pub record Exchanged (all : List ℕ) (left : Option (List ℕ)) (before : List ℕ)
     (holds : Option (List ℕ)) (P : List ℕ → List ℕ → List ℕ → Type 0) : Type 0 where
   pub given : List ℕ
@@ -60,13 +63,13 @@ pub record Exchanged (all : List ℕ) (left : Option (List ℕ)) (before : List 
   pub wrote : holds ≡ Some (before ++ written)
   pub outcome : P given rest written
 
--- What was read and written, where the reader and the writer tell their bytes.
+-- The bytes read and written, if the reader and the writer report their bytes.
 abbrev pub Exchanges : Option (List ℕ) → Option (List ℕ) → Option (List ℕ) → Option (List ℕ)
     → (List ℕ → List ℕ → List ℕ → Type 0) → Type 0
 Exchanges had left held holds P =
     IfSome had (λ all. IfSome held (λ before. Exchanged all left before holds P))
 
--- how many failures of the reader are counted after a call that ended so
+-- the failures of the reader and of the writer that are counted after a call with this result
 abbrev pub reader_failures : Result Unit ServeError → ℕ → ℕ
 reader_failures (Err fault.ReaderFailed) failures = one_more failures
 reader_failures _ failures = failures
@@ -75,13 +78,13 @@ abbrev pub writer_failures : Result Unit ServeError → ℕ → ℕ
 writer_failures (Err fault.WriterFailed) failures = one_more failures
 writer_failures _ failures = failures
 
--- a source fault is the source's own, or that memory ran out; anything else comes of a source that
--- opens
+-- a source fault is the fault of the source itself, or a lack of memory; after any other result,
+-- the source opens
 abbrev pub Opens : Option OpenError → Result Unit ServeError → Type 0
 Opens found (Err (fault.Source e)) = (e ≡ memory) ⊎ (found ≡ Some e)
 Opens found _ = found ≡ None
 
--- at a source that doesn't open, these facts hold
+-- these facts hold if the source doesn't open
 abbrev pub UnlessOpened : Result Unit ServeError → Type 0 → Type 0
 UnlessOpened (Err (fault.Source e)) P = P
 UnlessOpened _ P = Unit {0}

@@ -1,4 +1,5 @@
--- A session: the lines of the source and the key events as edited so far, and the settings (own).
+-- A session: the lines of the source and the key events as edited so far, and the settings (chosen
+-- by this project).
 use Rattle.std.specs.Prelude.{◌≡◌, ◌⊎◌, IsOk, ℕ, ◌-◌, Bool, List, length, insert, remove, slice_set, Option, Some, None, Result, Ok, Err}
 use Rattle.std.specs.FinMap as map
 use Rattle.chip_asm.specs.Edits.{insert_refusal, replace_refusal, delete_refusal}
@@ -24,7 +25,7 @@ pub record Session : Type 0 where
 abbrev pub session_with : List Text → Events → SessionSettings → Session
 session_with lines keys settings = record { lines = lines; keys = keys; settings = settings }
 
--- the session on a source that opens, without key events
+-- the session of a source that opens, without key events
 abbrev pub session_of : SessionSettings → List ℕ → Session
 session_of settings bytes = record { lines = lines_of bytes; keys = map.empty; settings = settings }
 
@@ -37,12 +38,12 @@ pub data Change : Type 0 where
   replace_event : (step key : ℕ) → Bool → Change
   delete_event : (step key : ℕ) → Change
 
--- the session with these lines, where the edit isn't refused
+-- the session with these lines, if the edit isn't refused
 abbrev pub with_lines : Session → Option SourceRefusal → List Text → Result Session Refusal
 with_lines session None lines = Ok (record session { lines = lines })
 with_lines session (Some why) lines = Err (Source why)
 
--- the session with these events, where the edit isn't refused
+-- the session with these events, if the edit isn't refused
 abbrev pub with_events : Session → Option KeyFault → Events → Result Session Refusal
 with_events session None events = Ok (record session { keys = events })
 with_events session (Some why) events = Err (Keys why)
@@ -72,20 +73,20 @@ edited session (delete_event step key) =
     with_events session (edit_fault session.keys step key)
     (map.remove session.keys (moment step key))
 
--- an edit that may need memory: all but those that change or delete an event
+-- an edit may need memory unless it replaces or deletes an event
 abbrev pub TakesMemory : Change → Type 0
 TakesMemory (replace_event step key down) = ⊥
 TakesMemory (delete_event step key) = ⊥
 TakesMemory change = Unit {0}
 
--- the refusal of an edit for which memory ran out
+-- the refusal of an edit that runs out of memory
 abbrev pub memory_refusal : Change → Refusal
 memory_refusal (insert_event step key down) = Keys no_event_memory
 memory_refusal (replace_event step key down) = Keys no_event_memory
 memory_refusal (delete_event step key) = Keys no_event_memory
 memory_refusal change = Source no_line_memory
 
--- why an edit is refused: the first refusal that applies, or that memory ran out where none does
+-- why an edit is refused: the first refusal that applies, or a lack of memory if none does
 abbrev pub IsRefused : Session → Change → Refusal → Type 0
 IsRefused session change e =
     (edited session change ≡ Err e)

@@ -1,4 +1,4 @@
--- The settings of a session (own).
+-- The settings of a session (chosen by this project).
 use Rattle.std.specs.Prelude.{ℕ, ◌<◌, ◌≤◌, ◌||◌, List, [], ◌∷◌, length, nat_lt, Option, Some, None, if◌then◌else◌}
 use Rattle.chip_machine.specs.declared.limits.TheConstants.{TAPE_BYTES}
 use Rattle.chip_machine.specs.Profile.{quirks}
@@ -8,37 +8,36 @@ use Rattle.chip_replay.specs.declared.limits.TheConstants.{LEAST_SPACING, MOST_R
 use Rattle.chip_session.specs.declared.settings.SetError.{SetError}
 use Rattle.chip_session.specs.declared.settings.SetError.TheVariants.{RateOutOfRange, TapeLength, SpacingOutOfRange}
 
--- how many steps there are to a tick of the timers, the bytes that stand for random ones, the
--- quirks of the machine, and how many steps lie between one checkpoint of its run and the next, on which no
--- answer depends
+-- the number of steps per tick of the timers, the bytes used as random bytes, the quirks of the
+-- machine, and the number of steps between two checkpoints of its run, on which no answer depends
 pub record SessionSettings : Type 0 where
   pub rate : ℕ
   pub tape : List ℕ
   pub quirks : Quirks
   pub spacing : ℕ
 
--- the settings of a rate and a tape where nothing else is said
+-- the settings with a rate and a tape, and the defaults for the rest
 abbrev pub settings_of : ℕ → List ℕ → SessionSettings
 settings_of rate tape =
     record { rate = rate; tape = tape; quirks = quirks Schip; spacing = LEAST_SPACING }
 
--- a number of steps to a tick
+-- an allowed number of steps per tick
 abbrev pub IsRate : ℕ → Type 0
 IsRate rate = (0 < rate) × (rate ≤ MOST_RATE)
 
--- the first reason why there are no such settings, if there is one
+-- the first reason why such settings aren't allowed, if there is one
 abbrev pub settings_fault : ℕ → List ℕ → Option SetError
 settings_fault rate tape =
     if nat_lt rate 1 || nat_lt MOST_RATE rate then Some RateOutOfRange
     else if nat_lt (length tape) 1 || nat_lt TAPE_BYTES (length tape) then Some TapeLength
     else None
 
--- why there is no such spacing, if there is a reason
+-- the reason why such a spacing isn't allowed, if there is one
 abbrev pub spacing_fault : ℕ → Option SetError
 spacing_fault spacing =
     if nat_lt spacing LEAST_SPACING || nat_lt MOST_SPACING spacing then Some SpacingOutOfRange
     else None
 
--- the settings of the program where its words set no other
+-- the settings of the program if its arguments set no others
 abbrev pub default_settings : SessionSettings
 default_settings = settings_of 10 (0 ∷ [])

@@ -1,4 +1,4 @@
--- Pieces of answers (own).
+-- Pieces of answers (chosen by this project).
 use Rattle.std.specs.Prelude.{ℕ, List, [], ◌∷◌, ◌++◌, codes}
 use Rattle.hex.specs.Hex.{encode_lower}
 
@@ -6,6 +6,6 @@ use Rattle.hex.specs.Hex.{encode_lower}
 abbrev pub hex_line : List ℕ → List ℕ
 hex_line bytes = encode_lower bytes ++ 10 ∷ []
 
--- the line that ends an answer of many lines
+-- the line that ends an answer of several lines
 abbrev pub full_stop : List ℕ
 full_stop = codes "." ++ 10 ∷ []

@@ -1,4 +1,4 @@
--- The reply to each line of a script, and the transcript of all (own).
+-- The reply to each line of a script, and the transcript of the script (chosen by this project).
 use Rattle.std.specs.Prelude.{◌≡◌, ◌⊎◌, ℕ, List, [], ◌∷◌, ◌++◌, Option, Some, None, Result, Ok, Err, codes}
 use Rattle.chip_session.specs.Session.{Text, Session, edited}
 use Rattle.chip_session.specs.Answers.{answer_to}
@@ -30,7 +30,7 @@ abbrev pub ask_reply : Result (List ℕ) Refusal → List ℕ
 ask_reply (Ok bytes) = bytes
 ask_reply (Err why) = refused (refusal_code why)
 
--- the answer to a command, or to a line that is none
+-- the answer to a command, or to a line that is not a command
 abbrev pub command_reply : Session → Result Command CommandFault → List ℕ
 command_reply session (Err fault) = refused (fault_code fault)
 command_reply session (Ok blank) = []
@@ -41,19 +41,19 @@ abbrev pub change_after : Session → Result Session Refusal → Session
 change_after session (Ok next) = next
 change_after session (Err why) = session
 
--- the session after a command: a refusal leaves it as it was
+-- the session after a command; a refused command leaves the session as it was
 abbrev pub command_after : Session → Result Command CommandFault → Session
 command_after session (Err fault) = session
 command_after session (Ok blank) = session
 command_after session (Ok (change c)) = change_after session (edited session c)
 command_after session (Ok (ask question)) = session
 
--- why an edit or a question is refused, where it is
+-- why an edit or a question is refused, if it is
 abbrev pub refusal_of : {A : Type 0} → Result A Refusal → Option Refused
 refusal_of (Ok _) = None
 refusal_of (Err refusal) = Some (why.Command refusal)
 
--- why a command is refused, or a line that is none
+-- why a command is refused, or why a line is not a command
 abbrev pub command_refusal : Session → Result Command CommandFault → Option Refused
 command_refusal session (Err fault) = Some (why.Line fault)
 command_refusal session (Ok blank) = None
@@ -66,7 +66,7 @@ reply session line = command_reply session (command_of line)
 unfoldable pub after : Session → Text → Session
 after session line = command_after session (command_of line)
 
--- where memory ran out at a line: the session is that before the line, or that after it
+-- if memory ran out at a line, the session is that before the line or that after it
 abbrev pub IsBeforeOrAfter : Session → Text → Session → Type 0
 IsBeforeOrAfter session line next = (next ≡ session) ⊎ (next ≡ after session line)
 
@@ -79,7 +79,7 @@ transcript_of session [] = []
 transcript_of session (line ∷ script) =
     reply session line ++ transcript_of (after session line) script
 
--- the session after them
+-- the session after the lines of a script
 abbrev pub session_after : Session → List Text → Session
 session_after session [] = session
 session_after session (line ∷ script) = session_after (after session line) script

@@ -1,4 +1,4 @@
--- What contracts see of a bench (own).
+-- A bench as contracts see it (chosen by this project).
 use Rattle.std.specs.Prelude.{ℕ, List}
 use Rattle.chip_lang.specs.declared.meter.Meter.{Meter}
 use Rattle.chip_asm.specs.Sources.{SourceValue}
@@ -6,8 +6,8 @@ use Rattle.chip_asm.specs.Program.{image_of}
 use Rattle.chip_session.specs.Session.{Session, Change, insert_line, replace_line, delete_line, insert_event, replace_event, delete_event}
 use Rattle.chip_session.specs.Kept.{KeptRun, session_on, FollowsImage, FollowsEvent}
 
--- the session; the work done on the source; the last image that the lines had, or the empty one; up
--- to which step the kept run is sound; and how many steps were made
+-- the session; the work done on the source; the last image that the lines had, or the empty one;
+-- the step up to which the kept run is sound; and the number of steps made
 pub record Workbench : Type 0 where
   pub session : Session
   pub work : Meter
@@ -15,7 +15,7 @@ pub record Workbench : Type 0 where
   pub reach : ℕ
   pub ran : ℕ
 
--- a bench of a source and of what is kept beside it
+-- a bench with a source and a kept run
 abbrev pub workbench : SourceValue → KeptRun → Workbench
 workbench source kept =
     record {
@@ -26,7 +26,7 @@ workbench source kept =
       ran = kept.ran;
     }
 
--- what a bench keeps beside its lines
+-- the kept run of a bench
 abbrev pub run_of : Workbench → KeptRun
 run_of bench =
     record {
@@ -37,11 +37,11 @@ run_of bench =
       ran = bench.ran;
     }
 
--- what an edit of the lines keeps of the run
+-- how much of the run an edit of the lines keeps
 abbrev pub FollowsLines : Workbench → Workbench → Type 0
 FollowsLines old new = FollowsImage (image_of new.session.lines) (run_of old) (run_of new)
 
--- what an edit keeps of the run
+-- how much of the run an edit keeps
 abbrev pub Follows : Change → Workbench → Workbench → Type 0
 Follows (insert_line number text) old new = FollowsLines old new
 Follows (replace_line number text) old new = FollowsLines old new

@@ -1,4 +1,4 @@
--- What was written of some bytes (own).
+-- How much of a text was written (chosen by this project).
 use Rattle.std.specs.Prelude.{◌≡◌, ℕ, List, Option}
 use Rattle.std.specs.Io.KnownBytes.{Appends}
 use Rattle.chip_lang.specs.Meter.{one_more}

@@ -11,7 +11,7 @@ use chip_lang::Fault;
 use chip_trace::push_decimal;
 use std::alloc::{AllocError, Global};
 
-// Room for a name of usual length, with its value and its line.
+// Room for a name of usual length, with its value and the number of its line.
 const SYMBOL_ROOM: usize = 24;
 
 /// Adds a line of bytes in lower case hexadecimal.
@@ -23,7 +23,8 @@ pub(crate) fn push_hex_line(text: &mut Vec<u8>, bytes: &[u8]) -> Result<(), Allo
     Ok(())
 }
 
-/// A line for each name, with its value and its line.
+/// Returns a line for each name, with its value and the number of its line. Fails only if memory
+/// runs out.
 pub fn symbols_answer(alloc: Global, source: &Source) -> Result<Vec<u8>, AllocError>
     ensures { IfOk result (λ text. text.items ≡ symbols_text (symbols_of source.now.lines)) }
 {
@@ -50,7 +51,7 @@ fn push_symbol(text: &mut Vec<u8>, name: &[u8], symbol: Symbol) -> Result<(), Al
     Ok(())
 }
 
-/// A line for each line with a fault.
+/// Returns a line for each line that has a fault. Fails only if memory runs out.
 pub fn faults_answer(alloc: Global, source: &Source) -> Result<Vec<u8>, AllocError>
     ensures { IfOk result (λ text. text.items ≡ faults_text (faults_of source.now.lines)) }
 {
@@ -79,7 +80,7 @@ fn push_fault(text: &mut Vec<u8>, line: usize, fault: Fault) -> Result<(), Alloc
     Ok(())
 }
 
-/// The listing, and a line with a full stop.
+/// Returns the listing, followed by a line with a full stop. Fails only if memory runs out.
 pub fn listing_answer(alloc: Global, source: &Source) -> Result<Vec<u8>, AllocError>
     ensures { IfOk result (λ text. text.items ≡ listing_text (listing_of source.now.lines)) }
 {

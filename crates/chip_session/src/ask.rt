@@ -15,7 +15,7 @@ use chip_machine::limits::MEMORY_BYTES;
 use chip_replay::LAST_STEP;
 use std::alloc::{AllocError, Global};
 
-/// Whether the bytes asked for pass the end of the memory.
+/// Whether the bytes asked for reach past the end of the memory.
 fn is_past_end(asked: StateQuestion) -> bool
     ensures { result ≡ asks_past_end asked }
 {
@@ -28,7 +28,7 @@ fn is_past_end(asked: StateQuestion) -> bool
     }
 }
 
-/// The first refusal of a question about a step, if there is one.
+/// The first refusal that applies to a question about a step, if there is one.
 fn step_refusal(asked: StateQuestion, step: u32) -> Option<Refusal>
     ensures { result ≡ step_refusal asked step }
 {
@@ -41,8 +41,8 @@ fn step_refusal(asked: StateQuestion, step: u32) -> Option<Refusal>
     }
 }
 
-/// The answer to a question about the machine at a step of the run of the image, where `out` was
-/// empty.
+/// Puts the answer to a question about the machine at a step of the image's run into `out`, which
+/// must be empty.
 fn answer_at(
     source: &Source,
     run: &mut ImageRun,
@@ -68,7 +68,7 @@ fn answer_at(
     }
 }
 
-/// The answer to a question, where `out` was empty.
+/// Puts the answer to a question into `out`, which must be empty.
 pub(crate) fn answer(
     alloc: Global,
     source: &Source,
@@ -98,7 +98,7 @@ pub(crate) fn answer(
     answer_at(source, run, asked, step, out)
 }
 
-/// The image in hexadecimal, where `out` was empty.
+/// Puts the image in hexadecimal into `out`, which must be empty.
 fn image_answer(source: &Source, out: &mut Vec<u8>) -> Result<(), Refusal>
     requires empty { out.old.items ≡ [] }
     ensures { IsAnswer (image_answer (image_of source.now.lines)) result out.new.items }
@@ -112,7 +112,7 @@ fn image_answer(source: &Source, out: &mut Vec<u8>) -> Result<(), Refusal>
     }
 }
 
-/// An answer that only memory can refuse.
+/// Moves a finished answer to `out`. Fails only if memory ran out.
 fn told(answer: Result<Vec<u8>, AllocError>, out: &mut Vec<u8>) -> Result<(), Refusal>
     ensures { (bytes : List ℕ) → IfOk answer (λ v. v.items ≡ bytes)
         → IsAnswer (Ok bytes) result out.new.items }

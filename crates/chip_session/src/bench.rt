@@ -1,4 +1,4 @@
-//! A session: edits of the source and of the key events, and questions about both.
+//! A session: edits of the source and of the key events, and questions about them.
 ghost use Rattle.std.specs.Prelude.{◌≡◌, ◌<◌, ◌≤◌, ◌⊎◌, [], false, is_none, max, Err, None, Some, Ok, OnOk, OnErr, IfOk, IfErr, length, unwrap_or};
 ghost use Rattle.std.specs.Str.Lines.{lines};
 ghost use Rattle.chip_replay.specs.declared.limits.TheConstants.{LAST_STEP};
@@ -36,11 +36,12 @@ use std::mem::swap;
 pub struct Bench {
     source: Source,
     run: ImageRun,
-    /// The room of the next answer. What it holds means nothing.
+    /// Scratch space for the next answer. Its contents have no meaning between calls.
     room: Vec<u8>,
 }
 
-// It goes by one call, and not part by part in each function that lets one go.
+// Dropping is one call. A derived `Drop` would be expanded, and proved, in every function that
+// drops a bench.
 impl Drop for Bench {
     fn drop(self) {
         let Bench {
@@ -67,11 +68,12 @@ impl Model for Bench {
 }
 
 impl Bench {
-    /// A session on a source. It opens unless one of its lines is one too many or too long.
+    /// Opens a session on a source. The source opens unless it has too many lines or a line that is
+    /// too long.
     ///
     /// # Errors
     ///
-    /// The first such line's fault, or that memory ran out.
+    /// The fault of the first such line, or a lack of memory.
     pub fn open(alloc: Global, source: &[u8], settings: Settings) -> Result<Self, OpenError>
         ensures ok { IfOk result (λ bench. (open_fault source.now ≡ None)
             × (bench.session ≡ session_of settings source.now)) }
@@ -99,7 +101,7 @@ impl Bench {
     ///
     /// # Errors
     ///
-    /// The first refusal that applies, or that memory ran out; the session is then as it was.
+    /// The first refusal that applies, or a lack of memory. The session is then as it was.
     pub fn apply(&mut self, alloc: Global, change: &Change<'_>) -> Result<(), Refusal>
         ensures ok { OnOk result (edited self.old.session (change_of change.now)
             ≡ Ok self.new.session) }
@@ -138,7 +140,7 @@ impl Bench {
     ///
     /// # Errors
     ///
-    /// The first refusal that applies, or that memory ran out; `out` is then as it was.
+    /// The first refusal that applies, or a lack of memory. `out` is then as it was.
     pub fn ask(
         &mut self,
         alloc: Global,
@@ -166,11 +168,11 @@ impl Bench {
         }
     }
 
-    /// The picture of the screen at a step.
+    /// Returns the picture of the screen at a step.
     ///
     /// # Errors
     ///
-    /// The first refusal that applies, or that memory ran out.
+    /// The first refusal that applies, or a lack of memory.
     pub fn picture(
         &mut self,
         alloc: Global,
@@ -189,7 +191,7 @@ impl Bench {
         picture_at(alloc, &self.source, &mut self.run, form, step)
     }
 
-    /// Adds some lines of a trace of the image's run to a text, as `Trace::push_lines`.
+    /// Adds lines of a trace of the image's run to a text, like `Trace::push_lines`.
     ///
     /// # Errors
     ///
@@ -210,7 +212,8 @@ impl Bench {
         self.run.push_trace(trace, text, most)
     }
 
-    /// The first difference between the lines of the image's run and those of another trace.
+    /// Returns the first difference between the lines of the image's run and those of another
+    /// trace.
     ///
     /// # Errors
     ///
@@ -245,21 +248,21 @@ impl Bench {
         self.run.quirks()
     }
 
-    /// What opening the source and all edits so far read and encoded.
+    /// The lines read and encoded by opening the source and by all edits so far.
     pub fn work(&self) -> Meter
         ensures { result ≡ self.now.work }
     {
         self.source.work()
     }
 
-    /// Up to which step the kept run is sound.
+    /// The step up to which the kept run is sound.
     pub fn reach(&self) -> u32
         ensures { result ≡ self.now.reach }
     {
         self.run.reach()
     }
 
-    /// How many steps were made so far. It stays at its greatest value.
+    /// The number of steps made so far. The count stops at its greatest value.
     pub fn ran(&self) -> u64
         ensures { result ≡ self.now.ran }
     {

@@ -3,16 +3,16 @@
 /// A change of one line, by the line's number from 1, or of one key event, by its step and key.
 #[derive(Clone, Copy)]
 pub enum Change<'a> {
-    /// Puts the text before that line, or after the last.
+    /// Inserts the text before that line, or after the last line.
     Insert { line: u32, text: &'a [u8] },
-    /// Puts the text in the place of that line.
+    /// Replaces that line by the text.
     Replace { line: u32, text: &'a [u8] },
     /// Deletes that line.
     Delete { line: u32 },
-    /// Adds an event: from that step on the key is down, or up.
+    /// Adds an event: from that step on, the key is down, or up.
     InsertKey { step: u32, key: u32, down: bool },
-    /// Changes what the event of that step and key says.
+    /// Changes the event of that step and key to down or up.
     ReplaceKey { step: u32, key: u32, down: bool },
-    /// Takes the event of that step and key out.
+    /// Deletes the event of that step and key.
     DeleteKey { step: u32, key: u32 },
 }

@@ -14,23 +14,23 @@ use crate::question::Question;
 /// A command of a script.
 #[derive(Clone, Copy)]
 pub enum Command<'a> {
-    /// A line that is empty, or of spaces alone.
+    /// A line that is empty or has only spaces.
     Blank,
     Change(Change<'a>),
     Ask(Question),
 }
 
-/// Why a line is not a command.
+/// The reason why a line is not a command.
 #[derive(Clone, Copy, PartialEq, Eq)]
 pub enum CommandFault {
-    /// C1: there is no such command, or its words don't fit.
+    /// C1: there is no such command, or its operands are wrong.
     Unknown,
     /// C2: the line has over `COMMAND_BYTES` bytes.
     TooLong,
 }
 
 impl CommandFault {
-    /// The code that `no` stands before.
+    /// The code that follows `no` in the answer.
     pub fn code(self) -> &'static [u8]
         ensures { result.now ≡ fault_code self }
     {
@@ -41,7 +41,7 @@ impl CommandFault {
     }
 }
 
-/// The command that a line of a script spells.
+/// Returns the command that a line of a script spells.
 ///
 /// # Errors
 ///
@@ -59,7 +59,7 @@ pub fn read_command(line: &[u8]) -> Result<Command<'_>, CommandFault>
     command_named(word, skip_spaces(rest))
 }
 
-// The command of a first word, and what follows the spaces after it.
+// The command for a first word and the text after that word and its spaces.
 #[tactic(auto, unfolding(crate::specs::Commands::line_edits))]
 fn command_named<'a>(word: &[u8], operands: &'a [u8]) -> Result<Command<'a>, CommandFault>
     ensures { Reads result (worded word.now operands.now) }
@@ -91,7 +91,7 @@ fn command_named<'a>(word: &[u8], operands: &'a [u8]) -> Result<Command<'a>, Com
     key_edit(word, operands)
 }
 
-// An edit of the key events, or a question, by its word.
+// An edit of the key events, or a question, for a first word.
 #[tactic(auto, unfolding(crate::specs::Commands::key_edits))]
 fn key_edit<'a>(word: &[u8], operands: &'a [u8]) -> Result<Command<'a>, CommandFault>
     ensures { Reads result
@@ -122,7 +122,7 @@ fn key_edit<'a>(word: &[u8], operands: &'a [u8]) -> Result<Command<'a>, CommandF
     source_question(word, operands)
 }
 
-// A question, by its word.
+// A question about the source or the machine, for a first word.
 #[tactic(auto, unfolding(crate::specs::Commands::source_questions))]
 fn source_question<'a>(word: &[u8], operands: &'a [u8]) -> Result<Command<'a>, CommandFault>
     ensures { Reads result
@@ -153,7 +153,7 @@ fn without_words<'a>(operands: &'a [u8], question: Question) -> Result<Command<'
     }
 }
 
-// A question about the machine, by its word.
+// A question about the machine, for a first word.
 #[tactic(auto, unfolding(crate::specs::Commands::machine_questions))]
 fn machine_question<'a>(word: &[u8], operands: &'a [u8]) -> Result<Command<'a>, CommandFault>
     ensures { Reads result (command_in machine_questions word.now operands.now) }
@@ -189,21 +189,21 @@ fn machine_question<'a>(word: &[u8], operands: &'a [u8]) -> Result<Command<'a>, 
     Err(CommandFault::Unknown)
 }
 
-// The number at the front.
+// The number at the start.
 fn front_number(operands: &[u8]) -> Option<u32>
     ensures { result ≡ front_number operands.now }
 {
     number_of(split_word(operands).0)
 }
 
-// What follows the spaces after the first word.
+// The text after the first word and the spaces that follow it.
 fn next_words(operands: &[u8]) -> &[u8]
     ensures { result.now ≡ next_words operands.now }
 {
     skip_spaces(after_word(operands))
 }
 
-// What follows the one space after the first word.
+// The text after the first word and the one space that follows it.
 fn after_word(operands: &[u8]) -> &[u8]
     ensures { result.now ≡ after_first is_space operands.now }
 {
@@ -277,7 +277,7 @@ fn is_blank(text: &[u8]) -> bool
     skip_spaces(text).is_empty()
 }
 
-// What stands before the first space, and what stands after it.
+// The text before the first space, and the text after it.
 fn split_word(text: &[u8]) -> (&[u8], &[u8])
     ensures word { result.0.now ≡ before_first is_space text.now }
     ensures rest { result.1.now ≡ after_first is_space text.now }
@@ -290,7 +290,7 @@ fn split_word(text: &[u8]) -> (&[u8], &[u8])
     }
 }
 
-// Where the first space stands, or the length where there is none.
+// The index of the first space, or the length if there is none.
 fn word_len(text: &[u8]) -> usize
     ensures value { result ≡ position_or_len is_space text.now }
     ensures within { result ≤ length text.now }
@@ -313,7 +313,7 @@ fn skip_spaces(text: &[u8]) -> &[u8]
     rest
 }
 
-/// The number that a word spells: 1 to 9 decimal digits, or `#` and 1 to 7 hexadecimal ones.
+/// The number that a word spells: 1 to 9 decimal digits, or `#` and 1 to 7 hexadecimal digits.
 pub fn number_of(word: &[u8]) -> Option<u32>
     ensures { result ≡ number_spelled word.now }
 {
@@ -323,7 +323,7 @@ pub fn number_of(word: &[u8]) -> Option<u32>
     }
 }
 
-// The number that one to `most` digits write in a base.
+// The number that one to `most` digits spell in a base.
 fn numeral(digits: &[u8], base: u32, most: usize) -> Option<u32>
     requires base { base ≤ 36 }
     requires room { base ^ most ≤ 2 ^ 32 }
@@ -336,7 +336,7 @@ fn numeral(digits: &[u8], base: u32, most: usize) -> Option<u32>
     value_of(digits, base)
 }
 
-// The number that digits write in a base, where all are digits of it.
+// The number that digits spell in a base, if all of them are digits of that base.
 fn value_of(digits: &[u8], base: u32) -> Option<u32>
     requires some { 1 ≤ base }
     requires room { base ^ length digits.now ≤ 2 ^ 32 }

@@ -7,7 +7,7 @@ ghost use Rattle.chip_session.specs.Tally.{failures_after_flush, failures_after_
 use std::io::{Read, Result, Write};
 use std::marker::Model;
 
-/// A reader or a writer, and how many of its calls failed.
+/// A reader or a writer, with the number of its calls that failed.
 #[derive(Drop)]
 pub struct Counted<T> {
     inner: T,
@@ -23,7 +23,7 @@ impl<T> Model for Counted<T> {
 }
 
 impl<T> Counted<T> {
-    /// The reader or writer, with no failure counted.
+    /// Wraps a reader or writer; no failure is counted yet.
     pub fn new(inner: T) -> Self
         ensures inner { result.inner ≡ inner }
         ensures failures { result.failures ≡ 0 }
@@ -38,7 +38,7 @@ impl<T> Counted<T> {
         &self.inner
     }
 
-    /// How many calls failed, which stays at the greatest `u64`.
+    /// The number of calls that failed. The count stops at the greatest `u64`.
     pub fn failures(&self) -> u64
         ensures { result ≡ self.now.failures }
     {
@@ -49,7 +49,7 @@ impl<T> Counted<T> {
 impl<R: Read> Read for Counted<R> {
     ghost remaining = { λ c. R.remaining c.inner };
 
-    /// One read of the inner reader. An error of any kind counts.
+    /// Reads once from the inner reader. An error of any kind counts as a failure.
     fn read(&mut self, buf: &mut [u8]) -> Result<usize>
         ensures bound { ReadsAtMost result buf.new }
         ensures bytes { ReadConsumes (R.remaining self.old.inner)
@@ -67,8 +67,8 @@ impl<R: Read> Read for Counted<R> {
 impl<W: Write> Write for Counted<W> {
     ghost contents = { λ c. W.contents c.inner };
 
-    /// One write to the inner writer. An error of any kind counts, and so does taking none of some
-    /// bytes.
+    /// Writes once to the inner writer. An error of any kind counts as a failure, and so does a
+    /// write that takes none of one or more bytes.
     fn write(&mut self, buf: &[u8]) -> Result<usize>
         ensures bound { WritesAtMost result buf.now }
         ensures bytes { WriteAppends (W.contents self.old.inner)
@@ -83,7 +83,7 @@ impl<W: Write> Write for Counted<W> {
         result
     }
 
-    /// One flush of the inner writer. An error of any kind counts.
+    /// Flushes the inner writer once. An error of any kind counts as a failure.
     fn flush(&mut self) -> Result<()>
         ensures bytes { Keeps (W.contents self.old.inner) (W.contents self.new.inner) }
         ensures failures { self.new.failures

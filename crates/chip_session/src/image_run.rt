@@ -26,16 +26,17 @@ use std::alloc::{AllocError, Global};
 use std::marker::Model;
 use std::ops::Range;
 
-/// The run of the last image that the lines had, or of the empty one, under the settings of the
-/// session and the key events as edited so far.
+/// The run of the last image that the lines had, or of the empty image, under the session's
+/// settings and the key events as edited so far.
 pub(crate) struct ImageRun {
     settings: Settings,
     replay: Replay<Machine>,
-    /// It has room for any image.
+    /// The last image, in a buffer with room for any image.
     last_image: Vec<u8>,
 }
 
-// It goes by one call, and not part by part in each function that lets one go.
+// Dropping is one call. A derived `Drop` would be expanded, and proved, in every function that
+// drops a run.
 impl Drop for ImageRun {
     fn drop(self) {
         let ImageRun {
@@ -62,7 +63,7 @@ impl Model for ImageRun {
         (vec_capacity r.last_image) };
 }
 
-/// How many bytes of two images are compared at once.
+/// The number of bytes of two images that are compared at once.
 const BLOCK: usize = 256;
 
 /// Whether two images agree in a block.
@@ -79,8 +80,8 @@ fn is_same_block(old: &[u8], new: &[u8], start: usize) -> bool
     same
 }
 
-/// The places outside of which two images agree, and `None` where they are the same. Only those
-/// that were written are compared, if they are known and both images have one length.
+/// Returns places outside which two images agree, or `None` if the images are the same. If the
+/// written places are known and both images have the same length, only those places are compared.
 fn changed_places(written: Option<Range<usize>>, old: &[u8], new: &[u8]) -> Option<Range<usize>>
     requires { IfSome written (λ places. AgreeOutside places.start places.end old.now new.now) }
     ensures places { MatchOption result (old.now ≡ new.now)
@@ -93,7 +94,8 @@ fn changed_places(written: Option<Range<usize>>, old: &[u8], new: &[u8]) -> Opti
     }
 }
 
-/// The places outside of which two images of one length agree, which agree outside some places.
+/// Returns places outside which two images agree, or `None` if they are the same. The images have
+/// the same length and agree outside the given places.
 fn changed_part(places: Range<usize>, old: &[u8], new: &[u8]) -> Option<Range<usize>>
     requires lengths { length old.now ≡ length new.now }
     requires alike { AgreeOutside places.start places.end old.now new.now }
@@ -110,7 +112,8 @@ fn changed_part(places: Range<usize>, old: &[u8], new: &[u8]) -> Option<Range<us
     }
 }
 
-/// The places outside of which two images agree of which nothing is known.
+/// Returns places outside which two images agree, or `None` if they are the same. Nothing is known
+/// about the images.
 fn changed_blocks(old: &[u8], new: &[u8]) -> Option<Range<usize>>
     ensures places { MatchOption result (old.now ≡ new.now)
         (λ places. AgreeOutside places.start places.end old.now new.now) }
@@ -132,7 +135,7 @@ fn changed_blocks(old: &[u8], new: &[u8]) -> Option<Range<usize>>
     if end == 0 { None } else { Some(first..end) }
 }
 
-/// Puts a new image in the place of an old one with the same bytes before a place.
+/// Replaces an old image by a new one that has the same bytes before the place `first`.
 #[tactic(auto, using(crate::proofs::SameParts::renewed))]
 fn copy_from(first: usize, old: &mut Vec<u8>, new: &[u8])
     requires start { first ≤ min (length old.old.items) (length new.now) }
@@ -142,12 +145,12 @@ fn copy_from(first: usize, old: &mut Vec<u8>, new: &[u8])
     ensures room { vec_capacity old.old ≤ vec_capacity old.new }
 {
     old.truncate(first);
-    // There is room for it.
+    // The old image has room for any image, so this can't fail.
     let _ = old.extend_from_slice(&new[first..]);
 }
 
 impl ImageRun {
-    /// The run of the empty image, without key events.
+    /// Returns the run of the empty image, without key events. Fails only if memory runs out.
     pub(crate) fn new(alloc: Global, settings: Settings) -> Result<Self, AllocError>
         ensures { IfOk result (λ run. run ≡ empty_run settings) }
     {
@@ -164,8 +167,8 @@ impl ImageRun {
         })
     }
 
-    /// Puts the image of the lines in the place of the last one. Where the lines have none, all
-    /// stays. It agrees with the last one outside the places that were written, if they are known.
+    /// Replaces the last image by the image of the lines. If the lines have no image, everything
+    /// stays. If the written places are known, the new image agrees with the last one outside them.
     pub(crate) fn follow(&mut self, written: Option<Range<usize>>, image: Option<&[u8]>)
         requires fits { IfSome image (λ bytes. length bytes.now ≤ IMAGE_BYTES) }
         requires alike { IfSome written (λ places. IfSome (option_copied image)
@@ -186,7 +189,7 @@ impl ImageRun {
         copy_from(first, &mut self.last_image, image);
     }
 
-    /// Adds a key event, as `Replay::insert_key`.
+    /// Adds a key event, like `Replay::insert_key`.
     pub(crate) fn insert_key(&mut self, step: u32, key: u32, down: bool) -> Result<(), KeyFault>
         ensures fault { MatchOption (insert_fault self.old.keys step key)
             (IsOkUnless result KeyFault.OutOfMemory) (λ fault. result ≡ Err fault) }
@@ -197,7 +200,7 @@ impl ImageRun {
         self.replay.insert_key(step, key, down)
     }
 
-    /// Changes what a key event says, as `Replay::replace_key`.
+    /// Changes a key event to down or up, like `Replay::replace_key`.
     pub(crate) fn replace_key(&mut self, step: u32, key: u32, down: bool) -> Result<(), KeyFault>
         ensures fault { MatchOption (edit_fault self.old.keys step key)
             (result ≡ Ok tt) (λ fault. result ≡ Err fault) }
@@ -208,7 +211,7 @@ impl ImageRun {
         self.replay.replace_key(step, key, down)
     }
 
-    /// Deletes a key event, as `Replay::delete_key`.
+    /// Deletes a key event, like `Replay::delete_key`.
     pub(crate) fn delete_key(&mut self, step: u32, key: u32) -> Result<(), KeyFault>
         ensures fault { MatchOption (edit_fault self.old.keys step key)
             (result ≡ Ok tt) (λ fault. result ≡ Err fault) }
@@ -219,7 +222,7 @@ impl ImageRun {
         self.replay.delete_key(step, key)
     }
 
-    /// Adds what is asked of the machine at a step to an answer that is empty.
+    /// Puts the answer to a question about the machine at a step into an empty text.
     ///
     /// # Errors
     ///
@@ -244,7 +247,7 @@ impl ImageRun {
         }
     }
 
-    /// The picture of the screen at a step.
+    /// Returns the picture of the screen at a step.
     ///
     /// # Errors
     ///
@@ -267,7 +270,7 @@ impl ImageRun {
         }
     }
 
-    /// Adds some lines of a trace of the run to a text, as `Trace::push_lines`.
+    /// Adds lines of a trace of the run to a text, like `Trace::push_lines`.
     ///
     /// # Errors
     ///
@@ -287,7 +290,7 @@ impl ImageRun {
         trace.push_lines(&mut self.replay, text, most)
     }
 
-    /// The first difference between the lines of the run and those of another trace.
+    /// Returns the first difference between the lines of the run and those of another trace.
     ///
     /// # Errors
     ///
@@ -314,14 +317,14 @@ impl ImageRun {
         self.settings.quirks()
     }
 
-    /// Up to which step the run is sound.
+    /// The step up to which the run is sound.
     pub(crate) fn reach(&self) -> u32
         ensures { result ≡ self.now.reach }
     {
         self.replay.reach()
     }
 
-    /// How many steps were made so far. It stays at its greatest value.
+    /// The number of steps made so far. The count stops at its greatest value.
     pub(crate) fn ran(&self) -> u64
         ensures { result ≡ self.now.ran }
     {

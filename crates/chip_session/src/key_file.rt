@@ -12,10 +12,10 @@ use crate::refusal::Refusal;
 use chip_files::{first_line, key_command};
 use std::alloc::{AllocError, Global};
 
-/// Why the key events of a file can't be made.
+/// The reason why the key events of a file can't be made.
 #[derive(Clone, Copy)]
 pub enum KeyFileError {
-    /// The line of that number, from 1, is refused with that code.
+    /// The line with that number, counted from 1, is refused with that code.
     Line(usize, &'static [u8]),
     OutOfMemory,
 }
@@ -28,14 +28,13 @@ impl From<AllocError> for KeyFileError {
     }
 }
 
-/// Makes the key events of a file, one after another: a line `S K down` or `S K up` does what
-/// `kins S K down` or `kins S K up` does in a script. K may be a letter A to F too. A semicolon begins
-/// a comment, and a line may be blank.
+/// Makes the key events of a file, one after another. A line `S K down` or `S K up` does the same
+/// as the command `kins S K down` or `kins S K up` of a script, but K may also be a letter A to F.
+/// A semicolon begins a comment, and a line may be blank.
 ///
 /// # Errors
 ///
-/// The first line that is refused, or that memory ran out; the events of the lines before it are
-/// made.
+/// The first refused line, or a lack of memory. The events of the lines before it are made.
 pub fn insert_keys(alloc: Global, bench: &mut Bench, file: &[u8]) -> Result<(), KeyFileError>
     ensures none { OnOk result (key_fault bench.old.session file.now ≡ None) }
     ensures session { OnOk result (bench.new.session ≡ session_under bench.old.session file.now) }
@@ -54,7 +53,7 @@ pub fn insert_keys(alloc: Global, bench: &mut Bench, file: &[u8]) -> Result<(), 
     Ok(())
 }
 
-// Makes the event of a line, or answers the code of why it is refused.
+// Makes the event of a line, or returns the code of its refusal.
 fn insert_key(
     alloc: Global,
     bench: &mut Bench,
@@ -69,7 +68,7 @@ fn insert_key(
     make_change(alloc, bench, &command)
 }
 
-// Carries out a line of a script that asks nothing, or answers the code of why it is refused.
+// Carries out a line of a script that asks no question, or returns the code of its refusal.
 #[tactic(auto, unfolding(crate::specs::KeyFile::refusal_to, crate::specs::Transcript::after))]
 fn make_change(
     alloc: Global,

@@ -1,10 +1,10 @@
-//! The limits of a script, each under one name. Those of settings stand beside them.
+//! The limits of a script, each under one name. The limits of settings are defined in settings.rt.
 
-/// How many bytes a line of a script has at most.
+/// The greatest number of bytes of a script's line.
 pub const COMMAND_BYTES: usize = 400;
 
-/// How many bytes a script has at most.
+/// The greatest number of bytes of a script.
 pub const SCRIPT_BYTES: u32 = 50_000_000;
 
-/// How many lines a script has at most.
+/// The greatest number of lines of a script.
 pub const SCRIPT_LINES: u32 = 100_000;

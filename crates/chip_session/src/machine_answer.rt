@@ -14,16 +14,16 @@ use chip_machine::{Machine, Stop};
 use chip_trace::{byte_digits, push_decimal, push_spaced_bytes, row_bytes, word_digits};
 use std::alloc::AllocError;
 
-// Room for the answer about a machine's registers, where few calls are open.
+// Room for the answer about a machine's registers with a few open calls.
 const REGISTERS_ROOM: usize = 256;
 
-// The length of a row's line: its number and 32 digits.
+// The length of the line of a row: its number and 32 digits.
 const ROW_LEN: usize = 36;
 
 // Room for 64 rows of the screen.
 const SCREEN_ROOM: usize = 64 * ROW_LEN + 16;
 
-/// Adds what is asked of a machine's state to an answer.
+/// Adds the answer to a question about a machine's state to a text.
 pub(crate) fn push_state(
     answer: &mut Vec<u8>,
     machine: &Machine,
@@ -44,7 +44,7 @@ pub(crate) fn push_state(
     }
 }
 
-/// Adds the registers, timers, flags and frames of a machine, in three lines.
+/// Adds the registers, timers, flags and open calls of a machine, in three lines.
 #[tactic(auto, unfolding(crate::specs::MachineAnswers::registers_of))]
 pub(crate) fn push_registers(answer: &mut Vec<u8>, machine: &Machine) -> Result<(), AllocError>
     ensures { OnOk result (answer.new.items ≡ answer.old.items ++ registers_of machine.now) }
@@ -136,7 +136,7 @@ fn push_state_name(answer: &mut Vec<u8>, stopped: Option<Stop>) -> Result<(), Al
     }
 }
 
-/// Adds so many bytes from an address, in hexadecimal.
+/// Adds `count` bytes from an address on, in hexadecimal.
 #[tactic(auto, unfolding(crate::specs::MachineAnswers::memory_line))]
 pub(crate) fn push_memory(
     answer: &mut Vec<u8>,
@@ -156,7 +156,8 @@ pub(crate) fn push_memory(
     Ok(())
 }
 
-/// Adds so many words from an address: for each its address, the word, and its source text.
+/// Adds a line for each of `count` words from an address on: its address, the word, and its source
+/// text.
 #[tactic(auto, unfolding(crate::specs::MachineAnswers::disassembly_of))]
 pub(crate) fn push_disassembly(
     answer: &mut Vec<u8>,
@@ -197,7 +198,7 @@ fn word_at(machine: &Machine, at: u16) -> u16
     u16::from(memory[start]) * 256 + u16::from(memory[start + 1])
 }
 
-/// Adds the size of the screen, and each row with a lit pixel.
+/// Adds the size of the screen, and a line for each row with a lit pixel.
 #[tactic(auto, unfolding(crate::specs::MachineAnswers::screen_of))]
 pub(crate) fn push_screen(answer: &mut Vec<u8>, machine: &Machine) -> Result<(), AllocError>
     ensures { OnOk result (answer.new.items ≡ answer.old.items ++ screen_of machine.now) }
@@ -234,8 +235,9 @@ fn push_row_line(answer: &mut Vec<u8>, machine: &Machine, row: usize) -> Result<
     Ok(())
 }
 
-/// Writes the line of a row over spaces, in place, since bytes that were just written elsewhere are
-/// slow to copy: its number in two digits, a space, and its points in hexadecimal.
+/// Writes the line of a row over spaces: its number in two digits, a space, and its pixels in
+/// hexadecimal. The line is written in place, because copying bytes that were just written
+/// elsewhere is slow.
 fn write_row(row: u8, points: &[u8], line: &mut [u8])
     requires row { row < 64 }
     requires points { length points.now ≡ 16 }

@@ -1,25 +1,25 @@
-//! Who hears how a session goes, beside the transcript.
+//! The observer of a session, which follows it beside the transcript.
 
 use crate::bench::Bench;
 use crate::refusal::Refused;
 
-/// Somebody who hears how a session goes, such as one who types its script. Nothing that is read,
-/// written or kept depends on what is done here.
+/// An observer of a session, such as the terminal at which a user types the script. Nothing that is
+/// read, written or kept depends on what an observer does.
 pub trait Observer {
     /// The source has opened.
     fn opened(&mut self, bench: &Bench);
 
-    /// The next line of the script is waited for, and no byte of it is there yet.
+    /// The session waits for the next line of the script, and no byte of that line is there yet.
     fn awaits(&mut self);
 
-    /// The command of a line was refused, and the answer to it is written.
+    /// The command of a line was refused, and its answer has been written.
     fn refused(&mut self, bench: &Bench, line: &[u8], why: Refused);
 
     /// The script has no more lines.
     fn ended(&mut self);
 }
 
-/// An observer who takes no notice.
+/// An observer that does nothing.
 #[derive(Clone, Copy)]
 pub struct Nobody;
 

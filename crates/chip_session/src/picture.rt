@@ -17,22 +17,22 @@ use chip_views::{
 };
 use std::alloc::{AllocError, Global};
 
-/// How a picture of the screen is written.
+/// The format in which a picture of the screen is written.
 #[derive(Clone, Copy, PartialEq, Eq)]
 pub enum PictureForm {
-    /// As text, two pixels to a character.
+    /// Text, with two pixels per character.
     Text(Letters),
-    /// As a portable bitmap.
+    /// A portable bitmap.
     Bitmap,
-    /// As a PNG file.
+    /// A PNG file.
     Png,
-    /// As a portable bitmap with so many pixels in a row and in a column for each of the screen.
+    /// A portable bitmap with this many pixels across and down for each pixel of the screen.
     ScaledBitmap(u32),
-    /// As a PNG file with so many.
+    /// A PNG file with this many pixels across and down for each pixel of the screen.
     ScaledPng(u32),
 }
 
-/// The picture of a machine's screen.
+/// Returns the picture of a machine's screen.
 pub(crate) fn picture(
     alloc: Global,
     machine: &Machine,
@@ -49,7 +49,7 @@ pub(crate) fn picture(
     }
 }
 
-/// The picture of the screen at a step of the run of the image.
+/// Returns the picture of the screen at a step of the image's run.
 pub(crate) fn picture_at(
     alloc: Global,
     source: &Source,

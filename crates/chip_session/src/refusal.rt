@@ -8,7 +8,7 @@ use crate::command::CommandFault;
 use chip_replay::KeyFault;
 use thiserror::Error;
 
-/// Why an edit or a question was refused.
+/// The reason why an edit or a question was refused.
 #[derive(Clone, Copy, Debug, PartialEq, Eq, Error)]
 pub enum Refusal {
     /// N1 to N4, N10: an edit of a line.
@@ -17,13 +17,13 @@ pub enum Refusal {
     /// N5 to N9, N10: an edit of a key event.
     #[error("{0}")]
     Keys(KeyFault),
-    /// Q1: there is no image, since some line has a fault.
+    /// Q1: there is no image, because some line has a fault.
     #[error("no image")]
     NoImage,
     /// Q2: the step is above `LAST_STEP`.
     #[error("past the last step")]
     StepPastLast,
-    /// Q3: the bytes pass the end of the memory.
+    /// Q3: the bytes reach past the end of the memory.
     #[error("past the end of the memory")]
     AddressPastEnd,
     /// Q4: memory for the answer ran out.
@@ -32,7 +32,7 @@ pub enum Refusal {
 }
 
 impl Refusal {
-    /// The code that `no` stands before.
+    /// The code that follows `no` in the answer.
     pub fn code(self) -> &'static [u8]
         ensures { result.now ≡ refusal_code self }
     {
@@ -46,7 +46,7 @@ impl Refusal {
         }
     }
 
-    /// Whether memory ran out.
+    /// Whether the refusal says that memory ran out.
     pub(crate) fn is_for_memory(self) -> bool
         ensures { result ≡ is_for_memory self }
     {
@@ -86,17 +86,17 @@ fn key_code(why: KeyFault) -> &'static [u8]
     }
 }
 
-/// Why a line of a script is refused.
+/// The reason why a line of a script is refused.
 #[derive(Clone, Copy, PartialEq, Eq)]
 pub enum Refused {
-    /// It is not a command.
+    /// The line is not a command.
     Line(CommandFault),
-    /// Its edit or its question is refused.
+    /// The edit or question of the line is refused.
     Command(Refusal),
 }
 
 impl Refused {
-    /// The code that `no` stands before.
+    /// The code that follows `no` in the answer.
     pub fn code(self) -> &'static [u8]
         ensures { result.now ≡ refused_code self }
     {

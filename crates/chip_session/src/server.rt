@@ -1,4 +1,4 @@
-//! A script, carried out as it is read.
+//! A script that is carried out while it is read.
 ghost use Rattle.std.specs.Prelude.{◌≡◌, ◌≢◌, ℕ, List, take, ◌+◌, ◌≤◌, ◌<◌, Ok, Err, Some, None, [], ◌++◌, length, OnOk, OnErr, IfOk, IfErr};
 ghost use Rattle.std.specs.Str.Lines.{strip_carriage_return};
 ghost use Rattle.chip_asm.specs.Lines.{open_fault};
@@ -24,11 +24,11 @@ use thiserror::Error;
 
 const PIECE_LEN: usize = 16384;
 
-// A line that is no longer than it may be can have a carriage return after it, and one byte more
-// shows that it is too long.
+// The number of bytes kept of a line: the most that a line may have, one for a carriage return
+// after it, and one that shows that the line is too long.
 const KEPT_LEN: usize = COMMAND_BYTES + 2;
 
-/// Why a script wasn't carried out to its end.
+/// The reason why a script wasn't carried out to its end.
 #[derive(Clone, Copy, Debug, PartialEq, Eq, Error)]
 pub enum ServeError {
     /// The source doesn't open.
@@ -37,7 +37,7 @@ pub enum ServeError {
     /// E1: a read failed.
     #[error("input fault")]
     ReaderFailed,
-    /// E2: a write failed, or took none of some bytes.
+    /// E2: a write failed, or took none of one or more bytes.
     #[error("output fault")]
     WriterFailed,
     /// E3: memory ran out.
@@ -48,11 +48,11 @@ pub enum ServeError {
     TooMuchInput,
 }
 
-/// A write failed, or took none of some bytes.
+/// The error that a write failed, or took none of one or more bytes.
 #[derive(Clone, Copy)]
 pub struct WriteFailed;
 
-// Why the rest of a script is given up.
+// The reason why the rest of a script is given up.
 #[derive(Clone, Copy)]
 pub(crate) enum Stop {
     WriterFailed,
@@ -80,13 +80,13 @@ impl From<Stop> for ServeError {
     }
 }
 
-/// Opens the source, and then carries out the script that the reader gives: the answer to each line
+/// Opens the source, and then carries out the script that the reader gives. The answer to each line
 /// is written before the next line is taken.
 ///
 /// # Errors
 ///
-/// The source doesn't open, and nothing was read or written; the reader or the writer failed, which
-/// is never tried again; memory ran out; or the script has over `SCRIPT_BYTES` bytes or
+/// The source doesn't open, and nothing was read or written; the reader or the writer failed, and
+/// the call isn't tried again; memory ran out; or the script has more than `SCRIPT_BYTES` bytes or
 /// `SCRIPT_LINES` lines.
 pub fn serve<R: Read, W: Write>(
     alloc: Global,
@@ -95,12 +95,13 @@ pub fn serve<R: Read, W: Write>(
     reader: &mut Counted<R>,
     writer: &mut Counted<W>,
 ) -> Result<(), ServeError>
-    // What was written is the transcript, whole on `Ok`, and else as far as `Served` says.
+    // The transcript was written, completely if the result is `Ok`, and otherwise as far as
+    // `Served` says.
     ensures transcript { Exchanges (R.remaining reader.old.inner) (R.remaining reader.new.inner)
         (W.contents writer.old.inner) (W.contents writer.new.inner)
         (Served result (session_of settings source.now)) }
     ensures source { Opens (open_fault source.now) result }
-    // Where the source doesn't open, nothing was touched.
+    // If the source doesn't open, neither the reader nor the writer was touched.
     ensures untouched { UnlessOpened result ((reader.new ≡ reader.old)
         × (writer.new ≡ writer.old)) }
     ensures reader_failed { reader.new.failures ≡ reader_failures result reader.old.failures }
@@ -109,12 +110,12 @@ pub fn serve<R: Read, W: Write>(
     serve_observed(alloc, source, settings, reader, writer, &mut Nobody)
 }
 
-/// Does what `serve` does, and tells the observer how it goes. What is read, written and answered
-/// doesn't depend on the observer.
+/// Does the same as `serve`, and reports to the observer how the session goes. What is read,
+/// written and returned doesn't depend on the observer.
 ///
 /// # Errors
 ///
-/// As those of `serve`.
+/// The errors of `serve`.
 pub fn serve_observed<R: Read, W: Write, O: Observer>(
     alloc: Global,
     source: &[u8],
@@ -176,11 +177,11 @@ fn converse<R: Read, W: Write, O: Observer>(
     }
 }
 
-// A session, and the script's line that isn't complete yet.
+// A session, and the start of the script's line that isn't complete yet.
 #[derive(Drop)]
 struct Conversation {
     bench: Bench,
-    // the line's first bytes, as many as tell a line that is too long
+    // the line's first bytes, up to the number that shows that it is too long
     line: Vec<u8>,
     answer: Vec<u8>,
     complete: u32,
@@ -203,14 +204,14 @@ impl Conversation {
         }
     }
 
-    // Says that the next line is waited for, where none of its bytes is there.
+    // Reports that the session waits for the next line, if none of its bytes is there.
     fn tell_wait<O: Observer>(&self, observer: &mut O) {
         if self.line.is_empty() {
             observer.awaits();
         }
     }
 
-    // Takes the next bytes, as far as the bound on bytes allows.
+    // Takes the next bytes up to the bound on bytes; fails if there are more.
     fn take_piece<W: Write, O: Observer>(
         &mut self,
         alloc: Global,
@@ -254,7 +255,8 @@ impl Conversation {
         Ok(())
     }
 
-    // Takes the bytes up to the first newline, or all of them, and answers how many these are.
+    // Takes the bytes up to and including the first newline, or all if there is none, and returns
+    // their number.
     fn take_line<W: Write, O: Observer>(
         &mut self,
         alloc: Global,
@@ -285,7 +287,7 @@ impl Conversation {
         Ok(len + 1)
     }
 
-    // Keeps the next bytes of a line, as far as it isn't too long.
+    // Keeps the next bytes of a line, unless it is too long already.
     fn keep(&mut self, part: &[u8]) -> Result<(), AllocError>
         requires { self.old.taken + length part.now ≤ SCRIPT_BYTES }
         ensures line { OnOk result (length self.old.line.items ≤ KEPT_LEN
@@ -300,8 +302,8 @@ impl Conversation {
         Ok(())
     }
 
-    // Answers the line that a newline has just ended, of which these are the last bytes. A line
-    // that stands whole in its piece isn't copied.
+    // Answers the line that a newline has just ended; `part` has its last bytes. A line that lies
+    // in one piece isn't copied.
     fn complete_line<W: Write, O: Observer>(
         &mut self,
         alloc: Global,
@@ -330,7 +332,7 @@ impl Conversation {
         self.answer_kept(alloc, writer, observer)
     }
 
-    // Answers a line that stands whole in its piece, where no bytes of it are kept.
+    // Answers a line that lies in one piece, when no bytes of a line are kept.
     fn answer_whole<W: Write, O: Observer>(
         &mut self,
         alloc: Global,
@@ -364,7 +366,7 @@ impl Conversation {
         Ok(())
     }
 
-    // Answers the line of which all bytes are kept, and keeps none any more.
+    // Answers the line whose bytes are all kept, and then clears them.
     fn answer_kept<W: Write, O: Observer>(
         &mut self,
         alloc: Global,
@@ -422,7 +424,7 @@ impl Conversation {
     }
 }
 
-// Carries out one line of a script, writes the answer to it, and says where it is refused.
+// Carries out one line of a script, writes the answer to it, and reports a refusal to the observer.
 fn say<W: Write, O: Observer>(
     alloc: Global,
     bench: &mut Bench,
@@ -444,7 +446,7 @@ fn say<W: Write, O: Observer>(
     Ok(())
 }
 
-// Writes all the bytes. Any error ends it, and so does a write that takes none.
+// Writes all the bytes. Any error ends the writing, and so does a write that takes none.
 fn write_whole<W: Write>(writer: &mut Counted<W>, bytes: &[u8]) -> Result<(), Stop>
     ensures said { Says result (W.contents writer.old.inner)
         (W.contents writer.new.inner) bytes.now }
@@ -461,11 +463,11 @@ fn write_whole<W: Write>(writer: &mut Counted<W>, bytes: &[u8]) -> Result<(), St
     Ok(())
 }
 
-/// Writes all the bytes. Any error ends it, and so does a write that takes none.
+/// Writes all the bytes. Any error ends the writing, and so does a write that takes none.
 ///
 /// # Errors
 ///
-/// A write failed, after some front of the bytes.
+/// A write failed, after some front of the bytes was written.
 pub fn write_all<W: Write>(writer: &mut Counted<W>, bytes: &[u8]) -> Result<(), WriteFailed>
     ensures ok { OnOk result (Writes W.contents writer.old writer.new bytes.now) }
     ensures err { OnErr result (Breaks W.contents writer.old writer.new bytes.now) }
@@ -476,12 +478,12 @@ pub fn write_all<W: Write>(writer: &mut Counted<W>, bytes: &[u8]) -> Result<(), 
     }
 }
 
-/// Puts the answer to one line of a script in the place of `answer`, and tells why the line is
-/// refused, where it is.
+/// Replaces the contents of `answer` by the answer to one line of a script. Returns why the line is
+/// refused, or `None` if it isn't.
 ///
 /// # Errors
 ///
-/// Out of memory; the session is then as after the line, or as before it.
+/// Out of memory. The session is then as after the line, or as before it.
 pub fn respond(
     alloc: Global,
     bench: &mut Bench,
@@ -519,7 +521,7 @@ pub fn respond(
     refuse_for(answer, Refused::Command(refusal))
 }
 
-// Appends the answer to a line that is refused, and tells why it is.
+// Appends the answer to a refused line, and returns why it is refused.
 fn refuse_for(answer: &mut Vec<u8>, why: Refused) -> Result<Option<Refused>, AllocError>
     ensures answer { OnOk result (answer.new.items ≡ answer.old.items ++ refused (refused_code why)) }
     ensures why { IfOk result (λ given. given ≡ Some why) }
@@ -541,7 +543,7 @@ pub fn refuse(answer: &mut Vec<u8>, code: &[u8]) -> Result<(), AllocError>
     answer.extend_from_slice(b"\n")
 }
 
-// The first bytes of a line, as many as tell one that is too long.
+// The first bytes of a line, up to the number that shows that it is too long.
 fn kept_part(line: &[u8]) -> &[u8]
     ensures { result.now ≡ take KEPT_LEN line.now }
 {

@@ -12,13 +12,13 @@ use std::alloc::{AllocError, Global};
 use std::marker::Model;
 use thiserror::Error;
 
-/// Why there are no such settings.
+/// The reason why settings aren't allowed.
 #[derive(Clone, Copy, Debug, PartialEq, Eq, Error)]
 pub enum SetError {
     /// G1: the rate is not 1 to `MOST_RATE`.
     #[error("rate not 1 to {most}", most = MOST_RATE)]
     RateOutOfRange,
-    /// G2: the tape has not 1 to `TAPE_BYTES` bytes.
+    /// G2: the tape doesn't have 1 to `TAPE_BYTES` bytes.
     #[error("tape not 1 to {most} bytes", most = TAPE_BYTES)]
     TapeLength,
     /// G3: memory for the tape ran out.
@@ -37,9 +37,9 @@ impl From<AllocError> for SetError {
     }
 }
 
-/// How many steps there are to a tick of the timers, the bytes that stand for random ones, which
-/// machine it is; and, on which no answer depends, how many steps lie between one checkpoint of its
-/// run and the next, and how names are hashed.
+/// The settings of a session: the number of steps per tick of the timers, the bytes used as random
+/// bytes, and the quirks of the machine. No answer depends on the other two: the number of steps
+/// between two checkpoints of the run, and how names are hashed.
 #[derive(Drop)]
 pub struct Settings {
     rate: u32,
@@ -65,13 +65,13 @@ impl Model for Settings {
 }
 
 impl Settings {
-    /// Settings with `rate` steps to a tick, 1 to `MOST_RATE`, and a tape of 1 to `TAPE_BYTES`
-    /// bytes, for a SUPER-CHIP 1.1 with the least spacing.
+    /// Returns settings with `rate` steps per tick, 1 to `MOST_RATE`, and a tape of 1 to
+    /// `TAPE_BYTES` bytes, for a SUPER-CHIP 1.1 with the least spacing.
     ///
     /// # Errors
     ///
-    /// The first that applies of a rate out of range, a tape that is too short or too long, and
-    /// that memory ran out.
+    /// The first that applies: a rate out of range, a tape that is too short or too long, or a lack
+    /// of memory.
     pub fn new(alloc: Global, rate: u32, tape: &[u8]) -> Result<Settings, SetError>
         ensures ok { IfOk result (λ settings. (settings_fault rate tape.now ≡ None)
             × (settings ≡ settings_of rate tape.now)) }
@@ -91,19 +91,19 @@ impl Settings {
         })
     }
 
-    /// These settings for a machine with some quirks.
+    /// Returns these settings with the given quirks.
     pub fn with_quirks(self, quirks: Quirks) -> Settings
         ensures { result ≡ record self { quirks = quirks } }
     {
         Settings { quirks, ..self }
     }
 
-    /// These settings with so many steps between one checkpoint and the next, `LEAST_SPACING` to
-    /// `MOST_SPACING`: fewer make an edit cheaper to follow, more take less memory.
+    /// Returns these settings with `spacing` steps between two checkpoints, `LEAST_SPACING` to
+    /// `MOST_SPACING`. Fewer steps make it cheaper to follow an edit, and more take less memory.
     ///
     /// # Errors
     ///
-    /// A spacing out of range; nothing is handed back then.
+    /// A spacing out of range; the settings are then not returned.
     pub fn with_spacing(self, spacing: u32) -> Result<Settings, SetError>
         ensures { MatchOption (spacing_fault spacing)
             (result ≡ Ok (record self { spacing = spacing }))
@@ -115,8 +115,8 @@ impl Settings {
         Ok(Settings { spacing, ..self })
     }
 
-    /// These settings with names hashed from a seed on. Where it is drawn at the start of the program,
-    /// no choice of names in a source makes an edit slow.
+    /// Returns these settings with names hashed from a seed. If the seed is random at each start of
+    /// the program, no choice of names in a source makes an edit slow.
     pub fn with_name_seed(self, seed: u64) -> Settings
         ensures { result ≡ self }
     {
@@ -126,12 +126,12 @@ impl Settings {
         }
     }
 
-    /// How names are hashed.
+    /// The hasher of names.
     pub(crate) fn names(&self) -> NameHasher {
         self.names
     }
 
-    /// How many steps there are to a tick.
+    /// The number of steps per tick.
     pub fn rate(&self) -> u32
         ensures value { result ≡ self.now.rate }
         ensures above { 0 < result }
@@ -140,7 +140,7 @@ impl Settings {
         self.rate
     }
 
-    /// The bytes that stand for random ones.
+    /// The bytes used as random bytes.
     pub fn tape(&self) -> &[u8]
         ensures value { result.now ≡ self.now.tape }
         ensures some { 0 < length result.now }
@@ -156,7 +156,7 @@ impl Settings {
         self.quirks
     }
 
-    /// How many steps lie between one checkpoint and the next.
+    /// The number of steps between two checkpoints.
     pub(crate) fn spacing(&self) -> u32
         ensures value { result ≡ self.now.spacing }
         ensures in_range { IsSpacing result }
@@ -165,7 +165,7 @@ impl Settings {
     }
 }
 
-// Why there are no such settings, memory aside.
+// Returns why such settings aren't allowed, apart from a lack of memory.
 fn fault_of(rate: u32, tape: &[u8]) -> Option<SetError>
     ensures { result ≡ settings_fault rate tape.now }
 {

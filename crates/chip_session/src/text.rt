@@ -9,7 +9,7 @@ use chip_trace::{byte_digits, hex_digit, push_decimal, word_digits};
 use itoa::Buffer;
 use std::alloc::AllocError;
 
-/// How many bytes are turned into digits at once.
+/// The number of bytes that are turned into digits at once.
 const BLOCK_BYTES: usize = 32;
 
 /// Adds bytes in lower case hexadecimal.
@@ -28,7 +28,7 @@ pub(crate) fn push_hex(out: &mut Vec<u8>, bytes: &[u8]) -> Result<(), AllocError
     Ok(())
 }
 
-/// Writes bytes in lower case hexadecimal over the whole of `digits`.
+/// Writes bytes in lower case hexadecimal, filling `digits`.
 pub(crate) fn write_hex(bytes: &[u8], digits: &mut [u8])
     requires { length digits.old ≡ 2 * length bytes.now }
     ensures { digits.new ≡ encode_lower bytes.now }
@@ -45,8 +45,8 @@ pub(crate) fn write_hex(bytes: &[u8], digits: &mut [u8])
     }
 }
 
-/// Writes the bytes of one block in lower case hexadecimal: all digits first, and then their places,
-/// so that many are made at once.
+/// Writes the bytes of one block in lower case hexadecimal. All digits are computed first and then
+/// placed, so that many are computed at once.
 #[inline(always)]
 fn write_block(bytes: &[u8], digits: &mut [u8])
     requires bytes { length bytes.now ≡ BLOCK_BYTES }
@@ -64,7 +64,7 @@ fn write_block(bytes: &[u8], digits: &mut [u8])
     }
 }
 
-/// Adds a number with its sign, where it is below 0, in decimal.
+/// Adds a number in decimal, with a sign if it is below 0.
 pub(crate) fn push_signed(out: &mut Vec<u8>, number: i32) -> Result<(), AllocError>
     ensures { OnOk result (out.new.items ≡ out.old.items ++ signed_decimal number) }
 {

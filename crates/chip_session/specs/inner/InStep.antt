@@ -1,4 +1,5 @@
--- How the parts of a kept run fit together, for the private type that holds them (own).
+-- How the parts of a kept run fit together, for the private type that holds them (chosen by this
+-- project).
 use Rattle.std.specs.Prelude.{◌≡◌, ℕ, ◌≤◌, List, length, Option, Result}
 use Rattle.chip_lang.specs.declared.limits.TheConstants.{IMAGE_BYTES}
 use Rattle.chip_machine.specs.State.{State}
@@ -9,7 +10,7 @@ use Rattle.chip_session.specs.Settings.{SessionSettings}
 use Rattle.chip_session.specs.Kept.{KeptRun, FollowsEvent, Reuses, StaysIfRefused}
 use Rattle.chip_session.specs.declared.refusal.Refusal.{Refusal}
 
--- a kept run of these parts
+-- the kept run that these parts make
 abbrev pub kept_run : SessionSettings → History State → List ℕ → KeptRun
 kept_run settings replay last =
     record {
@@ -28,26 +29,26 @@ pub record Replays (settings : SessionSettings) (last : List ℕ)
   pub spacing : replay.spacing ≡ settings.spacing
   pub fits : length last ≤ IMAGE_BYTES
 
--- the replay runs the last image, and there is room for any
+-- the replay runs the last image, and the buffer has room for any image
 pub record IsInStep (settings : SessionSettings) (replay : History State) (last : List ℕ)
     (room : ℕ) : Type 0 where
   pub replays : Replays settings last replay
   pub roomy : IMAGE_BYTES ≤ room
 
--- the run goes on under these key events, which are the old ones before this step
+-- the run continues under these key events, which agree with the old ones before this step
 pub record TakesEvents (events : Events) (step : ℕ) (old new : KeptRun) : Type 0 where
   pub keys : new.keys ≡ events
   pub follows : FollowsEvent step old new
   pub settings : new.settings ≡ old.settings
   pub ran : new.ran ≡ old.ran
 
--- all but the reach and the count of steps is as it was
+-- everything except the reach and the number of steps made stays
 pub record RunsOnly (old new : KeptRun) : Type 0 where
   pub settings : new.settings ≡ old.settings
   pub keys : new.keys ≡ old.keys
   pub last_image : new.last_image ≡ old.last_image
 
--- what a question does to a run: it goes on, only as far as it has to
+-- how a question changes a run: the run continues only as far as the question needs
 pub record GoesOn {A : Type 0} (step : Option ℕ) (result : Result A Refusal)
     (old new : KeptRun) : Type 0 where
   pub only : RunsOnly old new

@@ -1,4 +1,5 @@
--- How far a script has been carried out, for the private contracts behind `serve` (own).
+-- How far a script has been carried out, for the private contracts behind `serve` (chosen by this
+-- project).
 use Rattle.std.specs.Prelude.{◌≡◌, ◌⊎◌, ℕ, ◌<◌, List, ◌++◌, length, take, Option, Some, Result, Ok, Err}
 use Rattle.std.specs.Io.KnownBytes.{Keeps, Appends}
 use Rattle.chip_session.specs.declared.limits.TheConstants.{SCRIPT_BYTES, SCRIPT_LINES}
@@ -15,20 +16,20 @@ use Rattle.chip_session.specs.declared.server.Stop.{Stop}
 use Rattle.chip_session.specs.declared.server.Stop.TheVariants.{WriterFailed, OutOfMemory, TooMuchInput}
 use Rattle.chip_lang.specs.Meter.{one_more}
 
--- the fault of `serve` where the script was given up
+-- the error of `serve` after the rest of a script is given up
 abbrev pub fault_of : Stop → ServeError
 fault_of WriterFailed = fault.WriterFailed
 fault_of OutOfMemory = fault.OutOfMemory
 fault_of TooMuchInput = fault.TooMuchInput
 
--- how many failures of the writer are counted then
+-- the number of the writer's failures that are counted after this result
 abbrev pub failures_after : Result Unit Stop → ℕ → ℕ
 failures_after (Ok _) failures = failures
 failures_after (Err WriterFailed) failures = one_more failures
 failures_after (Err OutOfMemory) failures = failures
 failures_after (Err TooMuchInput) failures = failures
 
--- A text was written to a writer whole, up to the writer's failure, or not at all.
+-- A text was written completely, up to the writer's failure, or not at all.
 abbrev pub Says : Result Unit Stop → Option (List ℕ) → Option (List ℕ) → List ℕ → Type 0
 Says (Ok _) held holds text = Appends held holds text
 Says (Err WriterFailed) held holds text =
@@ -36,7 +37,7 @@ Says (Err WriterFailed) held holds text =
 Says (Err OutOfMemory) held holds text = Keeps held holds
 Says (Err TooMuchInput) held holds text = ⊥
 
--- After the bytes `given` of a script that began at `start`, where the writer held `before`.
+-- The state after the bytes `given` of a script that began at `start`, if the writer held `before`.
 pub record Reached (start : Session) (before given : List ℕ) (c : Conversation)
     (holds : Option (List ℕ)) : Type 0 where
   pub session : c.bench.session ≡ session_after start (complete_lines given)
@@ -46,7 +47,7 @@ pub record Reached (start : Session) (before given : List ℕ) (c : Conversation
   pub within : WithinBounds given
   pub told : holds ≡ Some (before ++ transcript_of start (complete_lines given))
 
--- Where the script was given up: after the bytes `done`, with `more` at hand.
+-- The script was given up after the bytes `done`, with `more` at hand.
 abbrev pub StoppedAt : Stop → Session → List ℕ → List ℕ → List ℕ → Option (List ℕ) → Type 0
 StoppedAt WriterFailed start before done more holds =
     (front : List ℕ) × BeginsWith (transcript_of start (complete_lines done)) front
@@ -70,7 +71,7 @@ abbrev pub Went : Result Unit Stop → Session → List ℕ → List ℕ → Con
 Went (Ok _) start before given c holds = Reached start before given c holds
 Went (Err e) start before given c holds = Stopped e start before given holds
 
--- From wherever a conversation had come to, these bytes take it on.
+-- The given bytes continue a conversation, whatever state it had reached.
 abbrev pub Carries : Conversation → Option (List ℕ) → List ℕ → Result Unit Stop → Conversation
     → Option (List ℕ) → Type 0
 Carries old held bytes result new holds =
