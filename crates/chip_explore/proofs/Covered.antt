@@ -1,5 +1,5 @@
--- What is safe from the start on, and from each state that was taken up: no key script meets the
--- target in it, or makes a step at an address that isn't noted.
+-- What is safe from the start on, and from each state that was taken up: no key script meets the target
+-- in it, or makes a step at an address that isn't noted.
 use Rattle.std.proofs.Common.{◌≡◌, ℕ, zero, suc, ◌+◌, ◌-◌, ◌*◌, ◌/◌, ◌%◌, ◌^◌, ◌<◌, ◌≤◌, ◌==◌, ◌⊎◌, ◌||◌, ◌&&◌, not, Bool, true, false, Option, Some, None, length, slice_index, is_some, refl, sym, ap, subst, ◌∙◌, inl, inr, ⊎_elim, if◌then◌else◌, arith, add-one}
 use Rattle.std.proofs.Math.Nat.{mod-add-div', add-mul-mod_self_right}
 use Rattle.std.proofs.lemmas.Bool.{cases_lt, eqb-true}
@@ -26,7 +26,7 @@ use Rattle.chip_explore.specs.inner.Delays.{AlikeTicks, bound_after, delay_regis
 use Rattle.chip_explore.specs.inner.Known.{are_goals_known}
 use Rattle.chip_explore.specs.inner.Told.{Covers}
 
--- no choice of no keys has a key
+-- a choice of no keys contains no key
 no_choice : (one : ℕ) → IsChoice 0 one → one ≡ 0
 no_choice one choice =
     ⊎_elim (λ (none : one ≡ 0). none)
@@ -49,7 +49,7 @@ pub stays : (s : State) (keys : ℕ) (tick : Bool) → is_some s.core.stopped �
 unfolding step_of
 stays s keys tick h = stays_by (is_some s.core.stopped) s keys tick h
 
--- ticks by the part of the step's number that counts
+-- ticks, given the part of the step's number that decides them
 one_more : (n r : ℕ) → (n + 1) % r ≡ (n % r + 1) % r
 one_more n r =
     let whole : n + 1 ≡ (n % r + 1) + n / r * r = omega (arith, mod-add-div' n r) in
@@ -62,12 +62,12 @@ pub phase_by : (free : Bool) (rate u t : ℕ) → (if free then 0 else u % rate)
 phase_by true rate u t h = refl
 phase_by false rate u t h = rest_more rate u t h
 
--- the ticks of a run at the rate are those of the run in which they are so
+-- the ticks of a run at the rate are those of the run with these ticks
 pub ticking_run : (rate : ℕ) (held : ℕ → ℕ) (start : State) (t : ℕ) → run step_of rate held start t ≡ run_ticking (ticks rate) held start t
 ticking_run rate held start zero = refl
 ticking_run rate held start (suc t) = ap (λ (s : State). step_of s (held t) (ticks rate t)) (ticking_run rate held start t)
 
--- the timers tick in both where the parts are the same
+-- the timers tick in both steps or in neither, if these parts are equal
 pub same_tick : (free : Bool) (rate u t : ℕ) (tick : Bool) → (free ≡ false → tick ≡ ticks rate t) → (if free then 0 else u % rate) ≡ (if free then 0 else t % rate)
     → (if free then false else ticks rate u) ≡ (if free then false else tick)
 same_tick true rate u t tick at_rate phased = refl
@@ -83,9 +83,9 @@ module _ (alike : AlikeSteps) (grow : DrawsGrow) where
       let count = add-one t in
       omega arith
 
-  -- the same step of two states, of which the first is one of a search
+  -- one step of two states, the first of which is one of a search
   module _ (p : Setting) (f after : ℕ) (a s : State) (keys : ℕ) (tick : Bool) (unneeded : IsUnneeded f a) (low_a : a.core.draws < 2 ^ 64 - 1) (low_s : s.core.draws < 2 ^ 64 - 1) where
-    -- where the search has the timers tick as the run does
+    -- ticks as in the run
     rated : p.free ≡ false → (ours : Bool) → ours ≡ tick → AlikeTicks p f a s → IsForgottenAfter f a (step_of a keys ours).core.pc after
         → AlikeTicks p after (step_of a keys ours) (step_of s keys tick)
     rated at_rate ours is near is_after =
@@ -97,7 +97,7 @@ module _ (alike : AlikeSteps) (grow : DrawsGrow) where
           alike = subst (λ (t : Bool). Alike after (step_of a keys ours) (step_of s keys t)) is (alike f after a s keys ours same unneeded is_after low_a low_s);
         }
 
-    -- where it has free ticks: after a step without a tick, of the state with the delay timer of the run
+    -- free ticks: after a step without a tick, made from the state with the delay timer of the run
     slowed : p.free ≡ true → (d : ℕ) → d ≤ a.core.delay → Alike f (with_delay d a) s → (next : State) → Delayed next (step_of (with_delay d a) keys false)
         → IsForgottenAfter f a next.core.pc after → AlikeTicks p after next (step_of s keys tick)
     slowed free d low same next delayed is_after =
@@ -135,7 +135,7 @@ module _ (alike : AlikeSteps) (grow : DrawsGrow) where
         (slowed is near.delay near.most near.alike (step_of a keys false) (delayed_step a near.delay near.most keys u)
         (subst (λ (t : Bool). IsForgottenAfter f a (step_of a keys t).core.pc after) same is_after))
 
-    -- a step that does
+    -- a step that tells values of the delay timer apart
     timed : p.free ≡ true → (x : ℕ) → delay_register a ≡ Some x → (near : AlikeTicks p f a s) → IsForgottenAfter f a (read_as near.delay a).core.pc after
         → AlikeTicks p after (read_as near.delay a) (step_of s keys tick)
     timed free x reads near is_after =
@@ -159,7 +159,7 @@ module _ (alike : AlikeSteps) (grow : DrawsGrow) where
     going_read true a x reads = absurd (cc)
     going_read false a x reads = refl
 
-    -- of a machine that has stopped
+    -- a machine that has stopped
     abbrev pub Ended : State → State → Type 0
     Ended a s = is_some a.core.stopped ≡ true → meets_goals p a ≡ meets_goals p s
 
@@ -183,7 +183,7 @@ module _ (alike : AlikeSteps) (grow : DrawsGrow) where
           let same : is_some (read_as value a).core.stopped ≡ is_some a.core.stopped = ap (λ (b : State). is_some b.core.stopped) (read_step (with_delay value a) x 0 reads) in
           absurd (cc)
 
-    -- a state of a run is like one from which all is safe
+    -- a state of a run is like one from which everything is safe
     pub record Near (s : State) (t : ℕ) : Type 0 where
       pub state : State
       pub at : ℕ
@@ -196,7 +196,7 @@ module _ (alike : AlikeSteps) (grow : DrawsGrow) where
       pub ended : Ended state s
       pub safe : SafeFor p v moves forgotten state at
 
-    -- the timers of the run tick so: where the ticks aren't free, at the rate
+    -- the ticks of the run: if the ticks aren't free, they are at the rate
     module _ (ticking : ℕ → Bool) (at_rate : p.free ≡ false → (t : ℕ) → ticking t ≡ ticks p.rate t)
         (n : ℕ) (within_limit : n < v.limit) (taken : (j : ℕ) → j < length v.steps → slice_index v.steps j < n → IsTaken p v j) where
       module _ (s : State) (t keys : ℕ) (before : t < n) (within : IsWithin p.allowed keys) (low : s.core.draws < 2 ^ 64 - 1) where
@@ -240,7 +240,7 @@ module _ (alike : AlikeSteps) (grow : DrawsGrow) where
             (timed p f to.after a s keys (ticking t) unneeded drawn low told.0 x told.1 same to.is_after)
             (ended_read f to.after a s same ended x same.delay (step_of s keys (ticking t)) told.1)
 
-        -- from a state at the end of some steps in a row
+        -- a state at the end of a sequence of steps
         next_end : (f : ℕ) (a : State) (u : ℕ) → u ≤ t → phase p u ≡ phase p t → AlikeTicks p f a s → Ended a s → IsFine p v.executed f a
             → (stopped : Bool) → is_some a.core.stopped ≡ stopped → (is_some a.core.stopped ≡ true) ⊎ Joins p v f a u → Later
         next_end f a u early phased same ended fine true is ends =
@@ -286,7 +286,7 @@ module _ (alike : AlikeSteps) (grow : DrawsGrow) where
         onward : Near s t → Later
         onward near = next_by near.moves near.forgotten near.state near.at near.few near.early near.phased near.same near.ended near.safe
 
-      -- from a state on, at a step of each run from a start
+      -- a state, at a step of each run from a start
       module _ (base : State) (first : ℕ) (proper : IsProper base) (begun : Safe p v 0 base first) (below_end : n < 2 ^ 64 - 1)
           (start : State) (fresh : start.core.draws ≡ 0) (held : ℕ → ℕ) (script : IsScript p.allowed held) (there : run_ticking ticking held start first ≡ base) where
         near_base : (t : ℕ) → first ≡ t → Near (run_ticking ticking held start t) t
@@ -333,7 +333,7 @@ module _ (alike : AlikeSteps) (grow : DrawsGrow) where
           ap (is_at_one v.executed) (ticking_run p.rate held start t)
           ∙ noted (ticks p.rate) (λ at_rate t. refl) n within_limit taken start 0 proper begun below_end start fresh held script refl t (omega arith) within_n
 
-      -- where the ticks are free, whenever the timers tick
+      -- the timers may tick at any time, if the ticks are free
       at_any_speed : p.free ≡ true → AvoidsAtAnySpeed p.allowed p.target start n
       at_any_speed free ticking held script t within_n =
           avoided ticking (λ at_rate. absurd (cc)) n within_limit taken start 0 proper begun below_end start fresh held script refl t (omega arith) within_n

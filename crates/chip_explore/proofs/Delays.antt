@@ -20,7 +20,7 @@ use Rattle.chip_explore.specs.inner.Delays.{bound_after, delay_register, read_as
 
 -- ---- a step that doesn't read the delay timer
 
--- a core is like another one but for a delay timer that is at most that one's
+-- a core is like another one, except for a delay timer that is at most the other one's
 abbrev Slower : Core → Core → Type 0
 Slower a b = (delay : ℕ) × (delay ≤ a.delay) × (b ≡ (record a { delay = delay }))
 
@@ -108,7 +108,7 @@ module _ (c : Core) (d : ℕ) (low : d ≤ c.delay) where
   at_slow false None u = refl
   at_slow false (Some instr) u = row_slow instr u
 
--- how many bytes at I a step reads and writes doesn't depend on the delay timer
+-- the number of bytes at I that a step reads and writes doesn't depend on the delay timer
 abbrev Counts : Effect → Effect → Type 0
 Counts a b = (loaded a ≡ loaded b) × (written a ≡ written b)
 
@@ -151,7 +151,7 @@ module _ (s : State) (d : ℕ) (low : d ≤ s.core.delay) (f : ℕ) where
         stored = λ place low. h.stored place (subst (λ (n : ℕ). place < n) (sym counts.1) low);
       }
 
--- a state is like another one but for a delay timer that is at most that one's
+-- a state is like another one, except for a delay timer that is at most the other one's
 pub record Delayed (a b : State) : Type 0 where
   pub delay : ℕ
   pub most : delay ≤ a.core.delay
@@ -200,7 +200,7 @@ module _ (s : State) (d : ℕ) (low : d ≤ s.core.delay) (keys : ℕ) where
   step_slow true u = record { delay = d; most = low; is = refl }
   step_slow false u = settle_slow _ _ (perform_slow _ _ (at_slow s.core d low (nat_lt LAST_WORD s.core.pc) (decode_of (word_at s.memory s.core.pc)) u))
 
-  -- such a step does the same with a lesser delay timer, of which it may set another value
+  -- a step that doesn't read the delay timer acts the same with a lesser one, and may set another value of it
   pub delayed_step : delay_register s ≡ None → Delayed (step_of s keys false) (step_of there keys false)
   unfolding step_of
   delayed_step u = step_slow (is_some s.core.stopped) u
@@ -233,12 +233,12 @@ pub read_step : (s : State) (x keys : ℕ) → delay_register s ≡ Some x → s
 unfolding step_of
 read_step s x keys u = step_read s x keys (is_some s.core.stopped) u
 
--- it leads to the same place with each value
+-- a step that reads it leads to the same place with each value
 pub place_read : (s : State) (x value : ℕ) → delay_register s ≡ Some x → (read_as value s).core.pc ≡ (step_of s 0 false).core.pc
 place_read s x value reads =
     ap (λ (b : State). b.core.pc) (read_step (with_delay value s) x 0 reads) ∙ sym (ap (λ (b : State). b.core.pc) (read_step s x 0 reads))
 
--- where it tells values apart, the ticks are free
+-- if a step tells values apart, the ticks are free
 timed_by : (free at_zero : Bool) (s : State) (x : ℕ) → (if free && not at_zero then delay_register s else None) ≡ Some x → (free ≡ true) × (delay_register s ≡ Some x)
 timed_by true true s x h = absurd (cc)
 timed_by true false s x h = (refl, h)

@@ -1,4 +1,4 @@
--- What the changes of the kept states keep.
+-- What stays true when the kept states change.
 use Rattle.std.proofs.Common.{◌≡◌, ℕ, zero, suc, ◌+◌, ◌-◌, ◌^◌, ◌<◌, ◌≤◌, ◌⊎◌, Bool, true, false, Option, Some, None, List, length, slice_index, is_some, ◌||◌, refl, sym, ap, subst, ◌∙◌, inl, inr, ⊎_elim, arith}
 use Rattle.std.proofs.Common.{◌≢◌, get_or, set, [], ◌∷◌, ◌++◌}
 use Rattle.std.proofs.lemmas.Bool.{cases_eq, cases_lt}
@@ -20,7 +20,7 @@ use Rattle.chip_explore.specs.inner.Delays.{timed_register}
 use Rattle.chip_explore.specs.inner.Known.{are_goals_known}
 use Rattle.chip_explore.proofs.Alike.{alike_through, alike_within, within_both}
 
--- what is fine stays so where more addresses are noted
+-- a fine state stays fine when more addresses are noted
 or_more : (stopped early late : Bool) → (early ≡ true → late ≡ true) → (stopped || early) ≡ true → (stopped || late) ≡ true
 or_more true early late more h = refl
 or_more false early late more h = more h
@@ -92,7 +92,7 @@ extends_more p u v w a b =
       executed = λ pc h. b.executed pc (a.executed pc h);
     }
 
--- a state is taken once each of its ways was followed
+-- a state is taken up once each of its ways was followed
 taken_by : (p : Setting) (v w : View) → Extends p v w → (place step : ℕ) → place < length v.steps → (register : Option ℕ)
     → timed_register p (v.member place) ≡ register → (v.member place).core.draws < 2 ^ 64 - 1
     → are_goals_known p (forgotten_at v place) (v.member place) ≡ true → IsUnneeded (forgotten_at v place) (v.member place)
@@ -107,7 +107,7 @@ taken_by p v w more place step kept register is drawn asked unneeded on same =
       goes_on = rw (forgotten, member, same, is) on;
     }
 
--- a place that was closed stays so where its step stays
+-- a closed place stays taken up while its step stays
 still_taken : (p : Setting) (v w : View) → Extends p v w → (j : ℕ) → j < length v.steps → slice_index w.steps j ≡ slice_index v.steps j → IsTaken p v j → IsTaken p w j
 still_taken p v w more j kept same taken =
     taken_by p v w more j _ kept _ refl taken.drawn taken.asked taken.unneeded (still_goes_on p v w more (timed_register p (v.member j)) _ _ _ taken.goes_on) same
@@ -167,8 +167,8 @@ set_phased p steps place step j kept phased =
     (λ (other : j ≢ place). ap (phase p) (get_or-set_other steps place j step 0 other))
     (cases_eq j place)
 
--- a call keeps what holds, where each place that is closed after it was so before with the same
--- step, or is taken
+-- a call preserves what holds, if each place that is closed after it was closed before with the same
+-- step, or is taken up
 pub goes : (p : Setting) (m n : Members) → Holds p m → n.start ≡ m.start → Extends p (view_of m) (view_of n)
     → length n.states.items ≡ length n.steps.items → length n.forgotten.items ≡ length n.steps.items → length n.closed.items ≡ length n.steps.items
     → ((j : ℕ) → get_or n.closed.items j false ≡ true → IsTaken p (view_of n) j ⊎ ((get_or m.closed.items j false ≡ true) × (slice_index n.steps.items j ≡ slice_index m.steps.items j)))
@@ -192,7 +192,7 @@ goes p m n holds start more states forgotten closed same =
       };
     }
 
--- the same states with the same steps, where the search speaks of no more of them, and saw no fewer addresses
+-- a view with equal states and steps, whose search is about no more steps, and saw no fewer addresses
 pub extends_as : (p : Setting) (m : Members) (limit : ℕ) (executed : List Bool) → limit ≤ m.limit → Grows m.executed executed
     → Extends p (view_of m) (view_of (record m { limit = limit; executed = executed }))
 extends_as p m limit executed low grows =
@@ -206,7 +206,7 @@ goes_as p m holds limit executed low grows =
 pub goes_noted : (p : Setting) (m : Members) → Holds p m → (executed : List Bool) → Grows m.executed executed → Goes p m (record m { executed = executed })
 goes_noted p m holds executed grows = goes_as p m holds m.limit executed (omega arith) grows
 
--- what is known of a state in which bytes that are forgotten are other ones
+-- facts about a state in which forgotten bytes have other values
 pub at_erased : (p : Setting) (v : View) (place f g : ℕ) (s erased : State) (t : ℕ) → AreWithin f g → Alike g erased s → IsAt p v place g erased t → IsAt p v place f s t
 at_erased p v place f g s erased t within same at =
     let all = forgotten_at v place in
@@ -236,7 +236,7 @@ goes_up_to p l m n most one two few = record { goes = goes_more p l m n one two;
 pub adds_more : (p : Setting) (l m n : Members) (a b : ℕ) → Adds p l m a → Adds p m n b → Adds p l n (a + b)
 adds_more p l m n a b one two = goes_up_to p l m n _ one.goes two.goes (omega arith)
 
--- where a state that is kept leads is told of its place in an earlier view
+-- a step of a kept state, stated with the place of the state in an earlier view
 pub leads_before : (next : State → State) (p : Setting) (l m n : Members) → Goes p l m → (place step : ℕ) → place < length l.steps.items
     → LeadsBy next p m n place step → LeadsBy next p l n place step
 leads_before next p l m n one place step kept leads = rw (← one.extends.forgotten place kept, ← one.extends.member place kept) leads
@@ -272,7 +272,7 @@ module _ (p : Setting) (l m n : Members) (one : Goes p l m) (two : Goes p m n) (
   all_taken same =
       taken_by p (view_of l) (view_of n) (goes_more p l m n one two).extends place step kept None has.untimed has.drawn has.asked has.unneeded on_and_on same
 
--- or each value of the delay timer
+-- each value of the delay timer
 pub all_read : (p : Setting) (l n : Members) → Goes p l n → (place step : ℕ) → place < length l.steps.items → (read : Reading)
     → HasValues p (forgotten_at (view_of l) place) ((view_of l).member place) read
     → ((value : ℕ) → value ≤ read.bound → LeadsAs p l n place step value)

@@ -1,4 +1,4 @@
--- Properties of a machine that a step has stopped: it has the values that it had before.
+-- Properties of a machine that a step has stopped: the machine has the values that it had before.
 use Rattle.std.proofs.Common.{◌≡◌, ℕ, ◌+◌, ◌*◌, ◌&&◌, not, List, Bool, true, false, is_some, Option, Some, Result, Ok, Err, refl, ap, ◌∙◌, if◌then◌else◌}
 use Rattle.std.specs.List.{list_all, list_any, sum_by}
 use Rattle.chip_machine.proofs.KeptParts.{still_going}
@@ -22,7 +22,7 @@ value_halted : (s : State) (why : Stop) (item : Item) → value_in (halted s why
 value_halted s why (Register x) = refl
 value_halted s why item = refl
 
--- a property by the values of its items
+-- a property, given the values of its items
 abbrev sum_by_values : (Item → ℕ) → Sum → ℕ
 sum_by_values values sum =
     sum.constant + sum_by (λ (term : Term). term.factor * values term.item) sum.terms.items

@@ -101,7 +101,7 @@ module _ (rate : ℕ) (keys : ℕ → ℕ) (start : State) where
       ∙ stays (run step_of rate keys start (more + t)) (keys (more + t)) (ticks rate (more + t)) also
       ∙ before
 
--- under events that lead to a state where the goals are lost
+-- events that lead to a state where the goals are lost
 pub dead_end : (p : Setting) (start : State) (events : List KeyEvent) (step n : ℕ) (s : State) → IsUnder p start (keys_of events) step s
     → ((later : ℕ → ℕ) → IsScript p.allowed later → run step_of p.rate later start step ≡ s → (t : ℕ) → step ≤ t → t ≤ n → are_met p.goals.now (run step_of p.rate later start t) ≡ false)
     → IsDeadEnd p.rate p.allowed p.goals.now start events step n

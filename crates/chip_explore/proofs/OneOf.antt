@@ -1,4 +1,4 @@
--- What an answer to several properties says of one of them.
+-- What an answer for several properties implies for one of them.
 use Rattle.std.proofs.Common.{◌≡◌, ℕ, zero, suc, ◌+◌, ◌<◌, Bool, true, false, List, [], ◌∷◌, Option, Some, None, IfSome, option_map, position, slice_get, ap, sym, subst, ◌∙◌, refl, arith, if◌then◌else◌}
 use Rattle.std.proofs.lemmas.Bool.{eqb-true}
 use Rattle.std.proofs.lemmas.Iterator.Adapters.{position_from-zero}
@@ -43,7 +43,7 @@ module _ {A : Type 0} (test : A → Bool) where
 
 -- ---- what a machine meets
 
--- of an address, and of the first property that is met
+-- the match of a target: the address, or the first property that is met
 abbrev going : (at : Bool) → Option ℕ → Option Met
 going at first = if at then Some met.Address else option_map met.Property first
 
@@ -114,7 +114,7 @@ module _ (k : ℕ) (one all : Target) (is : IsOneOf k one all) where
     before_one zero first = tt
     before_one (suc n) first = avoids_one n (first n (omega arith))
 
-    -- what is met is the property at the place, where the test says so
+    -- the match is the property at the place, if the test says so
     of_place : (m : Met) → is_of k m ≡ true → m ≡ met.Property k
     of_place (met.Property j) h = ap met.Property (eqb-true j k h)
     of_place (met.Cause cause) h = absurd (cc)

@@ -1,5 +1,5 @@
--- The state after a step that set a register to a value of the delay timer, as what is kept of the one
--- before it says.
+-- The state after a step that set a register to a value of the delay timer, computed from the kept state
+-- before it.
 use Rattle.std.proofs.Common.{◌≡◌, ℕ, ◌≤◌, Bool, true, false, List, [], ◌∷◌, Option, Some, None, fold, nat_lt, refl, ap, sym, subst, ◌∙◌, if◌then◌else◌}
 use Rattle.std.proofs.lemmas.Bool.{ltb-false}
 use Rattle.chip_lang.specs.Decoding.{decode_of}
@@ -24,7 +24,7 @@ byte_by : (test : Bool) (c : Core) (s changed : State) → (if test then with_co
 byte_by true c s changed = refl
 byte_by false c s changed = refl
 
--- the bytes don't depend on what else the state has
+-- the bytes don't depend on the other parts of the state
 bytes_core : (c : Core) (s : State) (patches : List BytePatch) → fold with_byte (with_core c s) patches ≡ with_core c (fold with_byte s patches)
 bytes_core c s [] = refl
 bytes_core c s (patch ∷ patches) =
@@ -34,7 +34,7 @@ module _ (base : Base) (backdrop : Backdrop) where
   abbrev memory : List ℕ
   memory = (fold with_byte base.machine backdrop.bytes.items).memory
 
-  -- the state with some parts, by its core and its memory
+  -- the state with some parts, given by its core and its memory
   abbrev plain : Parts → State
   plain parts = with_screen (fold with_row base.rows.items backdrop.rows.items) (record { core = core_with_parts parts base.machine.core; memory = memory })
 

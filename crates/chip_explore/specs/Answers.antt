@@ -1,20 +1,19 @@
--- What each answer of a search says.
--- Source: own.
---     Meets           under the events the machine meets this of the target at the step, with none
---                     but allowed keys down before it
---     IsFound         so it does, and under no key script does it meet the target at an earlier step
---     IsFirst         no answer with a step at which the target may be met earlier
---     EndsBy          no answer with a step past the last one that was asked for: what it says of a
---                     script, and how far it says that none leads there, ends by that one; only never
---                     speaks of all steps
---     most_ways       in how many ways a search makes the next step of a state: with no key down, and
---                     with each of sixteen alone
+-- The meaning of each answer of a search.
+-- Source: chosen by this project.
+--     Meets           under the events, the machine meets the target at the step, as `met` says, and only
+--                     allowed keys are down before it
+--     IsFound         `Meets`, and no key script makes the machine meet the target at an earlier step
+--     IsFirst         the answer isn't `Later`, so the target can't be met before a step that it reports
+--     EndsBy          the answer has no step past the last one that was asked for: neither the step of a
+--                     script nor the step up to which no script leads there; only `Never` is about all
+--                     steps
+--     most_ways       the number of ways in which a search makes the next step of a state: with no key
+--                     down, and with each of sixteen alone
 --     Answers         found; later: the target is met, and avoided up to another step; within n:
 --                     avoided up to step n; never: avoided up to each step below the end
---     AreExecuted     what is said of the addresses that a search saw executed: under no key script
---                     does the machine make a step at another one, before the step at which the
---                     target was found; up to the step to which it is avoided; at any step below the
---                     end
+--     AreExecuted     the addresses that a search saw executed are all there are: no key script makes
+--                     the machine make a step at another one, before the step at which the target was
+--                     found; up to the step to which it is avoided; at any step below the end
 use Rattle.std.specs.Prelude.{◌≡◌, ℕ, ◌<◌, ◌≤◌, Some, Bool, List}
 use Rattle.chip_machine.specs.Choices.{IsWithin}
 use Rattle.chip_machine.specs.State.{State}

@@ -1,9 +1,8 @@
--- At which addresses a machine makes steps.
--- Source: own.
---     is_among        whether an address is among some; one past their table always is
+-- The addresses at which a machine makes steps.
+-- Source: chosen by this project.
+--     is_among        whether an address is in a table; an address past the table always is
 --     is_at_one       whether a machine has stopped, or is at one of some addresses
---     StaysAmong      under no key script does the machine, at a step up to n, make a step at
---                     another address
+--     StaysAmong      no key script makes the machine make a step at another address, at a step up to n
 use Rattle.std.specs.Prelude.{◌≡◌, ℕ, ◌≤◌, ◌||◌, Bool, true, List, is_some, slice_index_or}
 use Rattle.chip_machine.specs.State.{State}
 use Rattle.chip_machine.specs.Step.{step_of}

@@ -1,15 +1,16 @@
--- What a search over all key scripts promises.
--- Source: own.
+-- The promises of a search over all key scripts.
+-- Source: chosen by this project.
 --     Causes       sets of stop causes
---     Property     properties of a state, which an author states of a game
---     Target       which states a search looks for
---     Scripts      key scripts, and what none of them reaches
+--     Property     properties of a state, which an author states about a game
+--     Target       the states that a search looks for
+--     Scripts      key scripts, and states that none of them reaches
 --     Prospects    whether some goals can be reached from everywhere
---     Executed     at which addresses a machine makes steps
---     Answers      what each answer says
---     Speeds       what is said of all speeds of the timers
---     OneOf        what an answer to several properties says of each
---     inner        what the search keeps, and why it says what none reaches; a reader may skip it
+--     Executed     the addresses at which a machine makes steps
+--     Answers      the meaning of each answer
+--     Speeds       answers that hold for all speeds of the timers
+--     OneOf        what an answer for several properties implies for each of them
+--     inner        what the search keeps, and why this shows that no script reaches the target; a reader
+--                  may skip it
 pub mod Causes
 pub mod Property
 pub mod Target

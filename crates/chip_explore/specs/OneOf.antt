@@ -1,11 +1,11 @@
--- What an answer to several properties says of each.
--- Source: own.
---     IsOneOf         a target looks for one of the properties of another, that at a place, and else
---                     for the same
---     told_of         what an answer to all says of the one at a place, if anything: what was found of
---                     another one says how far this one is avoided
---     AnswersOne      the law: that is an answer to the one alone
---     NeverOne        the law: what is never met at any speed is of no one met so
+-- Answers for several properties, and what they imply for each of them.
+-- Source: chosen by this project.
+--     IsOneOf         a target with only one of the properties of another target, the one at a place,
+--                     and otherwise equal to it
+--     told_of         what an answer for all properties implies for the one at a place, if anything: if
+--                     another property was found, this one is avoided up to the step before
+--     AnswersOne      the law: what is implied in this way is an answer for the one property alone
+--     NeverOne        the law: if no property is ever met at any speed, this one isn't either
 use Rattle.std.specs.Prelude.{◌≡◌, ℕ, suc, zero, ◌∷◌, [], ◌==◌, Bool, false, Option, Some, None, IfSome, slice_get, if◌then◌else◌}
 use Rattle.chip_machine.specs.State.{State}
 use Rattle.chip_explore.specs.Answers.{Answers}
@@ -28,7 +28,7 @@ abbrev pub is_of : ℕ → Met → Bool
 is_of k (met.Property j) = j == k
 is_of k other = false
 
--- up to the step before one
+-- the answer that the target is avoided up to the step before a step
 abbrev pub before : (step : ℕ) → Option Outcome
 before zero = None
 before (suc step) = Some (Within step)

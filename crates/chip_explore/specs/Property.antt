@@ -1,13 +1,13 @@
 -- Properties of a machine's state.
--- Source: own.
+-- Source: chosen by this project.
 --     value_in        the value of an item in a state
---     sum_in          a constant and each value as often as its factor says, added without bound
---     is_related      whether two numbers are so related
---     compares        whether the two sides of a comparison are, in a state
---     holds_in        whether all the comparisons of a condition do so, or one at least does
+--     sum_in          a constant plus each value times its factor, added without bound
+--     is_related      whether two numbers are in a relation
+--     compares        whether the two sides of a comparison are in its relation, in a state
+--     holds_in        whether all comparisons of a condition hold in a state, or at least one does
 --     is_at           whether pc is at a place, if one is named
---     is_met          whether a machine is at the place of a property, and its condition holds where
---                     that is wanted, or doesn't where that is
+--     is_met          whether a machine is at the place of a property, and its condition holds or fails
+--                     there, whichever is wanted
 use Rattle.std.specs.Prelude.{ℕ, ◌+◌, ◌*◌, ◌==◌, ◌&&◌, not, nat_lt, nat_le, Bool, true, false, Option, Some, None, length, slice_index, sum_by, if◌then◌else◌}
 use Rattle.std.specs.List.{list_all, list_any}
 use Rattle.chip_lang.specs.declared.instr.Instr.{Instr}
@@ -25,7 +25,7 @@ use Rattle.chip_explore.specs.declared.property.Relation.{Relation}
 use Rattle.chip_explore.specs.declared.property.Relation.TheVariants.{Equal, Unequal, Less, LessOrEqual, Greater, GreaterOrEqual}
 use Rattle.chip_explore.specs.declared.property.Sum.{Sum}
 
--- SKP Vx, SKNP Vx and LD Vx, K
+-- whether an instruction is SKP Vx, SKNP Vx or LD Vx, K
 abbrev pub asks_keys : Option Instr → Bool
 asks_keys (Some (row.SkipIfKey x)) = true
 asks_keys (Some (row.SkipUnlessKey x)) = true
@@ -35,7 +35,7 @@ asks_keys instr = false
 abbrev pub one_if : Bool → ℕ
 one_if test = if test then 1 else 0
 
--- a pixel of the low size is four stored ones, of which the one at the top left is asked
+-- the stored pixel for a column or row: a pixel of the low size is four stored ones, and the top left one counts
 abbrev pub stored : (high : Bool) → ℕ → ℕ
 stored high place = if high then place else 2 * place
 

@@ -1,16 +1,15 @@
 -- Whether some goals can be reached from everywhere.
--- Source: own.
---     are_met         whether a state meets each of some properties; a machine that has stopped is asked
---                     too
+-- Source: chosen by this project.
+--     are_met         whether a state meets each of some properties, even if the machine has stopped
 --     Agree           two key scripts have the same keys in each step below t
---     StillCan        some key script that agrees with one below step t meets the goals, all at once, at
---                     step t or later
---     AlwaysCan       so it is with each key script, at each step up to n: from each state that a player
---                     can reach some way of playing leads to the goals
---     IsDeadEnd       under the events only allowed keys are down below a step, and no key script that
---                     agrees with them there meets the goals at a step from that one up to n
---     Foresees        what each answer says: always up to each step below `FAR`; a dead end up to each
---                     step below the end; within n: nothing
+--     StillCan        some key script that agrees with a given one below step t meets the goals, all at
+--                     once, at step t or later
+--     AlwaysCan       `StillCan` for each key script, at each step up to n: from each state that a player
+--                     can reach, some way of playing leads to the goals
+--     IsDeadEnd       under the events, only allowed keys are down below a step, and no key script that
+--                     agrees with the events there meets the goals at a step from that one up to n
+--     Foresees        the meaning of each answer: always: up to each step below `FAR`; a dead end: up to
+--                     each step below the end; within n: nothing
 --     outcome_of      an answer as the outcome of a search
 use Rattle.std.specs.Prelude.{◌≡◌, ℕ, ◌+◌, ◌<◌, ◌≤◌, Bool, true, false, List}
 use Rattle.std.specs.List.{list_all}

@@ -1,9 +1,8 @@
--- Key scripts, and what none of them reaches.
--- Source: own.
---     IsScript        a key script says which keys are down in each step, and none but the allowed
---                     ones are
---     Avoids          under no key script does the machine meet the target at a step up to n
---     keys_of         the events of the keys, one after another
+-- Key scripts, and states that none of them reaches.
+-- Source: chosen by this project.
+--     IsScript        a key script tells which keys are down in each step, and only allowed keys are
+--     Avoids          no key script makes the machine meet the target at a step up to n
+--     keys_of         the key events, inserted one after another
 use Rattle.std.specs.Prelude.{◌≡◌, ℕ, ◌≤◌, None, List, fold}
 use Rattle.std.specs.FinMap as map
 use Rattle.chip_machine.specs.Choices.{IsWithin}

@@ -1,9 +1,9 @@
 -- Runs in which the timers tick at any speed.
--- Source: own.
---     run_ticking      the state after t steps, where the timers tick in those steps that are said
---     AvoidsAtAnySpeed under no key script, and whenever the timers tick, does the machine meet the
---                      target at a step up to n
---     NeverAtAnySpeed  nor at any step below the end
+-- Source: chosen by this project.
+--     run_ticking      the state after t steps, if the timers tick in the given steps
+--     AvoidsAtAnySpeed no key script makes the machine meet the target at a step up to n, whenever the
+--                      timers tick
+--     NeverAtAnySpeed  `AvoidsAtAnySpeed` at each step below the end
 use Rattle.std.specs.Prelude.{◌≡◌, ℕ, zero, suc, ◌<◌, ◌≤◌, Bool, None}
 use Rattle.chip_machine.specs.State.{State}
 use Rattle.chip_machine.specs.Step.{step_of}
@@ -12,13 +12,13 @@ use Rattle.chip_explore.specs.Target.{met_in}
 use Rattle.chip_explore.specs.declared.limits.TheConstants.{END}
 use Rattle.chip_explore.specs.declared.target.Target.{Target}
 
--- step t uses the keys held at t, and the timers tick in it, or don't
+-- step t uses the keys held at t, and the timers tick in it if `ticking t` is true
 abbrev pub run_ticking : (ticking : ℕ → Bool) → (held : ℕ → ℕ) → State → ℕ → State
 run_ticking ticking held start zero = start
 run_ticking ticking held start (suc t) =
     step_of (run_ticking ticking held start t) (held t) (ticking t)
 
--- at no rate, and at no place of the ticks
+-- at every rate, and wherever the ticks fall
 abbrev pub AvoidsAtAnySpeed : (allowed : ℕ) → Target → State → ℕ → Type 0
 AvoidsAtAnySpeed allowed target start n =
     (ticking : ℕ → Bool) (held : ℕ → ℕ) → IsScript allowed held →

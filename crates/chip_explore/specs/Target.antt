@@ -1,8 +1,8 @@
--- Which states a search looks for.
--- Source: own.
---     met_in          what a machine meets of a target: it has stopped for a wanted cause, or it has
---                     not stopped, so that a step is made, and pc is at the address, or else it
---                     meets a property, of which the first counts
+-- The states that a search looks for.
+-- Source: chosen by this project.
+--     met_in          how a machine meets a target: it has stopped for a wanted cause; or it has not
+--                     stopped, so that it makes a step, and pc is at the address; or else it meets a
+--                     property, and the first one that it meets counts
 use Rattle.std.specs.Prelude.{ℕ, Bool, false, Option, Some, None, option_map, position, ◌==◌, if◌then◌else◌}
 use Rattle.chip_machine.specs.declared.stop.Stop.{Stop}
 use Rattle.chip_machine.specs.State.{State}

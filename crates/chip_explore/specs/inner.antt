@@ -1,6 +1,6 @@
--- A state as what it has beside a base (Kept), states whose delay timer is a bound (Delays), of which
--- states a property can be asked (Known), what a search keeps, and what is known of it (Cover), ranks
--- of what it keeps (Ranks), and what a search is told and says (Told).
+-- States as their differences from a base (Kept), states whose delay timer is a bound (Delays), the
+-- states in which a property can be evaluated (Known), what a search keeps, and what is known about it
+-- (Cover), ranks of the kept states (Ranks), and what a search is given and what it answers (Told).
 pub mod Cover
 pub mod Kept
 pub mod Delays

@@ -1,4 +1,4 @@
-//! What changes seldom of a state, which states share.
+//! The parts of a state that change seldom. States in which they are equal share them.
 
 ghost use Rattle.std.specs.Prelude.{◌≡◌, ◌+◌, ◌*◌, ◌^◌, fold, IfOk, IsTrue, OnOk};
 ghost use Rattle.chip_explore.specs.inner.Kept.{state_with, with_byte, with_row};
@@ -11,17 +11,18 @@ use std::alloc::{AllocError, Global};
 use std::collections::HashMap;
 use std::rc::Rc;
 
-/// About how many bytes a backdrop takes without what its memory and its screen have beside a base.
+/// About how many bytes a backdrop takes, without the bytes and rows in which its memory and its screen
+/// differ from the base.
 const BACKDROP_BYTES: u64 = 160;
 
-/// A byte of the memory that is not as in the base.
+/// A byte of the memory that differs from the byte of the base.
 #[derive(Clone, Copy)]
 pub(crate) struct BytePatch {
     pub(crate) at: u16,
     pub(crate) byte: u8,
 }
 
-/// A row of the screen that is not as in the base, by its halves.
+/// A row of the screen that differs from the row of the base, in two halves.
 #[derive(Clone, Copy)]
 pub(crate) struct RowPatch {
     pub(crate) left: u64,
@@ -29,8 +30,8 @@ pub(crate) struct RowPatch {
     pub(crate) row: u8,
 }
 
-/// The frames, the flag registers, the size of the screen, and what the memory and the screen have
-/// beside a base.
+/// The frames, the flag registers, the size of the screen, and the bytes and rows in which the memory and
+/// the screen differ from a base.
 #[derive(Drop)]
 pub(crate) struct Backdrop {
     pub(crate) frames: [u16; FRAMES],
@@ -41,19 +42,19 @@ pub(crate) struct Backdrop {
     pub(crate) rows: Vec<RowPatch>,
 }
 
-/// The backdrops of the states that are kept, by their sums. Nothing is claimed of it.
+/// The backdrops of the kept states, by their sums. Nothing is claimed about them.
 #[derive(Drop)]
 pub(crate) struct Backdrops {
     alloc: Global,
     by_sum: HashMap<u64, Rc<Backdrop>>,
-    /// About how many bytes they take.
+    /// About how many bytes all backdrops take.
     pub(crate) room: u64,
-    /// Whether one is new, and not noted yet.
+    /// Whether a backdrop is new and hasn't been noted yet.
     pub(crate) is_new: bool,
 }
 
 impl RowPatch {
-    /// The points of the row, the leftmost the highest bit.
+    /// The pixels of the row; the leftmost one is the highest bit.
     fn points(self) -> u128
         ensures { result ≡ self.left * 2 ^ 64 + self.right }
     {
@@ -61,7 +62,7 @@ impl RowPatch {
     }
 }
 
-/// The bytes of the memory that are not as in the base. Whole words that are alike are passed over.
+/// The bytes of the memory that differ from the base. Whole words that are equal are skipped.
 fn bytes_of(alloc: Global, base: &Base, machine: &Machine) -> Result<Vec<BytePatch>, AllocError> {
     let old = base.machine.memory();
     let new = machine.memory();
@@ -84,7 +85,7 @@ fn bytes_of(alloc: Global, base: &Base, machine: &Machine) -> Result<Vec<BytePat
     Ok(bytes)
 }
 
-/// The rows of the screen that are not as in the base.
+/// The rows of the screen that differ from the base.
 fn rows_of(alloc: Global, base: &Base, machine: &Machine) -> Result<Vec<RowPatch>, AllocError> {
     let mut rows = Vec::new(alloc);
     for row in 0..ROWS {
@@ -102,7 +103,7 @@ fn rows_of(alloc: Global, base: &Base, machine: &Machine) -> Result<Vec<RowPatch
 }
 
 impl Backdrop {
-    /// That of a machine.
+    /// The backdrop of a machine.
     fn of(alloc: Global, base: &Base, machine: &Machine) -> Result<Backdrop, AllocError> {
         let mut flags = [0; FLAGS];
         flags.copy_from_slice(machine.flags());
@@ -119,14 +120,14 @@ impl Backdrop {
         })
     }
 
-    /// About how many bytes it takes.
+    /// About how many bytes the backdrop takes.
     fn room(&self) -> u64 {
         let bytes = (self.bytes.len() as u64).saturating_mul(4);
         let rows = (self.rows.len() as u64).saturating_mul(24);
         bytes.saturating_add(rows).saturating_add(BACKDROP_BYTES)
     }
 
-    /// Puts the bytes in the memory of a machine.
+    /// Writes the bytes into the memory of a machine.
     fn put_bytes(&self, machine: &mut Machine)
         ensures { machine.new ≡ fold with_byte machine.old self.now.bytes.items }
     {
@@ -137,7 +138,7 @@ impl Backdrop {
         }
     }
 
-    /// Puts the rows among those of the base.
+    /// Fills `rows` with the rows of the base, and puts the rows of the backdrop among them.
     fn put_rows(&self, base: &Base, rows: &mut Vec<u128>) -> Result<(), AllocError>
         ensures { OnOk result (rows.new.items
             ≡ fold with_row base.now.rows.items self.now.rows.items) }
@@ -153,8 +154,8 @@ impl Backdrop {
         Ok(())
     }
 
-    /// Gives a machine the state that a base has with some parts and this: the answer is whether that
-    /// was possible. The rows are room for those of the screen.
+    /// Gives a machine the state that consists of a base, some parts and this backdrop. Returns whether
+    /// that was possible. `rows` is scratch space for the rows of the screen.
     pub(crate) fn load(
         &self,
         parts: &Parts,
@@ -178,7 +179,7 @@ impl Backdrop {
 }
 
 impl Backdrops {
-    /// None is kept yet.
+    /// Returns an empty collection.
     pub(crate) fn new(alloc: Global) -> Backdrops {
         Backdrops {
             alloc,
@@ -188,7 +189,7 @@ impl Backdrops {
         }
     }
 
-    /// The backdrop with a sum: that of the machine, if none is kept yet.
+    /// Returns the backdrop that has this sum. If none is kept yet, keeps the machine's.
     pub(crate) fn of(
         &mut self,
         base: &Base,

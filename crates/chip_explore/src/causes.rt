@@ -25,28 +25,28 @@ impl Model for Causes {
 }
 
 impl Causes {
-    /// No cause.
+    /// Returns the empty set.
     pub fn none() -> Causes
         ensures { result ≡ 0 }
     {
         Causes { mask: 0 }
     }
 
-    /// The causes at the set bits of a mask, Sk at bit k.
+    /// Returns the causes at the set bits of a mask, Sk at bit k.
     pub fn of_mask(mask: u16) -> Causes
         ensures { result ≡ mask }
     {
         Causes { mask }
     }
 
-    /// S2 to S7: every cause but the end of the program.
+    /// Returns S2 to S7: every cause except the end of the program.
     pub fn faults() -> Causes
         ensures { result ≡ 2 ^ 8 - 2 ^ 2 }
     {
         Causes { mask: 0xfc }
     }
 
-    /// These causes and Sk, by its number k: `None` where no cause has the number.
+    /// Returns these causes and Sk, given its number k, or `None` if no cause has that number.
     pub fn with_number(self, number: u8) -> Option<Causes>
         ensures { result ≡ with_number self number }
     {
@@ -58,7 +58,7 @@ impl Causes {
         }
     }
 
-    /// These causes and one more.
+    /// Returns these causes and one more.
     pub fn with(self, cause: Stop) -> Causes
         ensures { result ≡ bit_or self (2 ^ stop_number cause) }
     {
@@ -67,7 +67,7 @@ impl Causes {
         }
     }
 
-    /// Whether a cause is one of these.
+    /// Whether the set contains a cause.
     pub fn contains(self, cause: Stop) -> bool
         ensures { result ≡ is_wanted self cause }
     {

@@ -1,4 +1,4 @@
-//! Some steps in a row with no keys down, up to a state that meets the goals.
+//! A sequence of steps with no keys down, up to a state that meets the goals.
 
 ghost use Rattle.std.specs.Prelude.{◌≡◌, ◌<◌, ◌-◌, ◌^◌, ℕ, List, IfSome, IsNone};
 ghost use Rattle.chip_explore.specs.inner.Cover.{View};
@@ -7,29 +7,31 @@ ghost use Rattle.chip_explore.specs.inner.Ranks.{Arrives, Climbs, IsOpen, IsWay}
 use crate::leg::Runner;
 use crate::setting::Setting;
 
-/// How some steps in a row ended.
+/// How a sequence of steps ended.
 #[derive(Clone, Copy, PartialEq, Eq)]
 pub(crate) enum Way {
-    /// The machine meets the goals, and makes a step.
+    /// The machine meets the goals and hasn't stopped.
     AtGoals,
-    /// The next step can tell keys apart, or values of the delay timer, or the steps are many.
+    /// The next step can tell keys or values of the delay timer apart, or the sequence has its maximal
+    /// length.
     Joined,
-    /// The machine has stopped, or not all is known of the next step.
+    /// The machine has stopped, or something that the next step, the properties or the goals need is
+    /// forgotten.
     Lost,
 }
 
-/// Where some steps in a row ended, and how.
+/// Where a sequence of steps ended, and how.
 #[derive(Clone, Copy)]
 pub(crate) struct Climb {
     pub(crate) step: u64,
     pub(crate) way: Way,
-    /// How many steps more there may be in this row.
+    /// How many more steps the sequence may have.
     pub(crate) left: u32,
 }
 
 impl Runner {
-    /// Makes so many steps from a step on at most, up to a state that meets the goals, to a stop, or to a
-    /// state whose next step can tell keys or values of the delay timer apart.
+    /// Makes at most `most` steps, of which the first is step `from`. Ends at a state that meets the
+    /// goals, at a stop, or at a state whose next step can tell keys or values of the delay timer apart.
     pub(crate) fn climb(&mut self, setting: &Setting<'_>, from: u64, most: u32) -> Climb
         requires rate { 0 < setting.now.rate }
         ensures path { (v : View) (ranks : List ℕ) (rank : ℕ)
@@ -58,8 +60,8 @@ impl Runner {
         }
     }
 
-    /// Goes on from a state that meets the goals: `None` where its step can tell keys or values of the
-    /// delay timer apart, or the steps are many.
+    /// Goes on from a state that meets the goals. Returns `None` if its next step can tell keys or values
+    /// of the delay timer apart, or if the sequence has its maximal length.
     pub(crate) fn climb_on(&mut self, setting: &Setting<'_>, climb: Climb) -> Option<Climb>
         requires { 0 < setting.now.rate }
     {
@@ -79,7 +81,7 @@ impl Runner {
         Some(self.climb(setting, climb.step + 1, climb.left - 1))
     }
 
-    /// How the steps in a row end at a step, if they do.
+    /// How the sequence ends at a step, or `None` if it goes on.
     fn way(&mut self, setting: &Setting<'_>, step: u64, left: u32) -> Option<Way>
         ensures same { self.new.machine ≡ self.old.machine }
         ensures forgotten { self.new.forgotten ≡ self.old.forgotten }

@@ -1,4 +1,4 @@
-//! A key script that a search found, run again.
+//! Runs a key script that a search found once more.
 
 ghost use Rattle.std.specs.Prelude.{◌≡◌, ◌<◌, IfOk, IfSome};
 ghost use Rattle.chip_explore.specs.Scripts.{keys_of};
@@ -10,7 +10,7 @@ use chip_machine::{Machine, Touch};
 use chip_replay::{KeyFault, Keys};
 use std::alloc::{AllocError, Global};
 
-/// The events as those of a replay.
+/// Returns the events as events of a replay.
 fn keys_of(alloc: Global, events: &[KeyEvent]) -> Result<Keys, KeyFault>
     ensures { IfOk result (λ keys. keys ≡ keys_of events.now) }
 {
@@ -21,8 +21,8 @@ fn keys_of(alloc: Global, events: &[KeyEvent]) -> Result<Keys, KeyFault>
     Ok(keys)
 }
 
-/// The machine at a step under some events, with none but allowed keys down before it: `None` where a
-/// replay refuses these events, or other keys are down.
+/// Returns the machine at a step under some events, if only allowed keys are down before it. Returns
+/// `None` if a replay refuses these events, or if other keys are down.
 pub(crate) fn machine_under(
     alloc: Global,
     start: &Machine,

@@ -1,4 +1,4 @@
-//! At which addresses a search saw steps made.
+//! The addresses at which a search saw steps made.
 
 ghost use Rattle.std.specs.Prelude.{◌≡◌, true};
 ghost use Rattle.chip_explore.specs.Executed.{is_among, is_at_one};
@@ -11,7 +11,7 @@ use std::marker::Model;
 /// The addresses at which a search saw a step made, with some of the allowed keys down.
 #[derive(Clone, Copy)]
 pub struct Executed {
-    /// Whether a step was made at an address, one for each byte of the memory.
+    /// Whether a step was made at an address, for each byte of the memory.
     addresses: [bool; MEMORY_BYTES],
 }
 
@@ -26,14 +26,14 @@ impl Model for Executed {
 }
 
 impl Executed {
-    /// No address.
+    /// Returns no address.
     pub(crate) fn none() -> Executed {
         Executed {
             addresses: [false; MEMORY_BYTES],
         }
     }
 
-    /// That of a machine's next step, unless it has stopped.
+    /// Returns the address of a machine's next step, or no address if it has stopped.
     pub(crate) fn at(machine: &Machine) -> Executed
         ensures { is_at_one result machine.now ≡ true }
     {
@@ -54,15 +54,15 @@ impl Executed {
         }
     }
 
-    /// Whether a step was made at an address, by the address.
+    /// For each address, whether a step was made there.
     pub fn addresses(&self) -> &[bool]
         ensures { result.now ≡ self.now }
     {
         &self.addresses
     }
 
-    /// Whether a step was made at an address. One past the memory, where each step stops the
-    /// machine, counts as such.
+    /// Whether a step was made at an address. Addresses past the memory, where each step stops the
+    /// machine, always count as such.
     pub fn contains(&self, address: u16) -> bool
         ensures { result ≡ is_among self.now address }
     {

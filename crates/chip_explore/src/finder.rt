@@ -1,5 +1,5 @@
-//! In which order states are taken up, where one may be found, and how each was reached. Nothing is
-//! claimed of it: what it answers is checked.
+//! The order in which states are taken up, where one may be found, and how each was reached. Nothing is
+//! claimed about this, because what it answers is checked.
 
 use crate::backdrop::{Backdrop, Backdrops};
 use crate::guesses::Guesses;
@@ -23,30 +23,30 @@ pub(crate) struct Turn {
 /// Which state is taken up next.
 #[derive(Clone, Copy, PartialEq, Eq)]
 pub(crate) enum Order {
-    /// One with the least step: the step of what is found is a first one.
+    /// A state with the least step. The step of what is found is then a first one.
     LeastStep,
-    /// One with the greatest step, until the target is met.
+    /// A state with the greatest step, until the target is met.
     GreatestStep,
 }
 
 /// How a state was reached.
 #[derive(Clone, Copy)]
 pub(crate) struct Origin {
-    /// The place of the state before the last step that could tell keys apart: past all places if
-    /// there was none.
+    /// The place of the state before the last step that could tell keys apart, or a number past all
+    /// places if there was none.
     parent: u32,
     /// The number of that step.
     pub(crate) step: u32,
-    /// The keys that were down in it, key k at bit k.
+    /// The keys that were down in that step, key k at bit k.
     pub(crate) keys: u16,
-    /// In how many such steps on the way keys were down.
+    /// The number of such steps on the way in which keys were down.
     presses: u16,
-    /// The value of the delay timer that it read, where it can tell these apart.
+    /// The value of the delay timer that the step read, if it can tell these values apart.
     pub(crate) value: u8,
 }
 
 impl Origin {
-    /// That of a state before which no step can tell keys apart.
+    /// The origin of a state before which no step can tell keys apart.
     pub(crate) const START: Origin = Origin {
         parent: u32::MAX,
         step: 0,
@@ -55,7 +55,7 @@ impl Origin {
         value: 0,
     };
 
-    /// The place of the state before that step, if there was one.
+    /// Returns the place of the state before that step, if there was one.
     pub(crate) fn parent(self) -> Option<usize> {
         (self.parent != u32::MAX).then_some(self.parent as usize)
     }
@@ -70,20 +70,20 @@ pub(crate) struct Finder {
     pub(crate) origins: Vec<Origin>,
     /// How the target was met, if it was.
     pub(crate) hit: Option<Origin>,
-    /// For which other causes the machine stopped.
+    /// The other causes for which the machine stopped.
     pub(crate) seen: Seen,
-    /// Whether a delay timer was above 0 where the ticks are free.
+    /// Whether a delay timer was above 0 while the ticks were free.
     pub(crate) is_timer_set: bool,
-    /// Whether its watcher ended the search.
+    /// Whether the watcher ended the search.
     pub(crate) is_stopped: bool,
-    /// In how many ways it went on from states.
+    /// The number of ways in which the search went on from states.
     pub(crate) ways: u64,
-    /// What is forgotten of the states.
+    /// The guesses about what can be forgotten.
     pub(crate) guesses: Guesses,
 }
 
 impl Finder {
-    /// No state is known, and these causes were met.
+    /// Returns a finder that knows no state, given the causes that were met before.
     pub(crate) fn new(alloc: Global, order: Order, seen: Seen, guesses: Guesses) -> Finder {
         Finder {
             order,
@@ -99,14 +99,14 @@ impl Finder {
         }
     }
 
-    /// Whether a step refuted what the search takes for granted.
+    /// Whether a step refuted what the search assumes.
     pub(crate) fn is_refuted(&self, setting: &Setting<'_>) -> bool {
         self.guesses.is_refuted || self.is_timer_set && setting.is_strict
     }
 
-    /// Whether a search that keeps so many states is left before it takes up one that was reached at a
-    /// step: it has refuted what it takes for granted, or met what it waits for, or it keeps as many
-    /// states as it may with free ticks, or has gone on from them in so many ways.
+    /// Whether a search with this many states ends before it takes up a state that was reached at a step.
+    /// The reason is that it has refuted what it assumes, has met what it waits for, or, with free ticks,
+    /// keeps too many states or has gone on from them in too many ways.
     pub(crate) fn is_left(&self, setting: &Setting<'_>, states: usize, step: u64) -> bool {
         let most = setting.most_timed;
         let is_full = states > most || self.ways / MOST_WAYS > most as u64;
@@ -115,15 +115,15 @@ impl Finder {
             || setting.awaited.is_any() && self.seen.has_all(&setting.awaited, step)
     }
 
-    /// Whether the delay timer of the state that a runner has is a bound above 0, which is noted.
+    /// Whether the runner's delay timer is a bound above 0. If so, notes that.
     pub(crate) fn has_bound(&mut self, setting: &Setting<'_>, runner: &Runner) -> bool {
         let has_bound = setting.free && runner.machine.delay() != 0;
         self.is_timer_set |= has_bound;
         has_bound
     }
 
-    /// The parts that are to be forgotten of the state that a runner has: where its next step goes on in
-    /// one way, those that are. A delay timer above 0 is noted where the ticks are free.
+    /// Returns the parts to forget of the runner's state: the ones already forgotten, if its next step
+    /// goes on in one way. Notes a delay timer above 0 while the ticks are free.
     pub(crate) fn parts_to_forget(&mut self, setting: &Setting<'_>, runner: &Runner) -> Forgotten {
         let _has_bound = self.has_bound(setting, runner);
         if runner.is_quiet {
@@ -133,8 +133,8 @@ impl Finder {
         }
     }
 
-    /// Notes which bytes of the memory changed in the last of the states, where it is the first one with its
-    /// backdrop.
+    /// Notes which bytes of the memory changed in the last of the states, if it is the first state with
+    /// its backdrop.
     pub(crate) fn note_changed(&mut self, backdrops: &mut Backdrops, states: &[Kept]) {
         if backdrops.is_new
             && let Some(kept) = states.last()
@@ -145,7 +145,7 @@ impl Finder {
         backdrops.is_new = false;
     }
 
-    /// The place of a state with this sum, if one is known.
+    /// Returns the place of a state with this sum, if one is known.
     pub(crate) fn place(&self, sum: u64) -> Option<usize> {
         match self.places.get(&sum) {
             Some(place) => Some(*place as usize),
@@ -153,8 +153,8 @@ impl Finder {
         }
     }
 
-    /// The step at which each run is left: the end of the steps that are asked for, and, where the
-    /// greatest step comes first, of those that a script may have.
+    /// Returns the step at which each run ends: the end of the steps that are asked for and, if the
+    /// greatest step comes first, of the steps that a script may have.
     pub(crate) fn end(&self, steps: u64) -> u64 {
         match self.order {
             Order::LeastStep => steps,
@@ -162,7 +162,7 @@ impl Finder {
         }
     }
 
-    /// How a state is reached by a step of the state at a place, with these keys down.
+    /// Returns how a state is reached by a step of the state at a place with these keys down.
     pub(crate) fn origin(&mut self, place: usize, step: u64, keys: u16) -> Origin {
         self.ways = self.ways.saturating_add(1);
         let before = match self.origins.get(place) {
@@ -178,7 +178,7 @@ impl Finder {
         }
     }
 
-    /// Likewise by a step that reads this value of the delay timer.
+    /// Returns how a state is reached by a step of a state that reads this value of the delay timer.
     pub(crate) fn origin_by(&mut self, place: usize, step: u64, value: u8) -> Origin {
         Origin {
             value,
@@ -195,8 +195,8 @@ impl Finder {
         self.open(turn, origin)
     }
 
-    /// Notes that a state is to be taken up, which was reached so. Where the greatest step comes
-    /// first, it isn't if its script is as long as one may be.
+    /// Notes that a state, which was reached in this way, is to be taken up. If the greatest step comes
+    /// first, leaves out a state whose script has its maximal length.
     fn open(&mut self, turn: Turn, origin: Origin) -> Result<(), AllocError> {
         if self.order == Order::LeastStep || origin.presses < MOST_PRESSES {
             self.turns.insert(turn)?;
@@ -204,8 +204,8 @@ impl Finder {
         Ok(())
     }
 
-    /// Notes that a state was reached earlier than at a step. Where the greatest step comes first, one
-    /// that was taken up isn't again: the scripts through it are those by which it was reached first.
+    /// Notes that a state was reached earlier than at a step. If the greatest step comes first, a state
+    /// that was taken up is not taken up again: scripts through it are those by which it was reached first.
     pub(crate) fn note_earlier(
         &mut self,
         turn: Turn,
@@ -225,7 +225,7 @@ impl Finder {
         self.open(turn, origin)
     }
 
-    /// The next state to be taken up, if there is one.
+    /// Returns the next state to be taken up, if there is one.
     pub(crate) fn next(&mut self) -> Option<Turn> {
         match self.order {
             Order::LeastStep => self.turns.pop_first(),

@@ -1,4 +1,4 @@
-//! A state as what it has beside a base.
+//! States, stored as their differences from a base.
 
 ghost use Rattle.std.specs.Prelude.{◌≡◌, ◌<◌, ◌≤◌, ◌+◌, Some, IfOk, IsTrue};
 ghost use Rattle.chip_machine.specs.Relevant.{Alike};
@@ -11,16 +11,16 @@ use chip_machine::{Forgotten, Machine, Parts};
 use std::alloc::{AllocError, Global};
 use std::rc::Rc;
 
-/// How many rows a screen has.
+/// The number of rows of a screen.
 pub(crate) const ROWS: usize = 64;
 
-/// A machine, and the rows of pixels of its screen.
+/// A machine and the rows of pixels of its screen.
 pub(crate) struct Base {
     pub(crate) machine: Machine,
     pub(crate) rows: Vec<u128>,
 }
 
-// It goes by one call, and not part by part in each function that lets one go.
+// Dropping is one call. A derived `Drop` would be expanded in every function that drops a base.
 impl Drop for Base {
     fn drop(self) {
         let Base {
@@ -30,7 +30,7 @@ impl Drop for Base {
     }
 }
 
-/// A state, by what it has beside a base.
+/// A state, stored as its differences from a base.
 #[derive(Drop)]
 pub(crate) struct Kept {
     pub(crate) registers: [u8; 16],
@@ -43,7 +43,7 @@ pub(crate) struct Kept {
 }
 
 impl Base {
-    /// A machine as a base.
+    /// Returns a copy of a machine, with the rows of its screen, as a base.
     pub(crate) fn of(alloc: Global, machine: &Machine) -> Result<Base, AllocError>
         ensures { IfOk result (λ base. base.machine ≡ machine.now) }
     {
@@ -57,8 +57,8 @@ impl Base {
 }
 
 impl Kept {
-    /// The state of a machine, whose backdrop has this sum. Nothing is claimed of it: it is loaded
-    /// again, and compared.
+    /// Returns the state of a machine; `sum` is the sum of its backdrop. Nothing is claimed about the
+    /// result, because it is loaded again and compared.
     pub(crate) fn of(
         base: &Base,
         machine: &Machine,
@@ -77,7 +77,7 @@ impl Kept {
         })
     }
 
-    /// What the state has beside its memory and its screen.
+    /// Returns the parts of the state other than its memory and its screen.
     fn parts(&self) -> Parts
         ensures { result ≡ parts_of self.now }
     {
@@ -95,7 +95,7 @@ impl Kept {
         }
     }
 
-    /// What it has so after a step that set a register to a value of the delay timer.
+    /// Returns these parts after a step that sets a register to a value of the delay timer.
     fn parts_read(&self, register: u8, value: u8) -> Parts
         requires range { register < 16 }
         requires place { self.now.pc ≤ LAST_WORD }
@@ -110,8 +110,8 @@ impl Kept {
         parts
     }
 
-    /// Gives a machine this state: the answer is whether that was possible. The rows are room for
-    /// those of the screen.
+    /// Gives a machine this state. Returns whether that was possible. `rows` is scratch space for the
+    /// rows of the screen.
     pub(crate) fn load(
         &self,
         base: &Base,
@@ -124,8 +124,8 @@ impl Kept {
         self.backdrop.load(&self.parts(), base, machine, rows)
     }
 
-    /// Likewise the state after its next step, which sets a register to the delay timer, where that
-    /// has a value.
+    /// Gives a machine the state after the next step, which sets a register to the delay timer, if the timer
+    /// has this value. Returns whether that was possible. `rows` is scratch space for the rows of the screen.
     pub(crate) fn load_read(
         &self,
         register: u8,
@@ -143,8 +143,8 @@ impl Kept {
         self.backdrop.load(&parts, base, machine, rows)
     }
 
-    /// Whether this is the state of a machine, but for what no later step depends on: true only
-    /// where it is. The probe is room for the state.
+    /// Whether this is the state of a machine, except for what no later step depends on. If true, this is
+    /// proved; if false, it may still be that state. `probe` is scratch space for the state.
     pub(crate) fn is_of(
         &self,
         base: &Base,

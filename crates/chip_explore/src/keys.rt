@@ -11,7 +11,7 @@ pub(crate) fn is_down(keys: u16, key: u32) -> bool
     keys >> key & 1 == 1
 }
 
-/// A key alone.
+/// Returns the mask of one key.
 pub(crate) fn alone(key: u32) -> u16
     requires { key < 16 }
     ensures { result ≡ 2 ^ key }

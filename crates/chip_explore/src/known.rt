@@ -1,4 +1,4 @@
-//! What of a state is known, where some parts are forgotten.
+//! The known values of a state in which some parts are forgotten.
 
 ghost use Rattle.std.specs.Prelude.{◌≡◌};
 ghost use Rattle.std.specs.List.{list_all};
@@ -7,14 +7,14 @@ ghost use Rattle.chip_explore.specs.inner.Known.{is_comparison_known, is_item_kn
 use crate::property::{Comparison, Condition, Item, Property, Sum};
 use chip_machine::Forgotten;
 
-/// What of a state is known.
+/// Which values of a state are known.
 #[derive(Clone, Copy)]
 pub(crate) struct Known {
-    /// The parts that are forgotten of it.
+    /// The forgotten parts of the state.
     pub(crate) forgotten: Forgotten,
-    /// Its delay timer is that of a run, and no mere bound.
+    /// Whether the delay timer is that of a run, and not just a bound of it.
     pub(crate) has_delay: bool,
-    /// Where its next instruction stands.
+    /// The address of the next instruction.
     pub(crate) pc: u16,
 }
 
@@ -64,7 +64,7 @@ impl Known {
         !property.is_at(pc) || self.has_condition(&property.condition)
     }
 
-    /// Whether it has each value of the properties that are asked where pc is.
+    /// Whether all values are known that the properties evaluated at `pc` use.
     pub(crate) fn has_properties(&self, pc: u16, properties: &[Property]) -> bool
         ensures { result ≡ list_all (λ p. is_property_known self.now pc p) properties.now }
     {

@@ -2,7 +2,7 @@
 
 ghost use Rattle.chip_explore.specs.OneOf.{AnswersOne, NeverOne};
 
-/// What a search for several properties says of each of them alone.
+/// The law: an answer of a search for several properties implies an answer for each of them alone.
 pub fn one_of_several()
     ensures answers { AnswersOne }
     ensures any_speed { NeverOne }

@@ -1,5 +1,5 @@
-//! Some steps in a row that tell neither keys nor values of the delay timer apart, and need nothing
-//! that is forgotten, nor do the properties that are asked of the states on the way.
+//! Sequences of steps that tell neither keys nor values of the delay timer apart, and during which
+//! neither the steps nor the properties need anything that is forgotten.
 
 ghost use Rattle.std.specs.Prelude.{◌≡◌, ◌<◌, ◌-◌, length, IfOk, IfSome, IsNone};
 ghost use Rattle.chip_machine.specs.Relevant.{Alike};
@@ -13,22 +13,23 @@ use chip_machine::limits::MEMORY_BYTES;
 use chip_machine::{Forgotten, Machine, Touch};
 use std::alloc::{AllocError, Global};
 
-/// Why some steps in a row ended.
+/// Why a sequence of steps ended.
 #[derive(Clone, Copy)]
 pub(crate) enum End {
-    /// The limit is met.
+    /// The limit was reached.
     Past,
-    /// The machine meets the target, or has stopped and doesn't meet the goals.
+    /// The machine meets the target, or has stopped without meeting the goals.
     Wanted,
-    /// The machine has stopped for another cause, and meets the goals.
+    /// The machine has stopped for a cause that isn't wanted, and meets the goals.
     Halted,
-    /// The next step can tell keys apart, or values of the delay timer, or the steps are many.
+    /// The next step can tell keys or values of the delay timer apart, or the sequence has its maximal
+    /// length.
     Joined,
-    /// The next step needs something that is forgotten, or a property that is asked of the state does.
+    /// The next step, or a property that is evaluated in this state, needs something that is forgotten.
     Read,
 }
 
-/// Where some steps in a row ended, and why.
+/// Where a sequence of steps ended, and why.
 #[derive(Clone, Copy)]
 pub(crate) struct Leg {
     pub(crate) step: u64,
@@ -39,19 +40,19 @@ pub(crate) struct Leg {
 #[derive(Drop)]
 pub(crate) struct Runner {
     pub(crate) machine: Machine,
-    /// The parts of its state that are forgotten.
+    /// The forgotten parts of its state.
     pub(crate) forgotten: Forgotten,
-    /// Those that were needed where it ended last.
+    /// The forgotten parts that were needed where it last ended.
     pub(crate) read: Forgotten,
-    /// Whether its next step doesn't tell keys apart, nor values of the delay timer.
+    /// Whether its next step tells neither keys nor values of the delay timer apart.
     pub(crate) is_quiet: bool,
     pub(crate) touch: Touch,
-    /// Room for the rows of a screen.
+    /// Scratch space for the rows of a screen.
     pub(crate) rows: Vec<u128>,
 }
 
 impl Runner {
-    /// A machine in the state of another, of which nothing is forgotten.
+    /// Returns a copy of a machine, with nothing forgotten.
     pub(crate) fn new(alloc: Global, machine: &Machine) -> Result<Runner, AllocError>
         ensures machine { IfOk result (λ runner. runner.machine ≡ machine.now) }
         ensures nothing { IfOk result (λ runner. runner.forgotten ≡ 0) }
@@ -67,9 +68,9 @@ impl Runner {
         })
     }
 
-    /// Makes steps from a step on up to the limit, to a stop, or to a state whose next step can
-    /// tell keys or values of the delay timer apart or needs something that is forgotten, and notes
-    /// the addresses of these steps and of that next one.
+    /// Makes steps, of which the first is step `from`, up to the limit, to a stop, or to a state whose
+    /// next step can tell keys or values of the delay timer apart or needs something that is forgotten.
+    /// Notes the addresses of these steps and of that next one.
     pub(crate) fn run(
         &mut self,
         setting: &Setting<'_>,
@@ -107,8 +108,8 @@ impl Runner {
         }
     }
 
-    /// Puts bytes of a base in the place of those that are to be forgotten, so that states that differ in
-    /// these alone are the same.
+    /// Overwrites the bytes that are to be forgotten with those of a base, so that states that differ
+    /// only there become equal.
     pub(crate) fn erase(&mut self, parts: Forgotten, base: &Base)
         ensures alike { Alike parts self.new.machine self.old.machine }
         ensures same { self.new.forgotten ≡ self.old.forgotten }
@@ -116,8 +117,8 @@ impl Runner {
         erase(&mut self.machine, parts, base.machine.memory());
     }
 
-    /// Why the steps in a row end at a step, if they do. Where the machine makes a step, its address
-    /// is noted.
+    /// Why the sequence ends at a step, or `None` if it goes on. If the machine makes a step, notes its
+    /// address.
     fn end(
         &mut self,
         setting: &Setting<'_>,
@@ -168,7 +169,7 @@ impl Runner {
     }
 }
 
-/// Puts bytes of another memory in the place of those that are to be forgotten.
+/// Overwrites the bytes that are to be forgotten with those of another memory.
 fn erase(machine: &mut Machine, parts: Forgotten, memory: &[u8])
     requires { length memory.now ≡ MEMORY_BYTES }
     ensures { Alike parts machine.new machine.old }

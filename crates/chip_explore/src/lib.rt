@@ -1,5 +1,5 @@
-//! A search over all key scripts: events of the keys under which a machine stops for a wanted cause
-//! or comes to an address, or that none do.
+//! A search over all key scripts. It finds key events that make a machine stop for a wanted cause, come
+//! to an address or meet a property, or reports that no key script does.
 #![tactic(auto)]
 
 mod backdrop;

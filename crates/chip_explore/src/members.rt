@@ -14,23 +14,23 @@ use crate::setting::Setting;
 use chip_machine::{Forgotten, Machine};
 use std::alloc::{AllocError, Global};
 
-/// The states that are kept, each with the parts that are forgotten of it and the least step at
-/// which it was reached, and which of them were taken up.
+/// The kept states, each with its forgotten parts and the least step at which it was reached, and which
+/// of them were taken up.
 pub(crate) struct Members {
     pub(crate) start: Machine,
-    /// What the states are kept against.
+    /// The base that the states are compared with.
     pub(crate) base: Base,
     pub(crate) states: Vec<Kept>,
     pub(crate) forgotten: Vec<Forgotten>,
     pub(crate) steps: Vec<u64>,
     pub(crate) closed: Vec<bool>,
-    /// The step below which the search speaks of.
+    /// The search is about steps below this one.
     pub(crate) limit: u64,
-    /// At which addresses the search saw steps made.
+    /// The addresses at which the search saw steps made.
     pub(crate) executed: Executed,
 }
 
-// It goes by one call, and not part by part in each function that lets one go.
+// Dropping is one call. A derived `Drop` would be expanded in every function that drops the members.
 impl Drop for Members {
     fn drop(self) {
         let Members {
@@ -47,7 +47,7 @@ impl Drop for Members {
 }
 
 impl Members {
-    /// No state is kept yet, and the search speaks of all steps.
+    /// Returns members without a state, for a search about all steps.
     pub(crate) fn new(alloc: Global, start: &Machine, base: Base) -> Result<Members, AllocError>
         ensures start { IfOk result (λ members. members.start ≡ start.now) }
         ensures empty { IfOk result (λ members. members.steps.items ≡ []) }
@@ -71,8 +71,8 @@ impl Members {
         })
     }
 
-    /// Gives a machine the state of a place: the answer is whether that was possible. The rows are
-    /// room for those of the screen.
+    /// Gives a machine the state of a place. Returns whether that was possible. `rows` is scratch space
+    /// for the rows of the screen.
     pub(crate) fn load(
         &self,
         place: usize,
@@ -86,8 +86,9 @@ impl Members {
         self.states[place].load(&self.base, machine, rows)
     }
 
-    /// Likewise the state after the next step of that, which sets a register to the delay timer, where
-    /// that has a value.
+    /// Gives a machine the state after the next step of the state of a place, which sets a register to
+    /// the delay timer, if the timer has this value. Returns whether that was possible. `rows` is scratch
+    /// space for the rows of the screen.
     pub(crate) fn load_read(
         &self,
         place: usize,
@@ -106,7 +107,7 @@ impl Members {
         self.states[place].load_read(register, value, &self.base, machine, rows)
     }
 
-    /// The least step at which the state of a place was reached.
+    /// Returns the least step at which the state of a place was reached.
     pub(crate) fn step(&self, place: usize) -> u64
         requires { place < length self.now.steps.items }
         ensures { result ≡ slice_index self.now.steps.items place }
@@ -114,7 +115,7 @@ impl Members {
         self.steps[place]
     }
 
-    /// Whether a place holds a state that was reached at a step and is to be taken up.
+    /// Whether a place holds a state that was reached at a step and is still to be taken up.
     pub(crate) fn is_open(&self, place: usize, step: u64) -> bool
         ensures { IsTrue result → place < length self.now.steps.items }
     {
@@ -124,9 +125,9 @@ impl Members {
             && !self.closed[place]
     }
 
-    /// Whether a place holds a state like this one in all but what is forgotten of that, with the
-    /// ticks as at a step: true only where it does. What is forgotten of this one is among that. The
-    /// probe is room for the state.
+    /// Whether a place holds a state that is like this one except for the forgotten parts of the kept
+    /// state, with the ticks as at a step. The forgotten parts of this state are among those. If true,
+    /// this is proved; if false, it may still hold. `probe` is scratch space for the state.
     pub(crate) fn is_at(
         &self,
         setting: &Setting<'_>,
@@ -153,8 +154,8 @@ impl Members {
     }
 
     /// Keeps the state of a machine, which was reached at a step, without the parts that are to be
-    /// forgotten of it: the answer is whether what is to be kept is that state. The probe is room for
-    /// it. All room is taken before the first change.
+    /// forgotten. Returns whether `kept` is that state. `probe` is scratch space for the state. Takes all
+    /// memory before the first change.
     pub(crate) fn add(
         &mut self,
         setting: &Setting<'_>,
@@ -184,7 +185,7 @@ impl Members {
         Ok(true)
     }
 
-    /// Notes that a state was reached at an earlier step, so that it is to be taken up again.
+    /// Notes that a state was reached at an earlier step, so that it is taken up again.
     pub(crate) fn lower(&mut self, setting: &Setting<'_>, place: usize, step: u64)
         requires there { HasPlace setting.now self.old place }
         requires early { step ≤ slice_index self.old.steps.items place }
@@ -208,7 +209,7 @@ impl Members {
         self.closed[place] = true;
     }
 
-    /// Speaks of the steps below a limit alone.
+    /// Restricts the search to the steps below a limit.
     pub(crate) fn lower_limit(&mut self, setting: &Setting<'_>, limit: u64)
         requires holds { Holds setting.now self.old }
         ensures goes { Goes setting.now self.old self.new }
@@ -219,7 +220,7 @@ impl Members {
         self.limit = least;
     }
 
-    /// The last step up to which all states were taken up.
+    /// Returns the last step up to which all states were taken up.
     pub(crate) fn covered(&self) -> u64
         requires { 0 < self.now.limit }
         ensures below { result < self.now.limit }
@@ -238,12 +239,13 @@ impl Members {
         covered
     }
 
-    /// That step, or 0 where the members speak of none.
+    /// Returns that step, or 0 if the members are about no step.
     pub(crate) fn covered_or_none(&self) -> u64 {
         if self.limit == 0 { 0 } else { self.covered() }
     }
 
-    /// Whether they speak of all steps below `END`, and each state was taken up: true only where it is so.
+    /// Whether the search is about all steps below `END` and each state was taken up. If true, this is
+    /// proved; if false, it may still hold.
     pub(crate) fn is_whole(&self, setting: &Setting<'_>) -> bool
         requires { Holds setting.now self.now }
         ensures { IsTrue result → IsWhole setting.now self.now }

@@ -1,4 +1,4 @@
-//! Properties of a machine's state, which an author states of a game.
+//! Properties of a machine's state, which an author states about a game.
 
 ghost use Rattle.std.specs.Prelude.{◌≡◌, ◌<◌, ◌*◌, ◌^◌};
 ghost use Rattle.std.specs.List.{list_all, list_any};
@@ -19,24 +19,24 @@ pub enum Item {
     Register(Reg),
     /// The register I.
     Index,
-    /// pc.
+    /// The program counter, pc.
     Place,
     /// The delay timer.
     Delay,
-    /// How many calls are open.
+    /// The number of open calls.
     Depth,
-    /// 1 where the screen has its high size, and else 0.
+    /// 1 if the screen has its high size, otherwise 0.
     High,
-    /// 1 where the next instruction is SKP, SKNP or LD Vx, K, and else 0.
+    /// 1 if the next instruction is SKP, SKNP or LD Vx, K, otherwise 0.
     AsksKeys,
-    /// The byte at an address, 0 past the end of the memory.
+    /// The byte at an address, or 0 past the end of the memory.
     Byte(u16),
-    /// 1 where the pixel in a column and a row of the screen is lit, in the pixels of its present size,
-    /// and else 0.
+    /// 1 if the pixel at a column and a row is lit, otherwise 0. Both are counted in pixels of the
+    /// screen's present size.
     Pixel { x: u8, y: u8 },
 }
 
-/// An item, so many times.
+/// An item with its factor.
 #[derive(Clone, Copy, PartialEq, Eq)]
 pub struct Term {
     pub factor: u32,
@@ -50,7 +50,7 @@ pub struct Sum {
     pub terms: Vec<Term>,
 }
 
-/// How the left side of a comparison is to be related to the right one.
+/// How the left side of a comparison has to be related to the right side.
 #[derive(Clone, Copy, PartialEq, Eq)]
 pub enum Relation {
     Equal,
@@ -69,27 +69,27 @@ pub struct Comparison {
     pub right: Sum,
 }
 
-/// Some comparisons, of which all hold, or at least one.
+/// Some comparisons, of which all or at least one must hold.
 #[derive(Drop)]
 pub struct Condition {
-    /// All of them, which is true of none; else one at least.
+    /// Whether all must hold, which is true of an empty list; otherwise at least one must.
     pub is_all: bool,
     pub comparisons: Vec<Comparison>,
 }
 
-/// What is looked for: a machine that makes a step, at a place if there is one, of which a condition
-/// holds or doesn't.
+/// A state that is looked for: the machine makes a step, at the given place if there is one, and the
+/// condition holds or doesn't hold.
 #[derive(Drop)]
 pub struct Property {
     pub condition: Condition,
-    /// The address at which it is asked: before each step where there is none.
+    /// The address at which the property is evaluated, or `None` to evaluate it before each step.
     pub place: Option<u16>,
-    /// Whether the condition is to hold, or not to.
+    /// Whether the condition has to hold, or has to fail.
     pub wanted: bool,
 }
 
 impl Item {
-    /// Its value in a machine's state.
+    /// Returns the value of the item in a machine's state.
     fn value(self, machine: &Machine) -> u16
         ensures { result ≡ value_in machine.now self }
     {
@@ -106,7 +106,7 @@ impl Item {
         }
     }
 
-    /// What it names of that which is forgotten, where pc is there.
+    /// Returns those of the forgotten parts that the item names, for a machine at `pc`.
     fn named(self, forgotten: Forgotten, pc: u16) -> Forgotten {
         let named = match self {
             Item::Register(x) => Forgotten::register(x),
@@ -130,7 +130,7 @@ fn asks_keys(machine: &Machine) -> bool
     )
 }
 
-/// Whether the pixel in a column and a row is lit, in the pixels of the screen's present size.
+/// Whether the pixel at a column and a row is lit. Both are counted in pixels of the screen's present size.
 fn is_lit(machine: &Machine, x: u8, y: u8) -> bool
     ensures { result ≡ (spec.is_lit machine.now.core.lit (stored machine.now.core.high x)
         (stored machine.now.core.high y)) }
@@ -176,7 +176,7 @@ impl Sum {
 }
 
 impl Relation {
-    /// Whether two numbers are so related.
+    /// Whether two numbers are related in this way.
     fn relates(self, left: u128, right: u128) -> bool
         ensures { result ≡ is_related self left right }
     {
@@ -230,7 +230,7 @@ impl Condition {
 }
 
 impl Property {
-    /// Whether it is asked where pc is.
+    /// Whether the property is evaluated at `pc`.
     pub(crate) fn is_at(&self, pc: u16) -> bool
         ensures { result ≡ is_at self.now.place pc }
     {
@@ -240,21 +240,21 @@ impl Property {
         }
     }
 
-    /// Whether a machine that makes a step meets it.
+    /// Whether a machine that makes a step meets the property.
     pub(crate) fn is_met(&self, machine: &Machine) -> bool
         ensures { result ≡ is_met machine.now self.now }
     {
         self.is_at(machine.pc()) && self.condition.holds(machine) == self.wanted
     }
 
-    /// Whether it names the delay timer.
+    /// Whether the property names the delay timer.
     pub(crate) fn names_delay(&self) -> bool {
         self.condition.comparisons.iter().any(|comparison| {
             comparison.left.names_delay() || comparison.right.names_delay()
         })
     }
 
-    /// What it names of that which is forgotten, where pc is there.
+    /// Returns those of the forgotten parts that the property names, for a machine at `pc`.
     pub(crate) fn named(&self, forgotten: Forgotten, pc: u16) -> Forgotten {
         let mut named = Forgotten::nothing();
         for comparison in &self.condition.comparisons {

@@ -27,30 +27,30 @@ use chip_machine::laws::alike_steps;
 use chip_replay::LAST_STEP;
 use std::alloc::{AllocError, Global};
 
-/// Whether from each state that a player can reach some way of playing leads to some goals.
+/// The question whether, from each state that a player can reach, some way of playing leads to some goals.
 #[derive(Clone, Copy)]
 pub struct Pursuit<'a> {
-    /// The timers tick at each step whose number plus 1 is a multiple of it: 1 at least.
+    /// The timers tick at each step whose number plus 1 is a multiple of this. At least 1.
     pub rate: u32,
     /// The keys that may be down, key k at bit k.
     pub allowed: u16,
-    /// What is to be met, all at once.
+    /// The properties to be met, all at once.
     pub goals: &'a [Property],
 }
 
-/// What was found of that.
+/// The answer to this question.
 #[derive(Drop)]
 pub enum Prospect {
-    /// From each state that a player can reach at a step below `FAR` some way of playing leads there.
+    /// From each state that a player can reach at a step below `FAR`, some way of playing leads to the goals.
     Always,
-    /// With these events of the keys, in the order of their steps, the machine is in a state at the step
-    /// from which none does.
+    /// With these key events, in the order of their steps, the machine is at the step in a state from
+    /// which no way of playing leads to the goals.
     DeadEnd { events: Vec<KeyEvent>, step: u32 },
     /// The search came to this step, and nothing is known.
     Within(u64),
 }
 
-/// What was found, and how.
+/// The answer, and how the search went.
 #[derive(Drop)]
 pub struct Foreseen {
     pub prospect: Prospect,
@@ -58,12 +58,12 @@ pub struct Foreseen {
     pub states: usize,
     /// Whether memory ran out before the search was done, so that the answer may say less.
     pub is_short: bool,
-    /// Whether its watcher ended it before it was done, so that the answer may say less.
+    /// Whether the watcher ended the search before it was done, so that the answer may say less.
     pub is_stopped: bool,
 }
 
 impl Prospect {
-    /// It as the outcome of a search: a dead end is found, always is never, and nothing is known up to a step.
+    /// Returns the outcome that printers take: a dead end becomes `Found`, and `Always` becomes `Never`.
     fn outcome(self) -> Outcome
         ensures { result ≡ outcome_of self }
     {
@@ -80,7 +80,7 @@ impl Prospect {
 }
 
 impl Foreseen {
-    /// It as what a search found.
+    /// Returns the answer as an answer of `explore`.
     pub fn explored(self) -> Explored
         ensures outcome { result.outcome ≡ outcome_of self.prospect }
         ensures speed { result.is_at_any_speed ≡ false }
@@ -95,7 +95,7 @@ impl Foreseen {
         }
     }
 
-    /// What a search found that came so far.
+    /// Returns an answer together with what it reports about its search.
     fn of(search: &Search, is_short: bool, prospect: Prospect) -> Foreseen
         ensures { result.prospect ≡ prospect }
     {
@@ -107,7 +107,7 @@ impl Foreseen {
         }
     }
 
-    /// It after a search for the goals, which may have ended before it was done.
+    /// Returns the answer after a search for the goals, which may have ended before it was done.
     fn after(self, verdict: Verdict) -> Foreseen
         ensures { result.prospect ≡ self.prospect }
     {
@@ -121,9 +121,9 @@ impl Foreseen {
     }
 }
 
-/// Whether from each state that a machine, which has drawn no random byte yet, comes to under the allowed
-/// keys, some way of playing leads to the goals. A search for stops that don't meet the goals takes up
-/// states by the least step first. Where it comes to its end, the goals are sought from each of its states.
+/// Whether, from each state that a machine comes to under the allowed keys, some way of playing leads to
+/// the goals. The machine must not have drawn a random byte. First, a search by the least step looks for
+/// stops that don't meet the goals. If it comes to its end, the goals are sought from each of its states.
 pub fn foresee<W: Watcher>(
     alloc: Global,
     start: &Machine,
@@ -207,8 +207,8 @@ fn foreseen_by<W: Watcher>(
     Ok(Foreseen::of(&search, is_short, prospect))
 }
 
-/// Whether from each state on the way of a search that came to its end the goals can be reached, as ranks
-/// say: true only where they can.
+/// Whether the goals can be reached from each state on the way of a search that came to its end, as the
+/// ranks say. If true, this is proved; if false, it may still hold.
 fn always_can(
     search: &mut Search,
     setting: &Setting<'_>,
@@ -239,7 +239,7 @@ struct Way {
     step: u32,
 }
 
-/// The way to a loss, where events can say it.
+/// Returns the way to a loss, or `None` if events can't express it.
 fn way_to(alloc: Global, search: &Search, loss: Option<Loss>) -> Result<Option<Way>, AllocError> {
     let Some(Loss { origin, step }) = loss else {
         return Ok(None);
@@ -253,19 +253,19 @@ fn way_to(alloc: Global, search: &Search, loss: Option<Loss>) -> Result<Option<W
     }))
 }
 
-/// What is known of the state that a way leads to.
+/// The verdict on the state that a way leads to.
 #[derive(Clone, Copy)]
 struct Verdict {
-    /// No way of playing leads from it to the goals.
+    /// Whether no way of playing leads from it to the goals.
     is_lost: bool,
-    /// Memory ran out before the search for them was done.
+    /// Whether memory ran out before the search for the goals was done.
     is_short: bool,
-    /// Its watcher ended that search before it was done.
+    /// Whether the watcher ended that search before it was done.
     is_stopped: bool,
 }
 
 impl Verdict {
-    /// That of a state about which nothing has to be sought.
+    /// Returns the verdict on a state for which no search is needed.
     fn at_once(is_lost: bool) -> Verdict
         ensures { result.is_lost ≡ is_lost }
     {
@@ -277,8 +277,8 @@ impl Verdict {
     }
 }
 
-/// Judges the state that a machine comes to by a way: it is lost only where no way of playing leads from it
-/// to the goals.
+/// Judges the state that a machine comes to by a way. If the verdict is lost, no way of playing leads
+/// from it to the goals.
 fn judge<W: Watcher>(
     alloc: Global,
     start: &Machine,
@@ -306,7 +306,7 @@ fn judge<W: Watcher>(
     seek_goals(alloc, &beginning, setting, bounds, watcher)
 }
 
-/// Seeks the goals from a machine at a step on: it is lost only where no way of playing leads there.
+/// Seeks the goals from a machine at a step. If the verdict is lost, no way of playing leads to them.
 fn seek_goals<W: Watcher>(
     alloc: Global,
     beginning: &Beginning<'_>,

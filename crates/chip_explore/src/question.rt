@@ -25,96 +25,96 @@ use chip_machine::laws::alike_steps;
 use chip_replay::LAST_STEP;
 use std::alloc::{AllocError, Global};
 
-/// Whether any player can make a machine meet a target.
+/// The question whether any player can make a machine meet a target.
 #[derive(Clone, Copy)]
 pub struct Question<'a> {
-    /// The timers tick at each step whose number plus 1 is a multiple of it: 1 at least.
+    /// The timers tick at each step whose number plus 1 is a multiple of this. At least 1.
     pub rate: u32,
     /// The keys that may be down, key k at bit k.
     pub allowed: u16,
     pub target: Target<'a>,
 }
 
-/// How a search takes the ticks of the timers. What its answer says of the rate is the same of each.
+/// How a search treats the ticks of the timers. What its answer says about the rate is the same in each case.
 #[derive(Clone, Copy, PartialEq, Eq)]
 pub enum Ticks {
-    /// At the rate alone, so that what it saw executed is executed at the rate.
+    /// Only at the rate, so that every step that the search sees is a step at the rate.
     AtRate,
-    /// First as if the timers could tick after any step or not, with a part of the states. Where that
-    /// doesn't answer, a search at the rate follows.
+    /// First as if the timers might or might not tick after any step, with a part of the states. If that
+    /// gives no answer, a search at the rate follows.
     Free,
-    /// Likewise, with all states.
+    /// Like `Free`, but with all states.
     FreeWithAll,
 }
 
-/// How far a search goes.
+/// The limits of a search.
 #[derive(Clone, Copy)]
 pub struct Bounds {
-    /// The search ends at this step: no answer speaks of it or of a later one, but for `Never`.
+    /// The search ends at this step. No answer is about this step or a later one, except `Never`.
     pub steps: u64,
-    /// None is taken up once more than so many are kept.
+    /// No state is taken up once more than this many are kept.
     pub states: usize,
-    /// Whether a search that ends there is followed by one that takes up the deepest states first,
-    /// within the same bounds, and whether a script may be answered that isn't a first one.
+    /// Whether a search that ends because of `states` is followed by one that takes up the deepest states
+    /// first, within the same bounds, and whether an answer may have a script that isn't a first one.
     pub is_deep: bool,
     pub ticks: Ticks,
 }
 
-/// What a search found.
+/// The answer of a search.
 #[derive(Drop)]
 pub enum Outcome {
-    /// With these events of the keys, in the order of their steps, the machine meets this of the
-    /// target at the step, and with no key script anything of it earlier.
+    /// With these key events, in the order of their steps, the machine meets the target at `step`, as
+    /// `met` says. No key script makes it meet the target earlier.
     Found {
         events: Vec<KeyEvent>,
         step: u32,
         met: Met,
     },
-    /// With these events the machine meets this of the target at the step, and with no key script
-    /// does it at a step up to the one that is covered.
+    /// With these key events, the machine meets the target at `step`, as `met` says. No key script makes
+    /// it meet the target at a step up to `covered`.
     Later {
         events: Vec<KeyEvent>,
         step: u32,
         met: Met,
         covered: u64,
     },
-    /// With no key script does it at a step up to this one.
+    /// No key script makes the machine meet the target at a step up to this one.
     Within(u64),
-    /// With no key script does it at any step below `END`.
+    /// No key script makes the machine meet the target at any step below `END`.
     Never,
 }
 
-/// What a search found, and what it saw on the way.
+/// The answer of a search, and what the search saw on the way.
 #[derive(Drop)]
 pub struct Explored {
     pub outcome: Outcome,
-    /// The causes that it met beside the wanted ones.
+    /// The stop causes, other than the wanted ones, that the search met.
     pub seen: Seen,
-    /// How many states it kept at most, with those of the deep search behind it.
+    /// The largest number of states that the search kept, plus those of a deep search after it.
     pub states: usize,
-    /// The addresses at which it saw steps made: those of all steps, under any key script, in which
-    /// the outcome says that the target isn't met, and maybe of later ones.
+    /// The addresses at which the search saw steps made: those of each step, under any key script, at
+    /// which the outcome says that the target isn't met, and maybe those of later steps.
     pub executed: Executed,
     /// Whether memory ran out before the search was done, so that the outcome may say less.
     pub is_short: bool,
-    /// Whether its watcher ended it before it was done, so that the outcome may say less.
+    /// Whether the watcher ended the search before it was done, so that the outcome may say less.
     pub is_stopped: bool,
     /// Whether no key script makes the machine meet the target at any step below `END`, whenever the
     /// timers tick.
     pub is_at_any_speed: bool,
-    /// Whether it had free ticks and a delay timer above 0, so that at the rate less may be met.
+    /// Whether it had free ticks and a delay timer above 0, so that less may be met at the rate.
     pub(crate) is_timed: bool,
 }
 
 impl Bounds {
-    /// The last step of which an answer speaks.
+    /// Returns the last step that an answer is about.
     fn last(&self) -> u64
         ensures { result ≡ self.now.steps - 1 }
     {
         self.steps.saturating_sub(1)
     }
 
-    /// How many states a search keeps at most where the ticks are free and a delay timer was above 0.
+    /// Returns how many states a search may keep once the ticks are free and a delay timer was above 0.
     fn most_timed(&self) -> usize {
         match self.ticks {
             Ticks::Free => self.states / FREE_SHARE,
@@ -124,7 +124,7 @@ impl Bounds {
 }
 
 impl Outcome {
-    /// What this of a deep search says after a search that covered the steps up to one.
+    /// Turns the outcome of a deep search into one after a search that covered the steps up to `covered`.
     fn after(self, covered: u64) -> Outcome
         ensures { result ≡ later_of covered self }
     {
@@ -147,7 +147,7 @@ impl Outcome {
 }
 
 impl Explored {
-    /// What a search says that kept no state.
+    /// Returns the answer of a search that kept no state.
     pub(crate) fn at_once(outcome: Outcome, executed: Executed, is_short: bool) -> Explored
         ensures outcome { result.outcome ≡ outcome }
         ensures executed { result.executed ≡ executed }
@@ -166,7 +166,7 @@ impl Explored {
         }
     }
 
-    /// What a search says that came to its end.
+    /// Returns the answer of a search that came to its end.
     fn after(search: &Search, outcome: Outcome, is_short: bool) -> Explored
         ensures outcome { result.outcome ≡ outcome }
         ensures executed { result.executed ≡ search.now.members.executed }
@@ -182,7 +182,7 @@ impl Explored {
         }
     }
 
-    /// Whether a search with these bounds tells all that is asked for.
+    /// Whether a search with these bounds answers all that is asked for.
     fn is_whole(&self, bounds: &Bounds) -> bool {
         match self.outcome {
             Outcome::Never | Outcome::Found { .. } => true,
@@ -191,14 +191,14 @@ impl Explored {
         }
     }
 
-    /// Whether a search at the rate is to follow one with free ticks: that doesn't tell all, or met other
-    /// causes, which are told with the least steps at which they are met at the rate.
+    /// Whether a search at the rate has to follow one with free ticks, because that one doesn't answer
+    /// everything, or because it met other causes, whose least steps at the rate are reported.
     fn needs_rate(&self, bounds: &Bounds) -> bool {
         self.is_timed && !self.is_stopped && (!self.is_whole(bounds) || self.seen.is_any())
     }
 
-    /// Whether this of a search with free ticks says more than one at the rate that came to such an
-    /// outcome.
+    /// Whether this answer of a search with free ticks says more than the outcome of a search at the
+    /// rate.
     fn says_more_than(&self, rated: &Outcome) -> bool {
         match (&self.outcome, rated) {
             (Outcome::Never, _) => true,
@@ -208,8 +208,8 @@ impl Explored {
         }
     }
 
-    /// What this search, which covered the steps up to one, says with what a deep one behind it
-    /// found.
+    /// Returns the answer of this search, which covered the steps up to `covered`, together with what a
+    /// deep search after it found.
     fn deepened_by(self, deep: Explored, covered: u64) -> Explored
         ensures outcome { result.outcome ≡ later_of covered deep.outcome }
         ensures executed { result.executed ≡ self.executed }
@@ -225,8 +225,8 @@ impl Explored {
         }
     }
 
-    /// The other causes that a search at the rate is to meet, where this one tells all else: none where
-    /// it doesn't.
+    /// Returns the other causes whose first step at the rate is still unknown, if this search answers all
+    /// else; otherwise none.
     fn awaited(&self, bounds: &Bounds) -> Seen {
         if self.is_whole(bounds) {
             self.seen
@@ -235,8 +235,8 @@ impl Explored {
         }
     }
 
-    /// The step up to which the target is avoided, where a deep search is to follow: one is asked
-    /// for, and the search ended since it kept the most states that it may.
+    /// The step up to which the target is avoided, if a deep search has to follow: the bounds ask for
+    /// one, and this search ended because it kept as many states as it may.
     fn covered_where_full(&self, bounds: &Bounds) -> Option<u64>
         ensures within { IfSome result (λ covered. self.now.outcome ≡ Within covered) }
         ensures deep { IsSome result → bounds.now.is_deep ≡ true }
@@ -255,9 +255,9 @@ impl Explored {
     }
 }
 
-/// Whether under some key script, of the allowed keys alone, a machine that has drawn no random
-/// byte yet meets the target. States are taken up by the least step first, and then, where the
-/// bounds say so, by the greatest. Where they say so, the ticks are free at first.
+/// Finds out whether some key script, with allowed keys only, makes a machine meet the target. The
+/// machine must not have drawn a random byte. States are taken up by the least step first, and then by
+/// the greatest, if the bounds say so. The ticks are free at first, if the bounds say so.
 pub fn explore<W: Watcher>(
     alloc: Global,
     start: &Machine,
@@ -305,19 +305,19 @@ pub fn explore<W: Watcher>(
     }
 }
 
-/// What one search found, and what it took for granted.
+/// The answer of one search, and its assumptions.
 #[derive(Drop)]
 struct Attempt {
     explored: Explored,
-    /// The ticks are free.
+    /// Whether the ticks are free.
     free: bool,
-    /// What is forgotten of the states.
+    /// The guesses about what can be forgotten.
     guesses: Guesses,
-    /// A step refuted it, so another search may find more.
+    /// Whether a step refuted a guess, so that another search may find more.
     is_refuted: bool,
 }
 
-/// A search with free ticks, and one at the rate behind it where that is needed.
+/// Makes a search with free ticks, and one at the rate after it if that is needed.
 fn search_by_step<W: Watcher>(
     alloc: Global,
     start: &Machine,
@@ -337,8 +337,8 @@ fn search_by_step<W: Watcher>(
     }
 }
 
-/// What a search with free ticks and one at the rate behind it say. Where the first told all that is
-/// asked for, the second ends once it has met the other causes that the first did.
+/// Combines a search with free ticks and a search at the rate after it. If the first answered everything
+/// that is asked for, the second ends once it has met the other causes that the first one met.
 fn rated<W: Watcher>(
     alloc: Global,
     start: &Machine,
@@ -373,8 +373,8 @@ fn rated<W: Watcher>(
     }
 }
 
-/// What a search said that covered the steps up to one, after a search of the deepest states first,
-/// which is not to be trusted with what it covers.
+/// Returns the answer of a search that covered the steps up to `covered`, after a search of the deepest
+/// states first. What that second search covers is not relied on.
 fn deepened<W: Watcher>(
     alloc: Global,
     start: &Machine,
@@ -407,8 +407,8 @@ fn deepened<W: Watcher>(
     }
 }
 
-/// A search in an order, with the causes that were met before it. A step that refutes what it took
-/// for granted makes it begin anew.
+/// Makes a search in an order, given the causes that were met before it. Begins anew when a step refutes
+/// what the search assumed.
 fn search<W: Watcher>(
     alloc: Global,
     start: &Machine,
@@ -443,7 +443,7 @@ fn search<W: Watcher>(
     Ok(last.explored)
 }
 
-/// One search: an error where memory ran out at its start.
+/// Makes one search. Fails if memory runs out at its start.
 fn search_once<W: Watcher>(
     alloc: Global,
     start: &Machine,
@@ -475,7 +475,7 @@ fn search_once<W: Watcher>(
     })
 }
 
-/// A step up to which no key script makes the machine meet the target.
+/// Returns a step up to which no key script makes the machine meet the target.
 fn covered_by(setting: &Setting<'_>, members: &Members) -> u64
     requires positive { 0 < members.now.limit }
     requires fresh { members.now.start.core.draws ≡ 0 }
@@ -489,8 +489,8 @@ fn covered_by(setting: &Setting<'_>, members: &Members) -> u64
     members.covered()
 }
 
-/// How far an answer says so, where no key script makes the machine meet the target up to a step: up to
-/// that one, or the last one that is asked for.
+/// Returns the step up to which an answer says that no key script makes the machine meet the target: the
+/// covered one, or the last one that is asked for.
 fn told_up_to(setting: &Setting<'_>, members: &Members, covered: u64, last: u64) -> u64
     requires below { covered < members.now.limit }
     requires covers { Covers setting.now members.now.executed members.now.start covered }
@@ -501,7 +501,7 @@ fn told_up_to(setting: &Setting<'_>, members: &Members, covered: u64, last: u64)
     covered.min(last)
 }
 
-/// What the states that were kept say.
+/// Returns the answer that the kept states give.
 fn explored_by(
     alloc: Global,
     setting: &Setting<'_>,
@@ -536,8 +536,8 @@ fn explored_by(
     }
 }
 
-/// What the search found at the step after those that are covered, or, where a script may be
-/// answered that isn't a first one, at a later step.
+/// Returns what the search found at the step after the covered ones, or at a later step if an answer may
+/// have a script that isn't a first one.
 fn found_after(
     alloc: Global,
     setting: &Setting<'_>,
@@ -575,7 +575,7 @@ fn found_after(
     Ok(None)
 }
 
-/// What the machine meets of the target at a step with these events, if anything.
+/// How the machine meets the target at a step with these events, or `None` if it doesn't.
 fn met_by(
     alloc: Global,
     setting: &Setting<'_>,

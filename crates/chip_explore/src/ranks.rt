@@ -1,4 +1,4 @@
-//! Ranks of the states that are kept, by which goals are reached from each.
+//! Ranks of the kept states. The ranks show that the goals can be reached from each state.
 
 ghost use Rattle.std.specs.Prelude.{◌≡◌, ◌<◌, ◌+◌, ◌-◌, ◌^◌, ℕ, List, length, slice_index, IfOk, IfSome, IsTrue};
 ghost use Rattle.chip_explore.specs.inner.Cover.{forgotten_at, view_of, HasPlace, Holds, IsAt};
@@ -12,7 +12,8 @@ use crate::sum::Sums;
 use std::alloc::AllocError;
 
 impl Search {
-    /// Whether a state meets the goals, and makes a step. The runner has it then.
+    /// Whether the state of a place meets the goals and hasn't stopped. If so, the runner has that state
+    /// afterwards.
     pub(crate) fn is_at_goals(
         &mut self,
         setting: &Setting<'_>,
@@ -39,8 +40,8 @@ impl Search {
         )
     }
 
-    /// Gives the runner the state after the next step of one, with these keys down: the answer is whether
-    /// that was possible.
+    /// Gives the runner the state after the next step of the state of a place, with these keys down.
+    /// Returns whether that was possible.
     pub(crate) fn step_from(
         &mut self,
         setting: &Setting<'_>,
@@ -86,7 +87,7 @@ impl Search {
         Ok(true)
     }
 
-    /// The place of a state that is like the one that the runner has at a step, if one is known.
+    /// Returns the place of a kept state that is like the runner's state at a step, if one is known.
     pub(crate) fn place_of(
         &mut self,
         setting: &Setting<'_>,
@@ -118,8 +119,8 @@ impl Search {
         }
     }
 
-    /// Whether some steps from a state on, with these keys down in the first one, lead to the goals or to
-    /// a state of a lesser rank: true only where they do.
+    /// Whether some steps from the state of a place, with these keys down in the first one, lead to the
+    /// goals or to a state of a lesser rank. If true, this is proved; if false, it may still hold.
     fn is_ranked(
         &mut self,
         setting: &Setting<'_>,
@@ -158,7 +159,8 @@ impl Search {
         }
     }
 
-    /// Whether that is so of each state, with the keys at its place: true only where it is.
+    /// Whether the same holds for each state, with the keys at its place. If true, this is proved; if
+    /// false, it may still hold.
     pub(crate) fn are_ranked(
         &mut self,
         setting: &Setting<'_>,

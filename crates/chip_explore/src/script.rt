@@ -1,19 +1,20 @@
-//! A key script as events.
+//! A key script, written as events.
 
 use crate::finder::{Finder, Origin};
 use chip_replay::KEYS;
 use std::alloc::{AllocError, Global};
 
-/// A key goes down, or up, at a step.
+/// A key that goes down or up at a step.
 #[derive(Clone, Copy)]
 pub struct KeyEvent {
     pub step: u32,
-    /// 0 to 15.
+    /// The key, 0 to 15.
     pub key: u32,
     pub down: bool,
 }
 
-/// The steps with some keys down on the way to a state that was reached so, the last first.
+/// Returns the steps with some keys down on the way to a state that was reached in this way, the last one
+/// first.
 fn presses(alloc: Global, finder: &Finder, last: Origin) -> Result<Vec<Origin>, AllocError> {
     let mut presses = Vec::new(alloc);
     let mut origin = last;
@@ -32,8 +33,8 @@ fn presses(alloc: Global, finder: &Finder, last: Origin) -> Result<Vec<Origin>, 
     Ok(presses)
 }
 
-/// Adds the events of a press: its keys go down, and up one step later, but a key that goes up at
-/// this very step stays down in place of that.
+/// Adds the events of a press: its keys go down, and up one step later. If an earlier event has a key go
+/// up at the step of the press, that event is removed instead, and the key stays down.
 fn push_press(events: &mut Vec<KeyEvent>, press: Origin) -> Result<(), AllocError> {
     let step = press.step;
     for key in 0..KEYS {
@@ -59,7 +60,7 @@ fn push_press(events: &mut Vec<KeyEvent>, press: Origin) -> Result<(), AllocErro
     Ok(())
 }
 
-/// The events of the keys on the way to a state that was reached so.
+/// Returns the key events on the way to a state that was reached in this way.
 pub(crate) fn script_to(
     alloc: Global,
     finder: &Finder,

@@ -1,4 +1,4 @@
-//! The search.
+//! The search over all key scripts.
 
 ghost use Rattle.std.specs.Prelude.{◌≡◌, ◌<◌, ◌≤◌, ◌+◌, ◌-◌, ◌^◌, ◌⊎◌, ℕ, length, IfOk, IfSome, OnOk, IsTrue, true};
 ghost use Rattle.chip_machine.specs.Step as spec;
@@ -27,14 +27,14 @@ pub(crate) struct Search {
     pub(crate) runner: Runner,
     pub(crate) finder: Finder,
     pub(crate) backdrops: Backdrops,
-    /// Room for a state.
+    /// Scratch space for a state.
     pub(crate) probe: Base,
-    /// The step at which each run is left.
+    /// The step at which each run ends.
     pub(crate) end: u64,
 }
 
 impl Search {
-    /// Keeps the state that the runner has at a step, unless one like it is kept.
+    /// Keeps the runner's state at a step, unless a state like it is kept already.
     fn join(&mut self, setting: &Setting<'_>, step: u64, origin: Origin) -> Result<(), AllocError>
         requires holds { Holds setting.now self.old.members }
         requires fine { IsFine setting.now self.old.members.executed self.old.runner.forgotten
@@ -58,7 +58,7 @@ impl Search {
         joined
     }
 
-    /// Keeps that state, in which these parts and bytes are forgotten, unless one like it is kept.
+    /// Keeps this state, with these parts and bytes forgotten, unless a state like it is kept already.
     fn join_erased(
         &mut self,
         setting: &Setting<'_>,
@@ -104,9 +104,9 @@ impl Search {
         self.finder.note(sums.state, Turn { step, place }, origin)
     }
 
-    /// Lets the runner make steps from a step on, and keeps the state in which they end. Where they
-    /// come to the end of the search, or memory to keep it runs out, the search speaks of the steps
-    /// below it alone.
+    /// Lets the runner make steps, of which the first is step `from`, and keeps the state in which they
+    /// end. If they reach the end of the search, or if memory runs out, the search is restricted to the
+    /// steps below that point.
     pub(crate) fn run_on(
         &mut self,
         setting: &Setting<'_>,
@@ -150,8 +150,8 @@ impl Search {
         Ok(())
     }
 
-    /// Makes the step of a state with these keys down, and goes on from there: the answer is whether
-    /// that was possible. The search speaks of the steps below that one alone where it was not.
+    /// Makes the next step of a state with these keys down, and goes on from there. Returns whether that
+    /// was possible; if not, the search is restricted to the steps below that one.
     fn follow(
         &mut self,
         setting: &Setting<'_>,
@@ -191,9 +191,9 @@ impl Search {
         Ok(true)
     }
 
-    /// Goes on from the state after the next step of one, which sets a register to the delay timer,
-    /// where that has a value: the answer is whether that was possible. The search speaks of the steps
-    /// below that one alone where it was not.
+    /// Goes on from the state after the next step of a state, which sets a register to the delay timer,
+    /// if the timer has this value. Returns whether that was possible; if not, the search is restricted
+    /// to the steps below that one.
     fn follow_as(
         &mut self,
         setting: &Setting<'_>,
@@ -226,8 +226,8 @@ impl Search {
         Ok(true)
     }
 
-    /// Does that with each value up to the bound, unless too many states are kept: the answer is whether
-    /// that was possible.
+    /// Goes on in this way with each value up to the bound, unless too many states are kept. Returns
+    /// whether that was possible.
     fn follow_values(
         &mut self,
         setting: &Setting<'_>,
@@ -257,8 +257,8 @@ impl Search {
         Ok(true)
     }
 
-    /// Makes the step of a state with each of these keys down alone, and goes on from there: the
-    /// answer is whether that was possible.
+    /// Makes the next step of a state with each of these keys down alone, and goes on from there. Returns
+    /// whether that was possible.
     fn follow_each(
         &mut self,
         setting: &Setting<'_>,
@@ -283,8 +283,8 @@ impl Search {
         Ok(true)
     }
 
-    /// In which ways the next step of a state goes, unless it is not loaded, has drawn as many random
-    /// bytes as are counted, or its next step needs something that is forgotten.
+    /// Returns the ways in which the next step of a state can go, or `None` if the state can't be loaded,
+    /// has drawn the largest countable number of random bytes, or needs something that is forgotten.
     fn ways(
         &mut self,
         setting: &Setting<'_>,
@@ -329,7 +329,7 @@ impl Search {
         }
     }
 
-    /// Makes the next step of a state with each choice of some keys, and notes that it was taken up.
+    /// Makes the next step of a state with each choice of some keys, and notes that the state was taken up.
     fn take_up_keys(
         &mut self,
         setting: &Setting<'_>,
@@ -354,7 +354,7 @@ impl Search {
         Ok(())
     }
 
-    /// Does so with each value of the delay timer.
+    /// Makes it with each value of the delay timer, and notes that the state was taken up.
     fn take_up_values(
         &mut self,
         setting: &Setting<'_>,
@@ -378,7 +378,7 @@ impl Search {
         Ok(())
     }
 
-    /// Makes the next step of a state in each of its ways, unless the limit is met.
+    /// Makes the next step of a state in each of its ways, unless the limit is reached.
     pub(crate) fn take_up(
         &mut self,
         setting: &Setting<'_>,
@@ -405,7 +405,7 @@ impl Search {
         }
     }
 
-    /// Takes up the state of a turn, unless that was done.
+    /// Takes up the state of a turn, unless that was done already.
     fn take_turn(
         &mut self,
         setting: &Setting<'_>,
@@ -429,7 +429,7 @@ impl Search {
             .saturating_add(self.backdrops.room)
     }
 
-    /// Takes up states until none is left, or the limits are met.
+    /// Takes up states until none is left, or until a limit is reached.
     pub(crate) fn run<W: Watcher>(
         &mut self,
         setting: &Setting<'_>,

@@ -1,4 +1,4 @@
-//! A search from a machine on, as far as it comes.
+//! A search that starts from a machine and goes on until it ends.
 
 ghost use Rattle.std.specs.Prelude.{◌≡◌, ◌<◌, ◌≤◌, ◌+◌, ◌-◌, [], length, IfOk};
 ghost use Rattle.chip_explore.specs.Answers.{most_ways};
@@ -20,21 +20,21 @@ use crate::watcher::Watcher;
 use chip_machine::Machine;
 use std::alloc::{AllocError, Global};
 
-/// Where a search begins.
+/// The state and step at which a search begins.
 #[derive(Clone, Copy)]
 pub(crate) struct Beginning<'m> {
     pub(crate) machine: &'m Machine,
-    /// The number of its next step.
+    /// The number of the machine's next step.
     pub(crate) step: u64,
 }
 
-/// A search that took up states until none was left, or a limit was met.
+/// A search that took up states until none was left, or until it reached a limit.
 #[derive(Drop)]
 pub(crate) struct Searched<'a> {
     pub(crate) search: Search,
-    /// What it was about.
+    /// The setting of the search.
     pub(crate) setting: Setting<'a>,
-    /// Memory ran out.
+    /// Whether memory ran out.
     pub(crate) is_short: bool,
 }
 
@@ -44,7 +44,7 @@ impl<'a> Searched<'a> {
         self.search.finder.is_refuted(&self.setting) && !self.search.finder.is_stopped
     }
 
-    /// What is forgotten of the states in that search.
+    /// Returns the guesses of the search about what can be forgotten.
     fn guesses(self) -> Guesses {
         let search = self.search;
         let finder = search.finder;
@@ -52,7 +52,8 @@ impl<'a> Searched<'a> {
     }
 }
 
-/// The first state whose next step can tell keys apart, from which others differ in little.
+/// Returns the first state whose next step can tell keys apart. Most other states differ little from this
+/// one.
 fn base_for(alloc: Global, start: &Machine, setting: &Setting<'_>) -> Result<Base, AllocError>
     requires { 0 < setting.now.rate }
 {
@@ -61,7 +62,7 @@ fn base_for(alloc: Global, start: &Machine, setting: &Setting<'_>) -> Result<Bas
     Base::of(alloc, &runner.machine)
 }
 
-/// One search: an error where memory ran out at its start.
+/// Makes one search. Fails if memory runs out at its start.
 pub(crate) fn search_from<'a, W: Watcher>(
     alloc: Global,
     beginning: &Beginning<'_>,
@@ -95,7 +96,7 @@ pub(crate) fn search_from<'a, W: Watcher>(
     })
 }
 
-/// Keeps the first state, and takes up states from it on.
+/// Keeps the first state, and takes up states from there on.
 fn search_all<W: Watcher>(
     search: &mut Search,
     from: u64,
@@ -114,7 +115,7 @@ fn search_all<W: Watcher>(
     search.run(setting, bounds.states, watcher)
 }
 
-/// A search by the least step, which begins anew where a step refutes what it took for granted.
+/// Searches states by the least step first, and begins anew when a step refutes a guess.
 pub(crate) fn search_anew<'a, W: Watcher>(
     alloc: Global,
     beginning: &Beginning<'_>,

@@ -1,4 +1,4 @@
-//! The stop causes that a search met beside the wanted ones.
+//! The stop causes that a search met, other than the wanted ones.
 
 ghost use Rattle.std.specs.Prelude.{◌≡◌, None, slice_index_or};
 ghost use Rattle.chip_machine.specs.Numbers.{stop_number};
@@ -16,17 +16,17 @@ pub const STOPS: &[Stop] = &[
     Stop::NoFlag,
 ];
 
-/// The causes outside the wanted ones for which the machine stopped in a search, each with the least
-/// step at which the search met it. Nothing is claimed of it: other key scripts may lead to other
-/// causes, or to these earlier.
+/// The causes, other than the wanted ones, for which the machine stopped in a search, each with the least
+/// step at which the search met it. Nothing is claimed about this, because other key scripts may lead to
+/// other causes, or to these at earlier steps.
 #[derive(Clone, Copy)]
 pub struct Seen {
-    /// That of Sk at k.
+    /// The step for Sk is at index k.
     first_steps: [Option<u64>; 8],
 }
 
 impl Seen {
-    /// No cause was met.
+    /// Returns no causes.
     pub(crate) fn none() -> Seen {
         Seen {
             first_steps: [None; 8],
@@ -42,13 +42,13 @@ impl Seen {
         }
     }
 
-    /// Whether a cause was met.
+    /// Whether any cause was met.
     pub(crate) fn is_any(&self) -> bool {
         self.first_steps.iter().any(|step| step.is_some())
     }
 
-    /// Whether each cause that was met in another search was met in this one too, which will meet none
-    /// at a step below this one any more.
+    /// Whether this search has met each cause that another search met. From now on it meets no cause at a
+    /// step below `step`.
     pub(crate) fn has_all(&self, awaited: &Seen, step: u64) -> bool {
         for cause in 0..8 {
             match (awaited.first_steps[cause], self.first_steps[cause]) {
@@ -60,7 +60,7 @@ impl Seen {
         true
     }
 
-    /// The least step at which a search met a cause, if it did.
+    /// Returns the least step at which the search met a cause, or `None` if it didn't.
     pub fn first_step(&self, cause: Stop) -> Option<u64>
         ensures { result ≡ slice_index_or self.now.first_steps (stop_number cause) None }
     {

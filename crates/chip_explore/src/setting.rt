@@ -1,4 +1,4 @@
-//! What a search is about.
+//! The question that a search answers, and how it treats the timers.
 
 ghost use Rattle.std.specs.Prelude.{◌≡◌, ◌<◌, ◌-◌, ◌^◌, None, IfSome};
 ghost use Rattle.chip_explore.specs.inner.Cover.{meets_goals, phase, tick_at, AsksSame};
@@ -13,29 +13,29 @@ use crate::target::Target;
 use crate::ways::delay_register;
 use chip_machine::{Forgotten, Machine};
 
-/// What a search is about, and how it takes the timers.
+/// The question that a search answers, and how it treats the timers.
 #[derive(Clone, Copy)]
 pub(crate) struct Setting<'a> {
-    /// The timers tick at each step whose number plus 1 is a multiple of it.
+    /// The timers tick at each step whose number plus 1 is a multiple of this.
     pub(crate) rate: u32,
     /// The keys that may be down, key k at bit k.
     pub(crate) allowed: u16,
     pub(crate) target: Target<'a>,
-    /// What each machine that stops is to meet.
+    /// The properties that each machine that stops has to meet.
     pub(crate) goals: &'a [Property],
-    /// The timers may tick after any step: the delay timer of a state is a bound of that of a run, and
-    /// no step of the search ticks.
+    /// Whether the timers may tick after any step. If so, the delay timer of a state is a bound of the
+    /// delay timer in a run, and no step of the search ticks.
     pub(crate) free: bool,
-    /// A state whose delay timer is above 0 refutes that.
+    /// Whether a state whose delay timer is above 0 refutes free ticks.
     pub(crate) is_strict: bool,
-    /// How many states are kept at most where the ticks are free and a delay timer was above 0.
+    /// The number of states that may be kept once the ticks are free and a delay timer was above 0.
     pub(crate) most_timed: usize,
-    /// The search may end once it has met these causes, if there are any.
+    /// The causes that end the search once it has met all of them, if there are any.
     pub(crate) awaited: Seen,
 }
 
 impl<'a> Setting<'a> {
-    /// The same question with other ticks, and other causes that are awaited.
+    /// Returns the same question with other ticks and other awaited causes.
     pub(crate) fn with_ticks(&self, free: bool, is_strict: bool, awaited: Seen) -> Setting<'a>
         ensures same { AsksSame self.now result }
         ensures free { result.free ≡ free }
@@ -52,7 +52,7 @@ impl<'a> Setting<'a> {
         }
     }
 
-    /// This setting once more.
+    /// Returns a copy.
     pub(crate) fn again(&self) -> Setting<'a>
         ensures { result ≡ self.now }
     {
@@ -68,7 +68,7 @@ impl<'a> Setting<'a> {
         }
     }
 
-    /// What a search is about that looks for the goals.
+    /// Returns the setting of a search for the goals.
     pub(crate) fn for_goals(&self) -> Setting<'a>
         ensures rate { result.rate ≡ self.now.rate }
         ensures allowed { result.allowed ≡ self.now.allowed }
@@ -91,7 +91,7 @@ impl<'a> Setting<'a> {
         }
     }
 
-    /// The part of a step's number on which the ticks depend.
+    /// Returns the part of a step's number that decides when the timers tick.
     pub(crate) fn phase(&self, step: u64) -> u64
         requires { 0 < self.now.rate }
         ensures { result ≡ phase self.now step }
@@ -116,7 +116,8 @@ impl<'a> Setting<'a> {
         }
     }
 
-    /// Whether a machine has what the properties and the goals ask of it, where some parts are forgotten.
+    /// Whether a machine with these forgotten parts still has every value that the properties and the
+    /// goals use.
     #[inline]
     pub(crate) fn are_known(&self, machine: &Machine, forgotten: Forgotten) -> bool
         ensures { result ≡ are_known self.now forgotten machine.now }
@@ -130,7 +131,7 @@ impl<'a> Setting<'a> {
             && self.are_goals_known(machine, forgotten)
     }
 
-    /// Whether it has what the goals ask of it.
+    /// Whether the machine still has every value that the goals use.
     pub(crate) fn are_goals_known(&self, machine: &Machine, forgotten: Forgotten) -> bool
         ensures { result ≡ are_goals_known self.now forgotten machine.now }
     {
@@ -142,14 +143,14 @@ impl<'a> Setting<'a> {
         known.has_properties(machine.pc(), self.goals)
     }
 
-    /// Whether a machine meets each goal.
+    /// Whether a machine meets all goals.
     pub(crate) fn meets_goals(&self, machine: &Machine) -> bool
         ensures { result ≡ meets_goals self.now machine.now }
     {
         self.goals.iter().all(|goal| goal.is_met(machine))
     }
 
-    /// The parts of what is forgotten that the properties and the goals ask of a machine.
+    /// Returns those of the forgotten parts that the properties and the goals use.
     #[inline(never)]
     pub(crate) fn asked_of(&self, machine: &Machine, forgotten: Forgotten) -> Forgotten {
         let mut asked = Forgotten::nothing();
@@ -163,8 +164,8 @@ impl<'a> Setting<'a> {
         asked
     }
 
-    /// The register that the next step of a machine sets to the delay timer, where that may have one
-    /// of several values.
+    /// Returns the register that the next step of a machine sets to the delay timer, if the timer may
+    /// have one of several values.
     pub(crate) fn timed_register(&self, machine: &Machine) -> Option<u8>
         ensures value { result ≡ timed_register self.now machine.now }
         ensures range { IfSome result (λ register. register < 16) }

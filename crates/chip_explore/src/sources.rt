@@ -1,5 +1,5 @@
-//! Which guesses a step refuted: what it needed may come of other parts, on the way from the states
-//! that are kept. Nothing is claimed of it.
+//! Finds the guesses that a step refuted. What the step needed may come from other parts, on the way from
+//! the kept states. Nothing is claimed about this.
 
 ghost use Rattle.std.specs.Prelude.{◌≡◌, ◌<◌};
 
@@ -14,16 +14,16 @@ use chip_machine::forgotten::PARTS;
 use chip_machine::limits::DIGITS_END;
 use std::alloc::AllocError;
 
-/// Some steps in a row from a state that is kept.
+/// A sequence of steps from a kept state.
 #[derive(Clone, Copy)]
 pub(crate) struct Trail {
-    /// How the first of them went.
+    /// How the first step was made.
     pub(crate) origin: Origin,
-    /// The number of the step after the last.
+    /// The number of the step after the last one.
     pub(crate) to: u64,
 }
 
-/// What a step needs of what is forgotten.
+/// The forgotten parts that a step needs.
 #[derive(Clone, Copy)]
 struct Need {
     /// The number of the step.
@@ -32,10 +32,10 @@ struct Need {
 }
 
 impl Search {
-    /// Notes that a step at the end of a trail needed some parts and bytes that are forgotten: those of
-    /// which they come are known from now on in the last state before it of which they were forgotten,
-    /// or all of each state where there is none. After the first such step of a search others may have
-    /// led to that already.
+    /// Notes that the step after a trail needed some forgotten parts and bytes. From now on, the parts
+    /// that they come from are known in the last state before it in which they were forgotten; if there
+    /// is no such state, nothing is forgotten any more. After the first such step of a search, an earlier
+    /// one may have led to that already.
     pub(crate) fn refute(&mut self, setting: &Setting<'_>, trail: Trail, needed: Forgotten)
         requires { 0 < setting.now.rate }
         ensures { self.new.members ≡ self.old.members }
@@ -74,8 +74,9 @@ impl Search {
         self.finder.guesses.give_up();
     }
 
-    /// Notes what the steps of a trail from the state at a place, and those after it, need next, where some
-    /// parts are known of that. The next search would need it only once it has kept as many states.
+    /// Notes what the steps of a trail from the state at a place, and the steps after it, need next if
+    /// some parts of that state are known. Otherwise the next search would find this out only after
+    /// keeping as many states.
     fn refute_next(&mut self, setting: &Setting<'_>, place: usize, trail: Trail, known: Forgotten)
         requires { 0 < setting.now.rate }
         ensures { self.new.members ≡ self.old.members }
@@ -99,7 +100,7 @@ impl Search {
         }
     }
 
-    /// What they need next of what is forgotten then, if that is found.
+    /// Returns what these steps next need of what is then forgotten, if anything is found.
     fn next_need(
         &mut self,
         setting: &Setting<'_>,
@@ -137,8 +138,9 @@ impl Search {
         )
     }
 
-    /// Forgets less of the states at the address of one, and of the bytes less of all states: the answer
-    /// is whether it did. The value of an I that isn't where digits stand is known where that is.
+    /// Forgets less of the states at the address of the state at a place, and fewer bytes of all states.
+    /// Returns whether anything changed. If it is needed where I points, and I is past the digits in this
+    /// state, the value of I becomes known there too.
     fn knows_more(&mut self, place: usize, needed: Forgotten, is_first: bool) -> bool
         ensures { self.new.members ≡ self.old.members }
     {
@@ -157,8 +159,8 @@ impl Search {
         self.finder.guesses.lower(state.pc, whole) || is_new
     }
 
-    /// Of which parts that are forgotten of the state at a place some others come, which are forgotten
-    /// at the end of a trail from there: these themselves where none is found.
+    /// Returns those forgotten parts of the state at a place that determine some parts forgotten at the
+    /// end of a trail from there. Returns the latter themselves if none is found.
     fn sources(
         &mut self,
         setting: &Setting<'_>,
@@ -194,7 +196,8 @@ impl Search {
         })
     }
 
-    /// What is forgotten at the end of a trail where this is so of the state at a place before it.
+    /// Returns what is forgotten at the end of a trail if `part` is forgotten in the state at a place
+    /// before it.
     fn forgotten_by(
         &mut self,
         setting: &Setting<'_>,
@@ -223,8 +226,8 @@ impl Search {
         Ok(forgotten)
     }
 
-    /// Gives the runner the state after the first step of a trail, and what is forgotten then: nothing
-    /// where that isn't possible.
+    /// Gives the runner the state after the first step of a trail, and returns what is then forgotten, or
+    /// `None` if that isn't possible.
     fn first_by(
         &mut self,
         setting: &Setting<'_>,

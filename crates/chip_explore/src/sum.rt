@@ -1,4 +1,4 @@
-//! Sums of a machine's state, by which a state like it is looked up. Nothing is claimed of them.
+//! Sums of a machine's state, which are used to look up states like it. Nothing is claimed about them.
 
 ghost use Rattle.std.specs.Prelude.{◌≡◌, ◌+◌, ◌≤◌, length};
 
@@ -9,12 +9,12 @@ use chip_machine::{Forgotten, Machine};
 /// A quarter of the memory's bytes.
 const QUARTER: usize = MEMORY_BYTES / 4;
 
-/// A sum and one more number.
+/// Adds a number to a sum.
 fn add(sum: u64, number: u64) -> u64 {
     (sum.rotate_left(25) ^ number).wrapping_mul(0x9e37_79b9_7f4a_7c15)
 }
 
-/// A sum and some bytes.
+/// Adds some bytes to a sum.
 fn add_bytes(sum: u64, bytes: &[u8]) -> u64 {
     let mut total = sum;
     for byte in bytes {
@@ -23,7 +23,7 @@ fn add_bytes(sum: u64, bytes: &[u8]) -> u64 {
     total
 }
 
-/// Eight bytes as one number.
+/// Returns eight bytes as one number.
 pub(crate) fn word_at(bytes: &[u8], at: usize) -> u64
     requires { at + 8 ≤ length bytes.now }
 {
@@ -39,7 +39,7 @@ pub(crate) fn word_at(bytes: &[u8], at: usize) -> u64
     ])
 }
 
-/// The sum of the bytes of a memory, whose quarters are summed side by side.
+/// Returns the sum of the bytes of a memory. Its quarters are summed side by side.
 fn memory_sum(memory: &[u8]) -> u64
     requires { length memory.now ≡ MEMORY_BYTES }
 {
@@ -57,7 +57,7 @@ fn memory_sum(memory: &[u8]) -> u64
     add(add(add(first, second), third), fourth)
 }
 
-/// The sum of the rows of a screen.
+/// Returns the sum of the rows of a screen.
 fn screen_sum(machine: &Machine) -> u64 {
     let mut left = 3;
     let mut right = 4;
@@ -69,7 +69,7 @@ fn screen_sum(machine: &Machine) -> u64 {
     add(left, right)
 }
 
-/// The sum of what else changes seldom: the memory, the frames and the flag registers.
+/// Returns the sum of the other parts that change seldom: the memory, the frames and the flag registers.
 fn stored_sum(machine: &Machine) -> u64 {
     let mut sum = add(memory_sum(machine.memory()), u64::from(machine.high()));
     sum = add_bytes(sum, machine.flags());
@@ -82,16 +82,16 @@ fn stored_sum(machine: &Machine) -> u64 {
 /// The sums of a state.
 #[derive(Clone, Copy)]
 pub(crate) struct Sums {
-    /// That of the memory, the screen, the frames and the flag registers.
+    /// The sum of the memory, the screen, the frames and the flag registers.
     pub(crate) backdrop: u64,
-    /// That of all that later steps depend on, but for some parts that are forgotten, with which parts
-    /// these are, and the part of the step's number on which the ticks depend.
+    /// The sum of everything that later steps depend on except the forgotten parts, of the numbers of
+    /// these parts, and of the part of the step's number that decides when the timers tick.
     pub(crate) state: u64,
 }
 
 impl Sums {
-    /// Those of a machine of which some parts are forgotten, and some bytes, in whose place those of a
-    /// base stand.
+    /// Returns the sums of a machine of which some parts and bytes are forgotten. The forgotten bytes
+    /// must already be overwritten by those of a base.
     pub(crate) fn of(machine: &Machine, forgotten: Forgotten, phase: u64) -> Sums {
         let stored = stored_sum(machine);
         let screen = screen_sum(machine);

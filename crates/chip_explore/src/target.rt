@@ -1,4 +1,4 @@
-//! Which states a search looks for.
+//! The states that a search looks for.
 
 ghost use Rattle.std.specs.Prelude.{◌≡◌, Some, IfSome, option_map, position};
 ghost use Rattle.chip_explore.specs.Property.{is_met};
@@ -8,8 +8,8 @@ use crate::causes::Causes;
 use crate::property::Property;
 use chip_machine::{Machine, Stop};
 
-/// What a search looks for: a stop for one of some causes, or before a step that is made pc at an
-/// address, or a property that is met.
+/// The states that a search looks for: a stop for one of some causes or, before a step is made, pc at an
+/// address or a property that is met.
 #[derive(Clone, Copy)]
 pub struct Target<'a> {
     pub causes: Causes,
@@ -17,20 +17,20 @@ pub struct Target<'a> {
     pub properties: &'a [Property],
 }
 
-/// What a machine meets of a target.
+/// How a machine meets a target.
 #[derive(Clone, Copy)]
 pub enum Met {
-    /// It has stopped for this cause, which is wanted.
+    /// The machine has stopped for this wanted cause.
     Cause(Stop),
-    /// It has not stopped, and pc is at the address.
+    /// The machine has not stopped, and pc is at the address.
     Address,
-    /// It has not stopped, and meets the property at this place of the list, which is the first one that
-    /// it meets.
+    /// The machine has not stopped, and meets the property at this place of the list. No property before
+    /// it is met.
     Property(usize),
 }
 
 impl<'a> Target<'a> {
-    /// This target once more.
+    /// Returns a copy.
     pub(crate) fn again(&self) -> Target<'a>
         ensures { result ≡ self.now }
     {
@@ -41,7 +41,7 @@ impl<'a> Target<'a> {
         }
     }
 
-    /// What a machine meets of this target, if anything.
+    /// How a machine meets this target, or `None` if it doesn't.
     pub(crate) fn met_in(&self, machine: &Machine) -> Option<Met>
         ensures value { result ≡ met_in self.now machine.now }
         ensures some { IfSome result (λ met. met_in self.now machine.now ≡ Some met) }
@@ -56,7 +56,7 @@ impl<'a> Target<'a> {
         }
     }
 
-    /// The first property that a machine meets, if it meets one.
+    /// Returns the first property that a machine meets, if any.
     fn property_met(&self, machine: &Machine) -> Option<Met>
         ensures { result ≡ option_map Met.Property
             (position (is_met machine.now) self.now.properties.now) }
@@ -75,7 +75,7 @@ impl<'a> Target<'a> {
             .position(|property| property.is_met(machine))
     }
 
-    /// Whether a property names the delay timer.
+    /// Whether any of the properties names the delay timer.
     pub(crate) fn names_delay(&self) -> bool {
         self.properties
             .iter()

@@ -1,12 +1,13 @@
-//! Who is told how far a search is, and may end it.
+//! An observer that is told how far a search has come, and may end it.
 
-/// What is told, now and then, how far a search is, and asked whether it goes on. Nothing rests on it.
+/// An observer that is told from time to time how far a search has come, and is asked whether the search
+/// goes on. No proof depends on it.
 pub trait Watcher {
-    /// A state that was reached at a step is taken up, and so many states are kept, which take about
-    /// so many bytes.
+    /// Tells that a state reached at `step` is being taken up, that `states` states are kept, and that
+    /// they take about `bytes` bytes.
     fn note(&mut self, step: u64, states: usize, bytes: u64);
 
-    /// Whether the search goes on. Where it doesn't, its answer says how far it came.
+    /// Whether the search goes on. If not, its answer says how far it came.
     fn goes_on(&mut self) -> bool {
         true
     }

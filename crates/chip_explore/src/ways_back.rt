@@ -1,5 +1,5 @@
-//! Ways back from the goals, over the steps that can tell keys apart. Nothing is claimed of them: the ranks that they
-//! give are checked.
+//! Ways back from the goals, over the steps that can tell keys apart. Nothing is claimed about them,
+//! because the ranks that they give are checked.
 
 ghost use Rattle.std.specs.Prelude.{◌≡◌};
 ghost use Rattle.chip_explore.specs.inner.Cover.{HasPlace, Holds};
@@ -16,29 +16,29 @@ use std::alloc::{AllocError, Global};
 /// A way from one state to another.
 #[derive(Clone, Copy)]
 struct Back {
-    /// The place of the state that it goes from.
+    /// The place of the state where the way starts.
     from: u32,
-    /// The keys with which it goes there.
+    /// The keys that are down on this way.
     keys: u16,
-    /// The number of another way to the same state: 0 if there is none.
+    /// The number of another way to the same state, or 0 if there is none.
     other: u32,
 }
 
-/// How the goals are reached from the states that are kept.
+/// How the goals are reached from the kept states.
 #[derive(Drop)]
 pub(crate) struct WaysBack {
-    /// For each state its rank: 0 where no way to the goals is known.
+    /// The rank of each state, or 0 if no way to the goals is known.
     pub(crate) ranks: Vec<u32>,
-    /// With which keys down in the next step the way goes.
+    /// For each state, the keys that are down in the first step of its way to the goals.
     pub(crate) keys: Vec<u16>,
-    /// The places of the states that have a rank, by rank.
+    /// The places of the states that have a rank, in the order of their ranks.
     ranked: Vec<u32>,
-    /// For each state the number of a way that leads to it, from 1.
+    /// For each state, the number of a way that leads to it, counted from 1.
     ways_to: Vec<u32>,
     ways: Vec<Back>,
 }
 
-/// From where on no way to the goals is known.
+/// The step from which on no way to the goals is known, and how it was reached.
 #[derive(Clone, Copy)]
 pub(crate) struct Loss {
     pub(crate) origin: Origin,
@@ -46,7 +46,7 @@ pub(crate) struct Loss {
 }
 
 impl WaysBack {
-    /// No way is known between so many states.
+    /// Returns no ways between this many states.
     fn none(alloc: Global, states: usize) -> Result<WaysBack, AllocError> {
         let mut ranks = Vec::with_capacity(alloc, states)?;
         ranks.resize(states, 0)?;
@@ -63,7 +63,7 @@ impl WaysBack {
         })
     }
 
-    /// Those between the states that a search keeps.
+    /// Returns the ways between the states that a search keeps.
     pub(crate) fn of(
         alloc: Global,
         search: &mut Search,
@@ -81,7 +81,7 @@ impl WaysBack {
         Ok(ways)
     }
 
-    /// The rank of the state at a place.
+    /// Returns the rank of the state at a place.
     pub(crate) fn rank(&self, place: usize) -> u32 {
         self.ranks.get(place).copied().unwrap_or(0)
     }
@@ -136,7 +136,7 @@ impl WaysBack {
         Ok(())
     }
 
-    /// Notes the way with these keys down.
+    /// Notes the way from a state with these keys down.
     fn note_way(
         &mut self,
         search: &mut Search,
@@ -183,8 +183,8 @@ impl WaysBack {
         Ok(())
     }
 
-    /// The least step from which on no way to the goals is known, after the start or a state from which one
-    /// is, if there is one.
+    /// Finds the least step from which on no way to the goals is known, among the steps after the start
+    /// and after each state from which a way is known.
     pub(crate) fn first_loss(
         &self,
         alloc: Global,
@@ -208,7 +208,7 @@ impl WaysBack {
         Ok(first)
     }
 
-    /// Notes the least such step after a state, where it is before the first one so far.
+    /// Notes the least such step after a state, if it is less than the least one so far.
     fn note_loss(
         &self,
         search: &mut Search,
@@ -237,8 +237,8 @@ impl WaysBack {
         Ok(())
     }
 
-    /// From which step on no way to the goals is known of the state that the runner has at a step, if so
-    /// before the next step that can tell keys apart.
+    /// Returns the step from which on no way to the goals is known from the runner's state at a step.
+    /// Returns `None` if that doesn't happen before the next step that can tell keys apart.
     fn lost_from(
         &self,
         search: &mut Search,

@@ -1,5 +1,5 @@
-//! Which bytes of the memory are forgotten: those of a window that were seen to be stored, and not to be
-//! needed later. Nothing is claimed of it.
+//! The bytes of the memory that are forgotten: those bytes of a window that were stored and, as far as
+//! was seen, not needed later. Nothing is claimed about them.
 
 use crate::backdrop::BytePatch;
 use crate::limits::{MOST_STATES_FOR_BYTES, STATES_FOR_A_SEARCH, STEPS_TRIED};
@@ -10,7 +10,7 @@ use chip_machine::limits::MEMORY_BYTES;
 use chip_machine::{Forgotten, Machine, Touch};
 use std::alloc::{AllocError, Global};
 
-/// How many bytes at I the next step of a machine stores.
+/// Returns the number of bytes at I that the next step of a machine stores.
 fn bytes_stored(machine: &Machine) -> u16 {
     let Some(instr) = next_instr(machine) else {
         return 0;
@@ -25,11 +25,11 @@ fn bytes_stored(machine: &Machine) -> u16 {
 /// What was seen of a byte of the memory.
 #[derive(Clone, Copy, PartialEq, Eq)]
 enum Seen {
-    /// It was not stored.
+    /// The byte was not stored.
     Unused,
-    /// It was stored.
+    /// The byte was stored.
     Stored,
-    /// It was needed where it was forgotten.
+    /// The byte was needed while it was forgotten.
     Needed,
 }
 
@@ -37,17 +37,18 @@ enum Seen {
 #[derive(Drop)]
 pub(crate) struct Window {
     seen: Vec<Seen>,
-    /// Those that are forgotten.
+    /// The bytes that are forgotten.
     bytes: Forgotten,
-    /// How many states searches kept that began anew for the bytes, and what it took to begin them.
+    /// The number of states kept by searches that began anew because of the bytes, plus the cost of
+    /// beginning them, in states.
     spent: usize,
-    /// Whether none is forgotten any more.
+    /// Whether no byte is forgotten any more.
     is_closed: bool,
 }
 
 impl Window {
-    /// One that has most of the bytes that a machine stores in a run with these keys: all go down, and up
-    /// again, and the timers tick after each step, so that no wait is long.
+    /// Returns the window with the most bytes that a machine stores in a trial run. In this run, all
+    /// these keys go down and up again, and the timers tick after each step so that no wait is long.
     pub(crate) fn new(alloc: Global, start: &Machine, keys: u16) -> Result<Window, AllocError> {
         let mut seen = Vec::with_capacity(alloc, MEMORY_BYTES)?;
         seen.resize(MEMORY_BYTES, Seen::Unused)?;
@@ -73,7 +74,7 @@ impl Window {
         }
     }
 
-    /// Notes which bytes the next step of a machine stores: the answer is whether one is new.
+    /// Notes which bytes the next step of a machine stores. Returns whether any of them is new.
     fn note_next(&mut self, machine: &Machine) -> bool {
         let index = machine.index();
         let mut is_new = false;
@@ -83,7 +84,7 @@ impl Window {
         is_new
     }
 
-    /// Notes that a byte is stored: the answer is whether that is new.
+    /// Notes that a byte is stored. Returns whether this is new.
     fn note_stored(&mut self, at: u16) -> bool {
         match self.seen.get_mut(at as usize) {
             Some(seen) if *seen == Seen::Unused => {
@@ -94,13 +95,13 @@ impl Window {
         }
     }
 
-    /// Those that are forgotten.
+    /// Returns the bytes that are forgotten.
     pub(crate) fn bytes(&self) -> Forgotten {
         self.bytes
     }
 
-    /// Notes that bytes change, where so many states are kept: the answer is whether the search is to
-    /// begin anew with other bytes.
+    /// Notes that bytes change while `states` states are kept. Returns whether the search should begin
+    /// anew with other bytes.
     pub(crate) fn note(&mut self, bytes: &[BytePatch], states: usize) -> bool {
         let mut is_new = false;
         for patch in bytes {
@@ -109,19 +110,19 @@ impl Window {
         is_new && self.is_to_change(states)
     }
 
-    /// Notes which bytes the next step of a machine stores, where so many states are kept: the answer is
-    /// likewise.
+    /// Notes which bytes the next step of a machine stores while `states` states are kept. Returns
+    /// whether the search should begin anew with other bytes.
     pub(crate) fn note_stores(&mut self, machine: &Machine, states: usize) -> bool {
         self.note_next(machine) && self.is_to_change(states)
     }
 
-    /// Whether a search that keeps so many states is to begin anew with other bytes.
+    /// Whether a search that keeps `states` states should begin anew with other bytes.
     fn is_to_change(&mut self, states: usize) -> bool {
         !self.is_closed && self.best() != self.bytes && self.affords(states)
     }
 
-    /// Notes that a step needed some of those that are forgotten, where so many states are kept: the answer
-    /// is whether that is new of one.
+    /// Notes that a step needed some of the forgotten bytes while `states` states are kept. Returns
+    /// whether this is new for any of them.
     pub(crate) fn note_needed(&mut self, needed: Forgotten, states: usize) -> bool {
         let mut is_new = false;
         for place in 0..WINDOW_BYTES {
@@ -139,7 +140,8 @@ impl Window {
         is_new
     }
 
-    /// Whether a search that keeps so many states may begin anew for the bytes, which is noted then.
+    /// Whether a search that keeps `states` states may begin anew because of the bytes. If so, notes the
+    /// cost.
     fn affords(&mut self, states: usize) -> bool {
         let spent = self
             .spent
@@ -152,7 +154,7 @@ impl Window {
         true
     }
 
-    /// Forgets those from now on that are best by what was seen.
+    /// Chooses the bytes that are best, by what was seen, and forgets them from now on.
     pub(crate) fn choose(&mut self) {
         self.bytes = if self.is_closed {
             Forgotten::nothing()
@@ -161,7 +163,8 @@ impl Window {
         };
     }
 
-    /// Those of the first window that has the most bytes that were stored, and not needed.
+    /// Returns the bytes of the window in which the most bytes were stored and not needed; of several
+    /// such windows, the first.
     fn best(&self) -> Forgotten {
         let mut best = 0;
         let mut most: u16 = 0;
@@ -181,7 +184,7 @@ impl Window {
         self.stored_from(best)
     }
 
-    /// Those of a window that were stored, and not needed.
+    /// Returns the bytes of a window that were stored and not needed.
     fn stored_from(&self, start: u16) -> Forgotten {
         let mut bytes = Forgotten::nothing();
         for place in 0..WINDOW_BYTES {

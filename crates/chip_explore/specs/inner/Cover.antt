@@ -1,24 +1,24 @@
--- What a search keeps, and what is known of it.
--- Source: own.
---     phase           the part of a step's number on which the ticks depend
---     tick_at         whether the timers tick in a step of the search: where the ticks are free, they
+-- The states that a search keeps, and what is known about them.
+-- Source: chosen by this project.
+--     phase           the part of a step's number that decides when the timers tick
+--     tick_at         whether the timers tick in a step of the search: if the ticks are free, they
 --                     never do, and the delay timer of a state is a bound
---     View            the states that are kept, each with the parts that are forgotten of it and
---                     the least step at which it was reached, the step below which the search speaks
---                     of, and the addresses at which it saw steps made
---     Grows           addresses stay noted
+--     View            the kept states, each with its forgotten parts and the least step at which it was
+--                     reached; the limit, below which the search is about steps; and the addresses at
+--                     which the search saw steps made
+--     Grows           noted addresses stay noted
 --     meets_goals     whether a state meets each goal
---     IsFine          a state that doesn't meet the target, and has stopped where it meets the goals, or
---                     is at an address that is noted and has what is asked of it there: nothing of that
---                     is forgotten
---     Safe            from a state at a step on, of which some parts are forgotten, a few steps that tell
---                     neither keys nor values of the delay timer apart and need nothing that is
---                     forgotten lead to the limit, to a stop, or to a state that is kept, past no
---                     state that meets the target, and at no address that isn't noted
---     IsTaken         so does each step from a state that is kept
+--     IsFine          a state that doesn't meet the target; if it has stopped, it meets the goals; if
+--                     not, its address is noted, and nothing that the properties and goals use there is
+--                     forgotten
+--     Safe            from a state at a step, with some parts forgotten, a few steps lead to the limit,
+--                     to a stop, or to a kept state; they tell neither keys nor values of the delay
+--                     timer apart, need nothing that is forgotten, pass no state that meets the target,
+--                     and are made only at noted addresses
+--     IsTaken         each step from a kept state leads to a state that is safe in this way
 --     Extends         a view knows more than another
---     Holds           all is safe from each state that is closed on, with a rate of 1 at least
---     Goes            a call keeps that, and its view extends the one before
+--     Holds           each step from each closed state leads to a safe state, and the rate is at least 1
+--     Goes            a call preserves `Holds`, and its view extends the one before
 use Rattle.std.specs.Prelude.{◌≡◌, ℕ, zero, suc, ◌+◌, ◌-◌, ◌%◌, ◌^◌, ◌<◌, ◌≤◌, ◌⊎◌, Bool, true, false, Option, Some, None, List, length, is_some, slice_index, slice_index_or, if◌then◌else◌}
 use Rattle.chip_machine.specs.Block.{ticks}
 use Rattle.chip_machine.specs.Choices.{IsWithin, Represents}
@@ -68,7 +68,7 @@ pub record IsFine (p : Setting) (executed : List Bool) (forgotten : ℕ) (s : St
   pub known : is_some s.core.stopped ≡ false → are_known p forgotten s ≡ true
   pub ended : is_some s.core.stopped ≡ true → meets_goals p s ≡ true
 
--- the next step is the same whatever allowed keys are down, and whatever the delay timer has come to
+-- the next step is the same whatever allowed keys are down, and whatever value the delay timer has
 pub record Moves (p : Setting) (executed : List Bool) (forgotten : ℕ) (s : State) : Type 0 where
   pub fine : IsFine p executed forgotten s
   pub same : Represents p.allowed 0 s
@@ -107,14 +107,14 @@ pub record Safe (p : Setting) (v : View) (forgotten : ℕ) (s : State) (t : ℕ)
   pub few : moves ≤ MOST_QUIET_STEPS
   pub path : SafeFor p v moves forgotten s t
 
--- from a state to which a step of another leads, with what is forgotten after that step
+-- the state to which a step of another leads is safe, with what is forgotten after that step
 pub record GoesTo (p : Setting) (v : View) (forgotten : ℕ) (s : State) (next : State) (t : ℕ) : Type 0 where
   pub after : ℕ
   pub is_after : IsForgottenAfter forgotten s next.core.pc after
   pub safe : Safe p v after next (t + 1)
 
--- likewise the next step with each allowed key script, or where it reads the delay timer with each
--- value up to the bound
+-- `GoesTo` for the next step with all allowed keys or, if it reads the delay timer, with each value up to
+-- the bound
 abbrev pub GoesBy : (register : Option ℕ) → Setting → View → (forgotten : ℕ) → State → ℕ → Type 0
 GoesBy None p v forgotten s t =
     (keys : ℕ) → IsWithin p.allowed keys → GoesTo p v forgotten s (step_of s keys (tick_at p t)) t
@@ -140,7 +140,7 @@ pub record Extends (p : Setting) (v w : View) : Type 0 where
       → phase p (slice_index w.steps j) ≡ phase p (slice_index v.steps j)
   pub executed : Grows v.executed w.executed
 
--- what the code keeps
+-- the view of the states that the code keeps
 abbrev pub view_of : Members → View
 view_of m =
     record {
@@ -158,13 +158,13 @@ pub record Holds (p : Setting) (m : Members) : Type 0 where
   pub closed : length m.closed.items ≡ length m.steps.items
   pub taken : (j : ℕ) → slice_index_or m.closed.items j false ≡ true → IsTaken p (view_of m) j
 
--- what a call keeps, and adds to
+-- a call preserves `Holds` and the start, and adds to the view
 pub record Goes (p : Setting) (m n : Members) : Type 0 where
   pub holds : Holds p n
   pub start : n.start ≡ m.start
   pub extends : Extends p (view_of m) (view_of n)
 
--- likewise with no more than so many states, or so many more
+-- `Goes`, with at most `most` states afterwards
 pub record GoesUpTo (p : Setting) (m n : Members) (most : ℕ) : Type 0 where
   pub goes : Goes p m n
   pub few : length n.steps.items ≤ most
@@ -172,18 +172,18 @@ pub record GoesUpTo (p : Setting) (m n : Members) (most : ℕ) : Type 0 where
 abbrev pub Adds : Setting → (m n : Members) → ℕ → Type 0
 Adds p m n count = GoesUpTo p m n (length m.steps.items + count)
 
--- the place of a state that is kept
+-- a place that holds a kept state
 pub record HasPlace (p : Setting) (m : Members) (place : ℕ) : Type 0 where
   pub holds : Holds p m
   pub kept : place < length m.steps.items
 
--- likewise, with a step after which there is another one
+-- `HasPlace`, with a step that isn't the last possible one
 pub record HasStep (p : Setting) (m : Members) (place step : ℕ) : Type 0 where
   pub holds : Holds p m
   pub kept : place < length m.steps.items
   pub in_range : step < 2 ^ 64 - 1
 
--- what a search from a state at a step on keeps
+-- the facts about the states that a search keeps, if it began with a state at a step
 pub record IsSearched (p : Setting) (m : Members) (start : State) (from : ℕ) : Type 0 where
   pub holds : Holds p m
   pub begins : m.start ≡ start
@@ -191,26 +191,26 @@ pub record IsSearched (p : Setting) (m : Members) (start : State) (from : ℕ) :
   pub noted : is_at_one m.executed m.start ≡ true
   pub begun : Safe p (view_of m) 0 m.start from
 
--- the same is asked, maybe with other ticks
+-- two settings ask the same question, maybe with other ticks
 pub record AsksSame (p other : Setting) : Type 0 where
   pub rate : other.rate ≡ p.rate
   pub allowed : other.allowed ≡ p.allowed
   pub target : other.target ≡ p.target
   pub goals : other.goals ≡ p.goals
 
--- likewise with other ticks
+-- `IsSearched` for a search with other ticks
 pub record IsSearchedAs (p other : Setting) (m : Members) (start : State) (from : ℕ) : Type 0 where
   pub same : AsksSame p other
   pub searched : IsSearched other m start from
 
--- it speaks of each step below the end, and each state was taken up
+-- the search is about each step below the end, and each state was taken up
 pub record IsWhole (p : Setting) (m : Members) : Type 0 where
   pub limit : END ≤ m.limit
   pub taken : (j : ℕ) → j < length m.steps.items → slice_index m.steps.items j < END - 1
       → IsTaken p (view_of m) j
 
--- with each of the allowed keys down the next step of a state acts as with one of some choices, and
--- needs nothing that is forgotten
+-- the next step of a state acts, with any allowed keys down, as with one of some choices, and needs
+-- nothing that is forgotten
 pub record HasChoices (p : Setting) (forgotten : ℕ) (s : State) (choices : ℕ) : Type 0 where
   pub drawn : s.core.draws < 2 ^ 64 - 1
   pub asked : are_goals_known p forgotten s ≡ true
@@ -229,26 +229,26 @@ pub record HasValues (p : Setting) (forgotten : ℕ) (s : State) (read : Reading
   pub bound : s.core.delay ≡ read.bound
   pub is_after : IsForgottenAfter forgotten s (step_of s 0 false).core.pc read.after
 
--- in which ways the next step of a state goes
+-- the ways in which the next step of a state can go
 abbrev pub HasWays : (p : Setting) (forgotten : ℕ) (s : State) → Ways → Type 0
 HasWays p forgotten s (Keys choices) = HasChoices p forgotten s choices
 HasWays p forgotten s (Values read) = HasValues p forgotten s read
 
--- where a step of a state that is kept leads, in a later view
+-- the state to which a step of a kept state leads is safe in a later view
 abbrev pub LeadsBy : (next : State → State) → Setting → (m n : Members) → (place step : ℕ) → Type 0
 LeadsBy next p m n place step =
     GoesTo p (view_of n) (forgotten_at (view_of m) place) ((view_of m).member place)
     (next ((view_of m).member place)) step
 
--- with some keys down
+-- `LeadsBy` for a step with some keys down
 abbrev pub Leads : Setting → (m n : Members) → (place step keys : ℕ) → Type 0
 Leads p m n place step keys = LeadsBy (λ s. step_of s keys (tick_at p step)) p m n place step
 
--- where it sets a register to a value of the delay timer
+-- `LeadsBy` for a step that sets a register to a value of the delay timer
 abbrev pub LeadsAs : Setting → (m n : Members) → (place step value : ℕ) → Type 0
 LeadsAs p m n place step value = LeadsBy (read_as value) p m n place step
 
--- why some steps in a row ended at a state
+-- why a sequence of steps ended at a state
 abbrev pub IsEnd : Setting → List Bool → (limit forgotten : ℕ) → State → ℕ → End → Type 0
 IsEnd p executed limit forgotten s t Past = limit ≤ t
 IsEnd p executed limit forgotten s t Wanted = Unit {0}
@@ -257,7 +257,7 @@ IsEnd p executed limit forgotten s t Halted =
 IsEnd p executed limit forgotten s t Joined = IsFine p executed forgotten s
 IsEnd p executed limit forgotten s t Read = Unit {0}
 
--- the state of a run under some events
+-- a state is that of a run at a step under some events, and only allowed keys are down before it
 pub record IsUnder (p : Setting) (start : State) (keys : Events) (step : ℕ) (s : State) : Type 0 where
   pub reached : s ≡ run step_of p.rate (held keys) start step
   pub allowed_only : (t : ℕ) → t < step → IsWithin p.allowed (held keys t)

@@ -1,13 +1,13 @@
--- A state as what it has beside a base.
--- Source: own.
---     with_byte       a state with a byte in its memory
---     with_row        rows of pixels with one in the place of another
---     parts_of        what a state that is kept has beside its memory and its screen
+-- States, stored as their differences from a base.
+-- Source: chosen by this project.
+--     with_byte       a state with one byte of its memory replaced
+--     with_row        rows of pixels with one row replaced
+--     parts_of        the parts of a kept state other than its memory and its screen
 --     parts_read      some parts after a step that set a register to a value of the delay timer
---     state_with      the state that a base has with some parts, and the bytes and the rows of a
+--     state_with      the state that consists of a base, some parts, and the bytes and rows of a
 --                     backdrop
---     state_of        likewise with the parts, the bytes and the rows of one that is kept
---     state_at        the state that is kept at a place, or that of the base where there is none
+--     state_of        `state_with` for the parts, the bytes and the rows of a kept state
+--     state_at        the state that is kept at a place, or that of the base if there is none
 use Rattle.std.specs.Prelude.{ℕ, ◌+◌, ◌*◌, ◌^◌, nat_lt, List, Option, Some, None, fold, length, slice_get, slice_set, if◌then◌else◌}
 use Rattle.chip_machine.specs.Limits.{MEMORY_BYTES}
 use Rattle.chip_machine.specs.Restored.{with_parts, with_screen}

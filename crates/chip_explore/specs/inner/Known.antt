@@ -1,12 +1,13 @@
--- Of which states a property can be asked where some parts are forgotten.
--- Source: own.
---     is_item_known      whether a state has the value of an item: none of it is forgotten, and the
---                        delay timer is no mere bound
+-- The states in which a property can be evaluated while some parts are forgotten.
+-- Source: chosen by this project.
+--     is_item_known      whether a state has the value of an item: no part of it is forgotten, and the
+--                        delay timer is not just a bound
 --     is_sum_known       whether it has each value of a sum
---     is_property_known  whether it has each value of a property that is asked of it
---     known_of           what a state of a search has
+--     is_property_known  whether it has each value of a property that is evaluated in it
+--     known_of           which values a state of a search has
 --     are_goals_known    whether it has each value of the goals
---     are_known          whether it has each value of the properties and the goals that are asked of it
+--     are_known          whether it has each value of the properties and the goals that are evaluated in
+--                        it
 use Rattle.std.specs.Prelude.{ℕ, ◌+◌, ◌==◌, ◌&&◌, ◌||◌, not, Bool, true}
 use Rattle.std.specs.List.{list_all}
 use Rattle.chip_machine.specs.Forgotten.{has_byte, has_part, index_part, register_part, screen_part}

@@ -1,12 +1,12 @@
--- Ranks of the states that are kept, by which goals are reached from each.
---     IsAtGoals       a state that makes a step, has what is asked of it, and meets the goals
---     Falls           a state is like one that is kept, of a lesser rank
---     Climbs          from a state at a step on, of which some parts are forgotten, at most so many steps,
---                     with some allowed keys each, lead to the goals or to a kept state of a lesser rank:
---                     they need nothing that is forgotten, and read no value of a delay timer that is a bound
---     IsRanked        so it is from a state that is kept, with its own rank
+-- Ranks of the kept states. The ranks show that the goals can be reached from each state.
+--     IsAtGoals       a state that hasn't stopped, has every value that is used there, and meets the goals
+--     Falls           a state is like a kept one of a lesser rank
+--     Climbs          from a state at a step, with some parts forgotten, at most so many steps, with some
+--                     allowed keys each, lead to the goals or to a kept state of a lesser rank; they need
+--                     nothing that is forgotten, and read no value of a delay timer that is a bound
+--     IsRanked        a kept state climbs in this way, with its own rank
 --     IsOpen          a state whose step tells no values of the delay timer apart
---     IsWay           what is known where some steps with no keys down end
+--     IsWay           what is known where a sequence of steps with no keys down ends
 use Rattle.std.specs.Prelude.{◌≡◌, ℕ, zero, suc, ◌+◌, ◌-◌, ◌^◌, ◌<◌, ◌≤◌, ◌⊎◌, List, None, false, true, is_some, slice_index}
 use Rattle.chip_machine.specs.Choices.{IsWithin}
 use Rattle.chip_machine.specs.Forgotten.{IsUnneeded, IsForgottenAfter}

@@ -1,11 +1,11 @@
--- What a search is told, and what it says.
--- Source: own.
+-- The start of a search, and its answers.
+-- Source: chosen by this project.
 --     Begins          a machine that has drawn no random byte yet and doesn't meet the target
---     Covers          under no key script does it meet the target at a step up to n, or make one at
---                     another address than these
+--     Covers          no key script makes the machine meet the target at a step up to n, or make a step
+--                     at an address other than the given ones
 --     Says            what an outcome says, with the addresses at which steps were made
---     Tells           what a search says that was no deep one behind another
---     later_of        what an outcome says where another search covered the steps up to n
+--     Tells           the answer of a single search, without a deep search after another
+--     later_of        the meaning of an outcome after another search covered the steps up to n
 use Rattle.std.specs.Prelude.{◌≡◌, ℕ, ◌+◌, ◌-◌, ◌<◌, ◌≤◌, Bool, true, false, None, List}
 use Rattle.chip_machine.specs.State.{State}
 use Rattle.chip_explore.specs.Answers.{Answers, AreExecuted, EndsBy, IsFirst, most_ways}

@@ -10,7 +10,7 @@ use Rattle.chip_explore.proofs.Places.{state_before, state_last}
 use Rattle.chip_explore.proofs.Growth.{closed_inside, closed_pushed, goes}
 use Rattle.chip_explore.proofs.members.Members.add.Goals as goal
 
--- what a push into room that was taken adds
+-- the elements added by a push into memory that was reserved
 pushed : {A : Type 0} (done : Bool) (now room was : List A) (x : A) → now ≡ cond done (room ++ x ∷ []) room → done ≡ true → room ≡ was → now ≡ was ++ x ∷ []
 pushed done now room was x items succeeds same =
     items ∙ ap (λ b. cond b (room ++ x ∷ []) room) succeeds ∙ ap (λ xs. xs ++ x ∷ []) same
