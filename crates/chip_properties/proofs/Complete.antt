@@ -1,4 +1,4 @@
--- What tokens are by the grammar is found: values, items and addends.
+-- Everything that tokens are by the grammar is found: values, items and addends.
 use Rattle.std.proofs.Common.{◌≡◌, ◌⊎◌, inl, inr, ℕ, ◌+◌, ◌<◌, ◌==◌, Bool, true, false, not, if◌then◌else◌, List, [], ◌∷◌, ◌++◌, length, take, drop, Option, Some, None, refl, sym, subst, ◌∙◌, ap, append_assoc, append-nil, length-append, arith}
 use Rattle.std.specs.Prelude.{◌&&◌, ◌||◌, codes, is_some, option_and_then}
 use Rattle.std.specs.Str.{bytes_eq}
@@ -32,7 +32,7 @@ use Rattle.chip_properties.proofs.Ends.{ended_by}
 
 -- ---- tokens that a separator is looked for after
 
--- no separator is among tokens that begin where so many parentheses are open, and as many are after them
+-- no separator is among tokens that begin with this many open parentheses, and as many are open after them
 abbrev pub Over : Separator → ℕ → List Lexeme → Type 0
 Over s depth ts = (rest : List Lexeme) → count_before s depth (ts ++ rest) ≡ count_before s depth rest + length ts
 
@@ -43,7 +43,7 @@ over_more s depth a b p q rest =
 pub over_token : (s : Separator) (depth : ℕ) (t : Lexeme) → (depth == 0 && separates s t) ≡ false → level_after depth t ≡ depth → Over s depth (t ∷ [])
 over_token s depth t e l rest = rw (e, l) refl
 
--- a sign that opens, tokens, and one that closes
+-- an opening sign, tokens, and a closing sign
 pub over_around : (s : Separator) (depth begin end : ℕ) (inside : List Lexeme) → (depth == 0 && separates s (Sign begin)) ≡ false
     → level_after depth (Sign begin) ≡ depth + 1 → (depth + 1 == 0 && separates s (Sign end)) ≡ false → level_after (depth + 1) (Sign end) ≡ depth
     → Over s (depth + 1) inside → Over s depth (Sign begin ∷ (inside ++ Sign end ∷ []))
@@ -145,7 +145,7 @@ one_alone {t = t} h = alone h.expression t refl
 unlike : (test : List ℕ → Bool) (v w : List ℕ) → test v ≡ true → test w ≡ false → bytes_eq v w ≡ false
 unlike test v w pass fail = false_from_ne_true (bytes_eq v w) (λ e. let same = (bytes_eq-Decides v w).0 e in cc)
 
--- what a table finds for a word, which its words pass
+-- the result of a table for a word, which the words of the table pass
 listed : {A : Type 0} (test : List ℕ → Bool) (w v : List ℕ) (a x : A) (others : Option A) → test v ≡ true → (others ≡ Some x → test w ≡ true)
     → (if bytes_eq w v then Some a else others) ≡ Some x → test w ≡ true
 listed test w v a x others pass on h = by_test (bytes_eq w v) refl h

@@ -1,4 +1,4 @@
--- What tokens state by the grammar is found.
+-- Everything that tokens state by the grammar is found.
 use Rattle.std.proofs.Common.{◌≡◌, ℕ, ◌<◌, false, List, [], ◌∷◌, ◌++◌, Option, Some, None, Ok, Err, IfOk, IfErr, refl, sym, ◌∙◌, ap, append_assoc, arith}
 use Rattle.std.proofs.lemmas.Option.{none-some}
 use Rattle.std.specs.Prelude.{codes}
@@ -80,7 +80,7 @@ property_found {kind = kind} {p = p} h =
 
 -- ---- kinds
 
--- no word for a kind is in front, whatever follows
+-- no word for a kind comes first, whatever follows
 abbrev pub Begins : List Lexeme → Type 0
 Begins ts = (rest : List Lexeme) → kind_in_front (ts ++ rest) ≡ None
 

@@ -35,7 +35,7 @@ enclosed_by begin end first inside last ts rest a b e h p q = rw (e, h, ended_by
 one_more : (n : ℕ) → 1 + n ≡ suc n
 one_more n = omega arith
 
--- a blank at the end goes
+-- a blank at the end is removed
 blank_first : (b : ℕ) (bytes : List ℕ) (is : Bool) → is_blank b ≡ is
     → without_blanks (b ∷ bytes) ≡ (if is then without_blanks bytes else b ∷ bytes)
 blank_first b bytes true e = rw e (ap (λ n. drop n (b ∷ bytes)) (one_more (prefix_len is_blank bytes)))

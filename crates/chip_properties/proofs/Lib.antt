@@ -2,9 +2,9 @@
 --     Ends      tokens that end with a sign; bytes without the blanks at the end
 --     Pieces    tokens between separators
 --     Loops     a sum and a condition, piece by piece
---     Sound, SoundSums, SoundProperties     what is found is what the grammar says
---     Complete, CompleteSums, CompleteProperties     what the grammar says is found
---     Told      what is read line by line
+--     Sound, SoundSums, SoundProperties     everything that is found is in the grammar
+--     Complete, CompleteSums, CompleteProperties     everything in the grammar is found
+--     Told      the properties and faults after reading line by line
 mod Complete
 mod CompleteProperties
 mod CompleteSums

@@ -32,7 +32,7 @@ split s (t ∷ ts) depth = split_step s depth t ts (depth == 0 && separates s t)
 pub pieces_split : (s : Separator) (ts : List Lexeme) → pieces s 0 ts ≡ before_first s ts ∷ pieces_in s (after_first s ts)
 pieces_split s ts = split s ts 0
 
--- how much is left to split
+-- the number of tokens left to split
 abbrev pub left_in : Option Part → ℕ
 left_in None = 0
 left_in (Some part) = length part.tokens.now + 1

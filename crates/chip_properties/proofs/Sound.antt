@@ -1,4 +1,4 @@
--- What tokens are found to state is what they state by the grammar.
+-- Properties that tokens are found to state are the ones that they state by the grammar.
 use Rattle.std.proofs.Common.{◌≡◌, ℕ, zero, suc, ◌<◌, ◌==◌, Bool, true, false, if◌then◌else◌, List, [], ◌∷◌, ◌++◌, take, drop, Option, Some, None, Result, Ok, Err, refl, sym, subst, ◌∙◌, ap, add-one, arith}
 use Rattle.std.proofs.lemmas.Option.{none-some, same_Some}
 use Rattle.std.specs.Prelude.{◌&&◌, ℤ, pos, negsuc, nat_lt, codes, option_map, option_and_then}
@@ -25,7 +25,7 @@ use Rattle.chip_properties.specs.Language.{IsNumber, IsValue, one_token, in_pare
 
 -- ---- outcomes
 
--- what comes of an outcome that is there
+-- the result that follows from an existing result
 pub record Then {A B : Type 0} (o : Option A) (f : A → Option B) (y : B) : Type 0 where
   pub found : A
   pub is : o ≡ Some found
@@ -44,7 +44,7 @@ pub mapped_some : {A B : Type 0} (o : Option A) (f : A → B) (y : B) → option
 mapped_some None f y h = absurd (none-some y h)
 mapped_some (Some x) f y h = record { found = x; is = refl; gives = same_Some (f x) y h }
 
--- what is there only where a test holds
+-- a result that exists only if a test holds
 pub if_some : {A : Type 0} (b : Bool) (o : Option A) (x : A) → (if b then o else None) ≡ Some x → (b ≡ true) × (o ≡ Some x)
 if_some true o x h = (refl, h)
 if_some false o x h = absurd (none-some x h)

@@ -1,4 +1,4 @@
--- What a property is found to state is what it states by the grammar.
+-- A property that is found is the one that the tokens state by the grammar.
 use Rattle.std.proofs.Common.{◌≡◌, ℕ, false, not, List, [], ◌∷◌, Option, Some, None, Result, Ok, Err, IfOk, refl, sym, ◌∙◌, ap}
 use Rattle.std.proofs.lemmas.Option.{none-some, same_Some}
 use Rattle.std.specs.Prelude.{codes, option_map}

@@ -1,4 +1,4 @@
--- What sums, comparisons and conditions are found to be is what they are by the grammar.
+-- Sums, comparisons and conditions that are found are the ones of the grammar.
 use Rattle.std.proofs.Common.{◌≡◌, ℕ, suc, ◌+◌, ◌^◌, ◌<◌, ◌≤◌, ◌==◌, Bool, true, false, if◌then◌else◌, List, [], ◌∷◌, ◌++◌, length, drop, Option, Some, None, refl, sym, subst, ◌∙◌, ap, append_assoc, add-one, arith}
 use Rattle.std.proofs.lemmas.Option.{none-some, same_Some}
 use Rattle.std.specs.Prelude.{◌&&◌, codes, fold, nat_lt, option_map}
@@ -106,7 +106,7 @@ with_fits s t (times n i) h f =
     let is = ap (λ (x : SeenSum). x.constant) (with_is s t (times n i) h) in
     omega arith
 
--- one more of those that there may be
+-- one more, within the limit
 few_more : (count long most : ℕ) → (count == most) ≡ false → count ≤ most → (count + 1 ≤ most → count + 1 + long ≤ most) → count + suc long ≤ most
 few_more count long most e low on =
     let apart = eqb-false count most e in
@@ -219,7 +219,7 @@ between_is : (is_all : Bool) (t : Lexeme) → separates (joint is_all) t ≡ tru
 between_is true t h = word_is (codes "AND") t h
 between_is false t h = word_is (codes "OR") t h
 
--- one comparison alone, of which all hold
+-- a single comparison, which counts as one of which all must hold
 counted_all : (s : Separator) (depth : ℕ) (ts : List Lexeme) → tail_of (drop (count_before s depth ts) ts) ≡ None → count_before s depth ts ≡ length ts
 counted_all s depth [] h = refl
 counted_all s depth (t ∷ ts) h = by_test (depth == 0 && separates s t) refl (counted_all s (level_after depth t) ts)

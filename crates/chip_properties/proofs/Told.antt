@@ -1,4 +1,4 @@
--- What is read line by line.
+-- The properties and faults after reading line by line.
 use Rattle.std.proofs.Common.{◌≡◌, ℕ, zero, suc, ◌+◌, ◌≤◌, ◌==◌, Bool, true, false, if◌then◌else◌, List, [], ◌∷◌, ◌++◌, length, length-append, take, drop, Option, Some, None, Result, Ok, Err, IfOk, IfErr, All, inl, inr, ◌⊎◌, refl, sym, ◌∙◌, ap, add-one, arith}
 use Rattle.std.specs.Prelude.{◌-◌, filter_map, nat_eq, slice_get}
 use Rattle.std.proofs.lemmas.Bool.{cases_lt, eq-eqb, or_cases, or_left, or_right}
@@ -37,12 +37,12 @@ IsStatedBy lines number start address text s =
     (s.line ≡ number)
     × (stated_in (values_of (symbols_of lines)) (Some address) None (property_tokens (drop start text)) ≡ Some (found s.kind (seen_property s.property)))
 
--- the tokens state nothing, or enough lines before them do
+-- the tokens state nothing, or the lines before them already state as many properties as may be read
 abbrev pub IsUnread : List (List ℕ) → (number start address : ℕ) → List ℕ → Type 0
 IsUnread lines number start address text =
     StateNothing (values_of (symbols_of lines)) (Some address) (property_tokens (drop start text)) ⊎ (MOST_PROPERTIES ≤ count_in lines (number - 1))
 
--- a fault at a line that is there
+-- a fault at an existing line
 faulty : (lines : List (List ℕ)) (number start : ℕ) (f : LineFacts) (fault : PropertyFault) → line_at lines number ≡ Some f → property_start f ≡ Some start
     → StandsAt number f.text fault → IsUnread lines number start f.address f.text → StandsOn lines fault
 faulty lines number start f fault at begins k unread = record {
@@ -78,7 +78,7 @@ pub refused : (lines : List (List ℕ)) (number start : ℕ) (f : LineFacts) (fa
     → StandsAt number f.text fault → MOST_PROPERTIES ≤ count_in lines (number - 1) → IsAnswer lines number (Err fault)
 refused lines number start f fault at begins k many = (k.there, faulty lines number start f fault at begins k (inr many))
 
--- a line that isn't there, or states nothing
+-- a line that doesn't exist, or states nothing
 pub no_line : (lines : List (List ℕ)) (number : ℕ) → None ≡ line_at lines number → (start : ℕ) (f : LineFacts) → States lines number start f → ⊥
 no_line lines number none start f on = none-some f (none ∙ on.there)
 
@@ -120,7 +120,7 @@ told_now lines number old new (a_property {s = p} there is s f) start g on =
 told_now lines number old new (a_fault {fault = p} there is s f) start g on =
     rw f (or_right _ _ (any_last (λ q. q.line == number) old.faults.items p (eq-eqb p.line number there)))
 
--- of the first lines, so many
+-- the first `count` lines
 pub record UpTo (lines : List (List ℕ)) (count : ℕ) (found : Properties) : Type 0 where
   pub stated : All (IsStatedOn lines) found.stated.items
   pub faults : All (StandsOn lines) found.faults.items
@@ -226,7 +226,7 @@ none_yet lines new s f = record {
     no_line_0 lines zero start f low on = none-some f on.there
     no_line_0 lines (suc n) start f low on = omega arith
 
--- a line that is there is one of them
+-- an existing line is one of them
 line_low : (lines : List (List ℕ)) (n : ℕ) (f : LineFacts) → line_at lines n ≡ Some f → n ≤ length (line_facts lines)
 line_low lines n f h = by_test (nat_eq n 0) h
   where

@@ -1,4 +1,4 @@
--- The numbers of faults (own).
+-- The numbers of faults (chosen by this project).
 use Rattle.std.specs.Prelude.{ℕ}
 use Rattle.chip_properties.specs.declared.fault.FaultCode.{FaultCode}
 use Rattle.chip_properties.specs.declared.fault.FaultCode.TheVariants.{NothingStated, NoComparison, UndefinedName, OutOfRange, NotAsked, TooMany}

@@ -1,7 +1,8 @@
--- The language of properties: which tokens are a property, and what it states (own).
+-- The language of properties: which tokens are a property, and what the property states (chosen by this
+-- project).
 --
---     property   = [always | never | ever | can] [condition] [here | at value], of which one of the last
---                  two and after `always` the condition
+--     property   = [always | never | ever | can] [condition] [here | at value]; at least one of the last two
+--                  parts must be there, and in an `always` property the condition must
 --     condition  = comparison {and comparison} | comparison {or comparison}
 --     comparison = sum relation sum
 --     relation   = "=" | "<" ">" | "<" | "<" "=" | ">" | ">" "="
@@ -12,7 +13,8 @@
 --     value      = number | name | "(" expression ")"
 --
 -- The tokens are those of Tokens, which reads `!=` as `<>`.
--- A word of the language stands for itself, so a name that is spelled like one stands in parentheses.
+-- A word of the language always means itself, so a name that is spelled like one must be put in
+-- parentheses.
 use Rattle.std.specs.Prelude.{◌≡◌, ◌≤◌, ◌<◌, ℕ, ◌+◌, ◌^◌, Bool, true, false, if◌then◌else◌, pos, List, [], ◌∷◌, ◌++◌, length, Option, Some, None, Ok, codes, fold}
 use Rattle.chip_lang.specs.declared.limits.TheConstants.{MEMORY_BYTES}
 use Rattle.chip_lang.specs.declared.lexeme.Lexeme.{Lexeme}
@@ -49,7 +51,7 @@ pub data IsValue : Symbols → List Lexeme → ℕ → Type 0 where
   in_parentheses : {symbols : Symbols} {inside ts : List Lexeme} {n : ℕ}
       → ts ≡ Sign 40 ∷ (inside ++ Sign 41 ∷ []) → IsNumber symbols inside n → IsValue symbols ts n
 
--- what a property may ask for
+-- an item that a property may ask for
 pub data IsItem : Symbols → List Lexeme → Item → Type 0 where
   named : {symbols : Symbols} {w : List ℕ} {i : Item} → item_of_word w ≡ Some i
       → IsItem symbols (Word w ∷ []) i
@@ -61,7 +63,7 @@ pub data IsItem : Symbols → List Lexeme → Item → Type 0 where
       → IsNumber symbols column x → x < SCREEN_WIDTH → IsNumber symbols row y → y < SCREEN_HEIGHT
       → IsItem symbols ts (Pixel x y)
 
--- what a sum is made of: a number, or so many times an item
+-- a part of a sum: a number, or an item with a factor
 pub data Addend : Type 0 where
   a_number : ℕ → Addend
   times : ℕ → Item → Addend
@@ -75,12 +77,12 @@ pub data IsAddend : Symbols → List Lexeme → Addend → Type 0 where
       → ts ≡ front ++ Sign 42 ∷ back → IsValue symbols front n → IsItem symbols back i
       → IsAddend symbols ts (times n i)
 
--- tokens are some parts, at least one, with a separator between them
+-- tokens that consist of at least one part, with a separator between each two parts
 abbrev pub joined : Lexeme → List Lexeme → List (List Lexeme) → List Lexeme
 joined separator first [] = first
 joined separator first (next ∷ more) = first ++ separator ∷ joined separator next more
 
--- each part is what stands beside it
+-- a relation holds between each part and the element at its place
 abbrev pub AreEach : {A : Type 0} → (List Lexeme → A → Type 0) → List (List Lexeme) → List A → Type 0
 AreEach Is [] [] = Unit
 AreEach Is [] (x ∷ xs) = ⊥
@@ -96,7 +98,7 @@ with s (times n i) = record s { terms = s.terms ++ record { factor = n; item = i
 abbrev pub total : List Addend → SeenSum
 total addends = fold with (record { constant = 0; terms = [] }) addends
 
--- addends with a plus sign between them, at most so many, whose numbers together have at most 32 bits
+-- addends with a plus sign between them, at most MOST_TERMS, whose numbers together have at most 32 bits
 pub record IsSum (symbols : Symbols) (ts : List Lexeme) (s : SeenSum) : Type 0 where
   pub first : List Lexeme
   pub more : List (List Lexeme)
@@ -116,7 +118,7 @@ signs_of LessOrEqual = Sign 60 ∷ Sign 61 ∷ []
 signs_of Greater = Sign 62 ∷ []
 signs_of GreaterOrEqual = Sign 62 ∷ Sign 61 ∷ []
 
--- a relation between two sums
+-- two sums with a relation between them
 pub record IsComparison (symbols : Symbols) (ts : List Lexeme) (c : SeenComparison) : Type 0 where
   pub front : List Lexeme
   pub back : List Lexeme
@@ -124,11 +126,11 @@ pub record IsComparison (symbols : Symbols) (ts : List Lexeme) (c : SeenComparis
   pub left : IsSum symbols front c.left
   pub right : IsSum symbols back c.right
 
--- the word between comparisons of which all hold, or one
+-- the word between comparisons: `and` if all must hold, `or` if one must
 abbrev pub word_between : Bool → Lexeme
 word_between is_all = Word (if is_all then codes "AND" else codes "OR")
 
--- comparisons with one word between them, at most so many; of one comparison alone all hold
+-- comparisons with one word between them, at most MOST_COMPARISONS; a single comparison counts as one of which all must hold
 pub record IsCondition (symbols : Symbols) (ts : List Lexeme) (c : SeenCondition) : Type 0 where
   pub first : List Lexeme
   pub more : List (List Lexeme)
@@ -137,7 +139,7 @@ pub record IsCondition (symbols : Symbols) (ts : List Lexeme) (c : SeenCondition
   pub few : length c.comparisons ≤ MOST_COMPARISONS
   pub alone : more ≡ [] → c.is_all ≡ true
 
--- the place of a property: none, that of its line, or an address
+-- the place of a property: none, the address of its line, or an address
 pub data IsPlace : Symbols → (here : Option ℕ) → List Lexeme → Option ℕ → Type 0 where
   nowhere : {symbols : Symbols} {here : Option ℕ} → IsPlace symbols here [] None
   at_here : {symbols : Symbols} {here : Option ℕ} {a : ℕ} → here ≡ Some a → a < MEMORY_BYTES
@@ -146,8 +148,8 @@ pub data IsPlace : Symbols → (here : Option ℕ) → List Lexeme → Option �
       → IsValue symbols ts a → a < MEMORY_BYTES
       → IsPlace symbols here (Word (codes "AT") ∷ ts) (Some a)
 
--- The condition before a place. Without one it always holds, where there is a place, and the kind is
--- not `always`.
+-- the condition before a place. It may be left out if there is a place and the kind is not `always`; it
+-- then always holds.
 pub data IsGiven : Symbols → Kind → (front back : List Lexeme) → SeenCondition → Type 0 where
   a_condition : {symbols : Symbols} {kind : Kind} {front back : List Lexeme} {c : SeenCondition}
       → IsCondition symbols front c → IsGiven symbols kind front back c
@@ -155,13 +157,13 @@ pub data IsGiven : Symbols → Kind → (front back : List Lexeme) → SeenCondi
       → (kind ≡ Always → ⊥)
       → IsGiven symbols kind [] (t ∷ ts) (record { is_all = true; comparisons = [] })
 
--- whether a condition is looked for that holds, or one that doesn't
+-- whether a search looks for states in which the condition holds, or for states in which it fails
 abbrev pub is_wanted : Kind → Bool
 is_wanted Always = false
 is_wanted kind = true
 
--- What a property of a kind states, without the word for its kind. At most OPEN_PARENTHESES
--- parentheses and brackets are open at once.
+-- the property that tokens state for a kind, without the word for the kind; at most OPEN_PARENTHESES
+-- parentheses and brackets are open at once
 pub record IsProperty (symbols : Symbols) (here : Option ℕ) (kind : Kind) (ts : List Lexeme)
     (p : SeenProperty) : Type 0 where
   pub front : List Lexeme
@@ -172,7 +174,7 @@ pub record IsProperty (symbols : Symbols) (here : Option ℕ) (kind : Kind) (ts 
   pub wanted : p.wanted ≡ is_wanted kind
   pub shallow : is_deep 0 ts ≡ false
 
--- what a property states: of the kind with which it begins, or else `always`
+-- the kind and the property that tokens state; the kind is the one with which they begin, or else `always`
 pub data IsStated : Symbols → (here : Option ℕ) → List Lexeme → Kind → SeenProperty → Type 0 where
   with_kind : {symbols : Symbols} {here : Option ℕ} {w : List ℕ} {ts : List Lexeme} {kind : Kind}
       {p : SeenProperty} → kind_of_word w ≡ Some kind → IsProperty symbols here kind ts p

@@ -1,16 +1,16 @@
 -- The language of `;!` lines.
--- Source: own.
+-- Source: chosen by this project.
 --     Words           the words of the language
---     SeenProperty    properties without where their parts lie in memory
+--     SeenProperty    properties, apart from where their parts lie in memory
 --     Tokens          the tokens of a property
---     Language        which tokens are a property, and what it states
---     Nesting         parentheses and brackets in one another
---     Lines           which lines state properties
+--     Language        which tokens are a property, and what the property states
+--     Nesting         nested parentheses and brackets
+--     Lines           the lines that state properties
 --     Properties      the properties of a source
 --     Faults          the numbers of faults
---     computed        the property that tokens are, found step by step; a law says that it is that of
+--     computed        the property that tokens state, found step by step; a law says that it is the one of
 --                     Language
---     inner           what the functions inside say; no public clause cites it
+--     inner           definitions for private functions; no public clause cites it
 pub mod Faults
 pub mod Language
 pub mod Lines

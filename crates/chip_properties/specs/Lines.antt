@@ -1,4 +1,4 @@
--- Which lines state properties (own).
+-- The lines that state properties (chosen by this project).
 use Rattle.std.specs.Prelude.{◌≡◌, ◌≤◌, ◌⊎◌, ℕ, length, ◌+◌, ◌-◌, ◌==◌, ◌&&◌, if◌then◌else◌, List, [], ◌∷◌, Option, Some, None, drop, filter_map, option_map, reverse, take}
 use Rattle.std.specs.List.{prefix_len}
 use Rattle.chip_lang.specs.Token.{is_blank}
@@ -19,18 +19,18 @@ use Rattle.chip_lang.specs.declared.lexeme.Lexeme.TheVariants.{Word}
 abbrev pub without_blanks : List ℕ → List ℕ
 without_blanks bytes = drop (prefix_len is_blank bytes) bytes
 
--- without those at both ends
+-- bytes without the blanks at both ends
 abbrev pub trimmed : List ℕ → List ℕ
 trimmed bytes = reverse (without_blanks (reverse (without_blanks bytes)))
 
--- where what stands after `;!` begins, if that is what stands after so many blanks
+-- the place after `;!`, if `;!` comes after this many blanks
 abbrev pub after_mark : ℕ → List ℕ → Option ℕ
 after_mark blanks [] = None
 after_mark blanks (a ∷ []) = None
 after_mark blanks (a ∷ b ∷ bytes) = if a == 59 && b == 33 then Some (blanks + 2) else None
 
--- where the text of a property begins in its line, after `;!`; none where the first bytes but blanks
--- aren't that
+-- the place in a line at which the text of a property begins, after `;!`; none if the first bytes other
+-- than blanks aren't `;!`
 abbrev pub mark_end : List ℕ → Option ℕ
 mark_end line = after_mark (prefix_len is_blank line) (without_blanks line)
 
@@ -46,20 +46,20 @@ abbrev pub words_after : List ℕ → Option ℕ → List (List ℕ)
 words_after line None = []
 words_after line (Some end) = filter_map word_of (lexemes_of (drop end line))
 
--- the words of a property, by its line
+-- the words of the property on a line
 abbrev pub words_in : List ℕ → List (List ℕ)
 words_in line = words_after line (mark_end line)
 
--- where the property of an active line begins in its text
+-- the place in the text of an active line at which its property begins
 abbrev pub property_start : LineFacts → Option ℕ
 property_start f = if f.active then mark_end f.text else None
 
--- a line of a source states a property, which begins at a place of its text
+-- a line of a source states a property, which begins at a place in its text
 pub record States (lines : List (List ℕ)) (number start : ℕ) (f : LineFacts) : Type 0 where
   pub there : line_at lines number ≡ Some f
   pub begins : property_start f ≡ Some start
 
--- what is stated on a line of a source, by the names that have values there
+-- the statement of a line of a source, given the names that have values there
 pub record IsStatedOn (lines : List (List ℕ)) (s : Stated) : Type 0 where
   pub start : ℕ
   pub facts : LineFacts
@@ -67,18 +67,18 @@ pub record IsStatedOn (lines : List (List ℕ)) (s : Stated) : Type 0 where
   pub states : IsStated (values_of (symbols_of lines)) (Some facts.address)
       (property_tokens (drop start facts.text)) s.kind (seen_property s.property)
 
--- a fault stands at bytes of a line of a number
+-- a fault is at bytes of the line with a number
 pub record StandsAt (number : ℕ) (line : List ℕ) (fault : PropertyFault) : Type 0 where
   pub there : fault.line ≡ number
   pub rises : fault.span.start ≤ fault.span.end
   pub inside : fault.span.end ≤ length line
 
--- how many of the first lines of a source, so many, state a property
+-- the number of lines that state a property, among the first `count` lines of a source
 abbrev pub count_in : List (List ℕ) → ℕ → ℕ
 count_in lines count = length (filter_map property_start (take count (line_facts lines)))
 
--- A fault stands on a line of a source whose tokens state nothing by the names that have values there.
--- Past so many properties also what states something has a fault.
+-- a fault is on a line of a source whose tokens state nothing, given the names that have values there.
+-- After MOST_PROPERTIES properties, a line that states something has a fault too.
 pub record StandsOn (lines : List (List ℕ)) (fault : PropertyFault) : Type 0 where
   pub start : ℕ
   pub facts : LineFacts

@@ -1,4 +1,4 @@
--- The properties of a source (own).
+-- The properties of a source (chosen by this project).
 use Rattle.std.specs.Prelude.{◌≡◌, ℕ, Bool, true, ◌==◌, ◌||◌, List, All}
 use Rattle.std.specs.List.{list_any}
 use Rattle.chip_asm.specs.LineViews.{LineFacts}
@@ -7,12 +7,12 @@ use Rattle.chip_properties.specs.declared.properties.Properties.{Properties}
 use Rattle.chip_properties.specs.declared.stated.Stated.{Stated}
 use Rattle.chip_properties.specs.Lines.{IsStatedOn, StandsOn, States}
 
--- something is said of the line of a number
+-- whether a property or a fault is reported for the line with a number
 abbrev pub is_told : List Stated → List PropertyFault → ℕ → Bool
 is_told stated faults number =
     list_any (λ s. s.line == number) stated || list_any (λ fault. fault.line == number) faults
 
--- what lines of a source state, and faults of others: of each line that states a property one is told
+-- the properties and the faults that are reported for lines of a source; each line that states a property has one or the other
 pub record AreProperties (lines : List (List ℕ)) (found : Properties) : Type 0 where
   pub stated : All (IsStatedOn lines) found.stated.items
   pub faults : All (StandsOn lines) found.faults.items

@@ -1,4 +1,4 @@
--- Properties without where their parts lie in memory (own).
+-- Properties, apart from where their parts lie in memory (chosen by this project).
 use Rattle.std.specs.Prelude.{ℕ, Bool, List, Option, map}
 use Rattle.chip_explore.specs.declared.property.Term.{Term}
 use Rattle.chip_explore.specs.declared.property.Sum.{Sum}

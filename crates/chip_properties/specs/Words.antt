@@ -1,4 +1,4 @@
--- The words of the language, all in upper case (own).
+-- The words of the language, all in upper case (chosen by this project).
 use Rattle.std.specs.Prelude.{ℕ, List, Bool, ◌||◌, Option, Some, None, is_some, if◌then◌else◌, codes}
 use Rattle.std.specs.Str.{bytes_eq}
 use Rattle.chip_lang.specs.Keyword.{register_of}
@@ -15,14 +15,14 @@ kind_of_word w =
     else (if bytes_eq w (codes "EVER") then Some Ever
     else (if bytes_eq w (codes "CAN") then Some Can else None)))
 
--- a word that means something in a property, so that a name that is spelled so stands in parentheses
+-- whether a word has a meaning in a property, so that a name with this spelling must be put in parentheses
 abbrev pub is_property_word : List ℕ → Bool
 is_property_word w =
     is_some (kind_of_word w) || bytes_eq w (codes "HERE") || bytes_eq w (codes "AT")
     || bytes_eq w (codes "PC") || bytes_eq w (codes "DEPTH") || bytes_eq w (codes "KEYS")
     || bytes_eq w (codes "PIXEL")
 
--- the item that a word is which isn't a register
+-- the item that a word means, if it isn't a register
 abbrev pub other_item : List ℕ → Option Item
 other_item w =
     if bytes_eq w (codes "I") then Some Index
@@ -36,6 +36,6 @@ abbrev pub or_register : Option ℕ → Option Item → Option Item
 or_register (Some x) other = Some (Register x)
 or_register None other = other
 
--- the item that a word is
+-- the item that a word means
 abbrev pub item_of_word : List ℕ → Option Item
 item_of_word w = or_register (register_of w) (other_item w)

@@ -1,3 +1,3 @@
--- The parts of tokens between separators (Separated), and the property that tokens are (Reading).
+-- The parts of tokens between separators (Separated), and the property that tokens state (Reading).
 pub mod Reading
 pub mod Separated

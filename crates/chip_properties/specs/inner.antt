@@ -1,4 +1,4 @@
--- Parts of tokens (Parts), what is read of them (Reads), and what lines add (Told).
+-- Parts of tokens (Parts), the result of reading tokens (Reads), and the effect of lines (Told).
 pub mod Parts
 pub mod Reads
 pub mod Told

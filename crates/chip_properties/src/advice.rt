@@ -1,4 +1,4 @@
-//! Where a fault of a property is shown, and what helps.
+//! Chooses the place at which a fault of a property is shown, and the help for it.
 
 ghost use Rattle.std.specs.Prelude.{◌≤◌, IfOk, length};
 ghost use Rattle.chip_properties.specs.Lines.{StandsAt};
@@ -19,7 +19,7 @@ use chip_lang::limits::OPEN_PARENTHESES;
 use chip_lang::{Fault, Lexeme, Span, Token, is_sign_of, is_the, lexemes, tokens};
 use std::alloc::{AllocError, Global};
 
-/// A fault that was found in the property of a line, which begins at a place of its text.
+/// Returns a fault of the property of a line. The text of the property begins at `start` in the line.
 pub(crate) fn fault_found(
     reader: &Reader<'_>,
     number: usize,
@@ -53,8 +53,9 @@ pub(crate) fn fault_found(
     })
 }
 
-/// The bytes of a line at which some tokens stand, of those from a place on. Where there are none,
-/// it is the mark before them, and past the last one the place after that.
+/// Returns the bytes of a line that hold the tokens of a fault. The text of the property begins at
+/// `start`. If the text has no tokens, these are the bytes of the mark before it; if the fault is past
+/// the last token, the place after that.
 fn span_of(tokens: &[Token], line: &[u8], start: usize, found: Found) -> Span
     ensures rises { result.start ≤ result.end }
     ensures inside { result.end ≤ length line.now }
@@ -78,7 +79,7 @@ fn span_of(tokens: &[Token], line: &[u8], start: usize, found: Found) -> Span
     }
 }
 
-/// A fault at fewer tokens, or with another code, where that says more.
+/// Returns a fault at fewer tokens, or with another code, if that says more.
 fn narrowed(source: &Source, tokens: &[Lexeme], found: Found) -> Found {
     match found.code {
         FaultCode::NoComparison => match first_bad(tokens) {
@@ -92,7 +93,7 @@ fn narrowed(source: &Source, tokens: &[Lexeme], found: Found) -> Found {
     }
 }
 
-/// A fault at the first token that is none.
+/// Returns a fault at the first bad token, if there is one.
 fn first_bad(tokens: &[Lexeme]) -> Option<Found> {
     for (index, token) in tokens.iter().enumerate() {
         match token {
@@ -106,8 +107,8 @@ fn first_bad(tokens: &[Lexeme]) -> Option<Found> {
     None
 }
 
-/// The first word of a property that no name of the source is, and the word for the kind that was
-/// meant by it.
+/// If the first word of a property was meant as the word for a kind, returns both words. Returns `None`
+/// if it is a name of the source, a word of properties, or followed by a sign as a value is.
 fn kind_meant<'a>(source: &Source, tokens: &'a [Lexeme]) -> Option<(&'a [u8], &'static str)> {
     let (Lexeme::Word(word), rest) = tokens.split_first()? else {
         return None;
@@ -123,8 +124,8 @@ fn kind_meant<'a>(source: &Source, tokens: &'a [Lexeme]) -> Option<(&'a [u8], &'
     Some((word, other_kind(word)?))
 }
 
-/// A fault at the first of some tokens that can't be asked, or else at the one after a value, which
-/// can't stand there.
+/// Returns a fault at the first of some tokens that a property can't ask for. If there is none, returns
+/// one at the token after a value, if it can't come there.
 fn misplaced(tokens: &[Lexeme], found: Found) -> Found {
     for index in found.first..found.end.min(tokens.len()) {
         if why_not_asked(&tokens[index]).is_some() {
@@ -141,7 +142,7 @@ fn misplaced(tokens: &[Lexeme], found: Found) -> Found {
     }
 }
 
-/// A fault at the first of some tokens that is a name without a value.
+/// Returns a fault at the first of some tokens that is a name without a value.
 fn undefined(source: &Source, tokens: &[Lexeme], found: Found) -> Found {
     for index in found.first..found.end.min(tokens.len()) {
         if let Lexeme::Word(word) = &tokens[index]
@@ -157,7 +158,7 @@ fn undefined(source: &Source, tokens: &[Lexeme], found: Found) -> Found {
     found
 }
 
-/// Why a value can't be asked for, if a token is the word for it.
+/// If a token is the word for a value that a property can't ask for, returns the reason.
 fn why_not_asked(token: &Lexeme) -> Option<&'static [u8]> {
     if is_the(b"ST", token) {
         Some(b"states that differ in the sound alone are not told apart: ask DT or a register")
@@ -170,7 +171,7 @@ fn why_not_asked(token: &Lexeme) -> Option<&'static [u8]> {
     }
 }
 
-/// Why a token stands for what can't be asked.
+/// Returns the reason why a property can't ask for what a token means, or nothing.
 fn why_not(token: &Lexeme) -> &'static [u8] {
     if is_the(b"HERE", token) {
         b"here is the address of a line of the source: write at, and a name or a number"
@@ -179,7 +180,7 @@ fn why_not(token: &Lexeme) -> &'static [u8] {
     }
 }
 
-/// What helps with a fault of a property of this text, where it shows these bytes, or nothing.
+/// Returns help with a fault of a property of this text, which shows these bytes, or nothing.
 fn longer_help(
     reader: &Reader<'_>,
     text: &[u8],
@@ -196,7 +197,7 @@ fn longer_help(
     }
 }
 
-/// What helps with a fault at some tokens, or nothing.
+/// Returns help with a fault at some tokens, or nothing.
 fn help_for(reader: &Reader<'_>, tokens: &[Lexeme], found: Found) -> Result<Vec<u8>, AllocError> {
     let alloc = reader.alloc;
     let (before, rest) = tokens.split_at(found.first.min(tokens.len()));
@@ -233,13 +234,13 @@ fn help_for(reader: &Reader<'_>, tokens: &[Lexeme], found: Found) -> Result<Vec<
     Vec::from_slice(alloc, help)
 }
 
-/// How the word for a kind that was meant by another word is written.
+/// Returns help with a word that was meant as the word for a kind: how that one is written.
 fn kind_help(alloc: Global, word: &[u8], kind: &str) -> Result<Vec<u8>, AllocError> {
     let written = format!(in alloc; " is written {kind} here, as in ;! {kind} V0 < 3")?;
     [word, written.as_bytes()].concat(alloc)
 }
 
-/// What helps with a token, with which the rest begins, in a phrase that others write.
+/// Returns help with a token that belongs to a phrase of other languages. `rest` begins with the token.
 fn help_on_phrase(token: &Lexeme, before: &[Lexeme], rest: &[Lexeme]) -> Option<&'static [u8]> {
     let is_arrow = matches!(token, Lexeme::Sign(b'=' | b'-')) && second_is(b'>', rest);
     if is_conditional(token)
@@ -280,7 +281,7 @@ fn second_is(sign: u8, tokens: &[Lexeme]) -> bool {
 const NAMES_ALONE: &[u8] =
     b"parentheses and brackets take names and numbers alone, as in V0 <= (SIZE - 1)";
 
-/// What helps where a token can't stand after those before it, or nothing: `rest` begins with it.
+/// Returns help with a token that can't come after those before it, or nothing. `rest` begins with the token.
 fn help_at(token: &Lexeme, before: &[Lexeme], rest: &[Lexeme]) -> &'static [u8] {
     let last = before.last();
     let follows = |sign: u8| last.is_some_and(|last| is_sign_of(sign, last));
@@ -325,20 +326,21 @@ fn help_at(token: &Lexeme, before: &[Lexeme], rest: &[Lexeme]) -> &'static [u8] 
     }
 }
 
-/// Whether a sign, with which the rest begins, was meant to stand between two comparisons: it stands
-/// twice, or there is a relation on each side.
+/// Whether a sign was meant to stand between two comparisons: it is written twice, or there is a relation
+/// on each side. `rest` begins with the sign.
 fn stands_between(sign: u8, before: &[Lexeme], rest: &[Lexeme]) -> bool {
     second_is(sign, rest) || has_relation(before) && has_relation(rest)
 }
 
-/// Whether a relation is among tokens.
+/// Whether there is a relation among some tokens.
 fn has_relation(tokens: &[Lexeme]) -> bool {
     tokens
         .iter()
         .any(|token| matches!(token, Lexeme::Sign(b'=' | b'<' | b'>')))
 }
 
-/// What helps where a word can't stand after the tokens before it, or nothing: `rest` begins with it.
+/// Returns help with a word that can't come after the tokens before it, or nothing. `rest` begins with
+/// the word.
 fn help_at_word(word: &[u8], before: &[Lexeme], rest: &[Lexeme]) -> &'static [u8] {
     let follows_at = is_last(b"AT", before);
     if is_stop_word(word) && !follows_at && !has_relation(before) && !has_relation(rest) {
@@ -364,7 +366,7 @@ fn help_at_word(word: &[u8], before: &[Lexeme], rest: &[Lexeme]) -> &'static [u8
     }
 }
 
-/// Words with which an author asks for a crash or an end, in upper case.
+/// The words with which authors ask for a crash or an end, in upper case.
 const STOP_WORDS: &[&[u8]] = &[
     b"CRASH", b"CRASHES", b"HALTS", b"STOPS", b"STOPPED", b"S1", b"S2", b"S3", b"S4", b"S5", b"S6",
     b"S7",
@@ -374,7 +376,7 @@ fn is_stop_word(word: &[u8]) -> bool {
     STOP_WORDS.iter().any(|known| *known == word)
 }
 
-/// Whether some tokens end with what a property may ask for.
+/// Whether some tokens end with something that a property may ask for.
 fn ends_with_item(tokens: &[Lexeme]) -> bool {
     match tokens.last() {
         Some(Lexeme::Word(word)) => is_item_word(word.get()),
@@ -382,12 +384,12 @@ fn ends_with_item(tokens: &[Lexeme]) -> bool {
     }
 }
 
-/// Whether a word in upper case begins what a property may ask for.
+/// Whether a word in upper case begins something that a property may ask for.
 fn is_item_word(word: &[u8]) -> bool {
     item_of_word(word).is_some() || word == b"PIXEL".as_slice()
 }
 
-/// Whether some tokens end with a sign after which a value stands.
+/// Whether some tokens end with a sign that a value follows.
 fn ends_with_sign(tokens: &[Lexeme]) -> bool {
     matches!(
         tokens.last(),
@@ -395,7 +397,7 @@ fn ends_with_sign(tokens: &[Lexeme]) -> bool {
     )
 }
 
-/// What helps where the word for a kind stands after something else.
+/// Returns help with a word for a kind that doesn't come first.
 fn help_at_kind(kind: Kind) -> &'static [u8] {
     match kind {
         Kind::Always => b"always stands first, as in ;! always V0 < 3",
@@ -405,7 +407,7 @@ fn help_at_kind(kind: Kind) -> &'static [u8] {
     }
 }
 
-/// Help with a word that no name of the source is: the name that it comes nearest to, if one is near.
+/// Returns help with a word that is no name of the source: the name that it is nearest to, if one is near.
 fn near_help(reader: &Reader<'_>, word: &[u8]) -> Result<Vec<u8>, AllocError> {
     let mut help = Vec::new(reader.alloc);
     let mut most = most_edits(word);

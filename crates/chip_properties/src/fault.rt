@@ -6,25 +6,25 @@ ghost use Rattle.chip_properties.specs.Faults.{number_of_property_fault};
 use chip_lang::Span;
 use std::alloc::AllocError;
 
-/// Why a line can't be read as a property.
+/// The reason why a line can't be read as a property.
 #[derive(Clone, Copy, PartialEq, Eq)]
 pub enum FaultCode {
-    /// P1: it states nothing.
+    /// P1: the line states nothing.
     NothingStated,
-    /// P2: no comparison, or no place, stands where one is expected.
+    /// P2: no comparison or no place where one is expected.
     NoComparison,
     /// P3: a name without a value.
     UndefinedName,
     /// P4: a value below 0, an address past the memory, or a point off the screen.
     OutOfRange,
-    /// P5: what can't be asked.
+    /// P5: something that a property can't ask for.
     NotAsked,
     /// P6: too many comparisons, terms, properties, or open parentheses.
     TooMany,
 }
 
 impl FaultCode {
-    /// The number that a fault has: 1 to 6.
+    /// Returns the number of the fault, 1 to 6.
     pub fn number(self) -> u32
         ensures value { result ≡ number_of_property_fault self }
         ensures bound { result ≤ 6 }
@@ -39,7 +39,7 @@ impl FaultCode {
         }
     }
 
-    /// What it says, in a sentence without a newline.
+    /// Returns what the fault says, as a sentence without a newline.
     pub fn sentence(self) -> &'static [u8] {
         match self {
             FaultCode::NothingStated => {
@@ -54,19 +54,19 @@ impl FaultCode {
     }
 }
 
-/// Why a line can't be read as a property, and where.
+/// The reason why a line can't be read as a property, and the place of the fault.
 #[derive(Drop)]
 pub struct PropertyFault {
-    /// The number of the line, from 1; 0 for a text of its own.
+    /// The number of the line, counted from 1, or 0 for a text of its own.
     pub line: usize,
     pub code: FaultCode,
-    /// The bytes of the line's text at which it is.
+    /// The bytes of the line's text where the fault is.
     pub span: Span,
-    /// What to write, or nothing: one sentence without a newline.
+    /// Advice on what to write, as one sentence without a newline, or nothing.
     pub help: Vec<u8>,
 }
 
-/// A fault at some tokens of a property, from the one of an index up to another one.
+/// A fault at some tokens of a property, from the one with index `first` up to the one before `end`.
 #[derive(Clone, Copy)]
 pub(crate) struct Found {
     pub(crate) code: FaultCode,
@@ -75,7 +75,7 @@ pub(crate) struct Found {
 }
 
 impl Found {
-    /// A fault at the token of an index.
+    /// Returns a fault at the token with an index.
     pub(crate) fn at(code: FaultCode, index: usize) -> Found {
         Found {
             code,
@@ -85,11 +85,11 @@ impl Found {
     }
 }
 
-/// Why tokens aren't read.
+/// The reason why tokens can't be read.
 #[derive(Drop)]
 pub(crate) enum Failure {
     OutOfMemory,
-    /// They aren't what is read there.
+    /// The tokens aren't what is expected there.
     Fault(Found),
 }
 

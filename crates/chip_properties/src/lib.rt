@@ -1,4 +1,4 @@
-//! The language of `;!` lines: what the author of a game states of it.
+//! The language of `;!` lines, in which the author of a game states its properties.
 #![tactic(auto)]
 
 mod advice;

@@ -1,15 +1,15 @@
 //! The limits of properties.
 
-/// How many comparisons a condition has at most.
+/// The largest number of comparisons of a condition.
 pub const MOST_COMPARISONS: usize = 16;
 
-/// How many numbers and terms a sum has at most.
+/// The largest number of numbers and terms of a sum.
 pub const MOST_TERMS: usize = 16;
 
-/// How many lines of a source are read as properties at most.
+/// The largest number of lines of a source that are read as properties.
 pub const MOST_PROPERTIES: usize = 64;
 
-/// How many columns a pixel may be in, and how many rows.
+/// The numbers of columns and rows that a pixel may be in.
 pub const SCREEN_WIDTH: u32 = 128;
 
 pub const SCREEN_HEIGHT: u32 = 64;

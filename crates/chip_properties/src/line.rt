@@ -9,8 +9,8 @@ ghost use Rattle.chip_properties.specs.Lines.{mark_end, property_text_of, trimme
 use chip_lang::{Bytes, Lexeme, lexemes};
 use std::alloc::{AllocError, Global};
 
-/// What a line states: its text after `;!`, without blanks at both ends. None where the first bytes
-/// of the line but blanks aren't `;!`.
+/// Returns what a line states: its text after `;!`, without blanks at both ends. Returns `None` if the
+/// first bytes of the line other than blanks aren't `;!`.
 pub fn property_text(line: &[u8]) -> Option<&[u8]>
     ensures { option_copied result ≡ property_text_of line.now }
 {
@@ -18,8 +18,8 @@ pub fn property_text(line: &[u8]) -> Option<&[u8]>
     Some(trimmed(&line[start..]))
 }
 
-/// The words of a property, in upper case, by the line on which it stands: the names in it, and the
-/// language's own words. None of a line that states nothing.
+/// Returns the words of the property on a line, in upper case: the names in it, and the language's own
+/// words. There are none if the line states nothing.
 ///
 /// # Errors
 ///
@@ -41,7 +41,7 @@ pub fn names_used(alloc: Global, line: &[u8]) -> Result<Vec<Bytes>, AllocError>
     Ok(words)
 }
 
-/// Where the text of a property begins in its line, after `;!`.
+/// Returns the place in a line at which the text of a property begins, after `;!`.
 pub(crate) fn mark_end(line: &[u8]) -> Option<usize>
     ensures value { result ≡ mark_end line.now }
     ensures within { IfSome result (λ end. end ≤ length line.now) }
@@ -53,7 +53,7 @@ pub(crate) fn mark_end(line: &[u8]) -> Option<usize>
     }
 }
 
-/// How many blanks stand in front.
+/// Returns the number of blanks in front of some bytes.
 fn front_blanks(bytes: &[u8]) -> usize
     ensures value { result ≡ prefix_len is_blank bytes.now }
     ensures within { result ≤ length bytes.now }
@@ -72,7 +72,7 @@ fn is_blank(byte: u8) -> bool
     matches!(byte, b' ' | 9 | 12 | 13 | 26)
 }
 
-/// Bytes without the blanks at both ends.
+/// Returns bytes without the blanks at both ends.
 #[tactic(auto, using(crate::proofs::Ends::trim_steps))]
 fn trimmed(bytes: &[u8]) -> &[u8]
     ensures { result.now ≡ trimmed bytes.now }

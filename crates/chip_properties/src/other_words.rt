@@ -1,10 +1,10 @@
-//! What other languages write in a property, and what is written here.
+//! Words and signs that other languages use in a property, and what to write here.
 
 use crate::near::{fewest_edits, most_edits};
 use chip_lang::{Lexeme, is_sign_of, is_the};
 use std::alloc::{AllocError, Global};
 
-/// Words with which others state a condition on a condition.
+/// Words that state a condition on a condition in other languages.
 const CONDITIONALS: &[&str] = &[
     "IF", "WHEN", "WHENEVER", "WHILE", "UNLESS", "THEN", "IMPLIES",
 ];
@@ -13,7 +13,7 @@ const CONDITIONALS: &[&str] = &[
 pub(crate) const IMPLICATION: &[u8] =
     b"a property has no if: write never V1 = 3 and V0 <> 5 in place of if V1 = 3 then V0 = 5";
 
-/// Whether a token is a word with which others state a condition on a condition.
+/// Whether a token is a word that states a condition on a condition in other languages.
 pub(crate) fn is_conditional(token: &Lexeme) -> bool {
     CONDITIONALS
         .iter()
@@ -26,7 +26,7 @@ const PLACE: &[u8] = b"write at before a place, as in V0 <= 8 at LOOP";
 /// Help with a range of values.
 const RANGE: &[u8] = b"write two comparisons for a range, as in V0 >= 1 and V0 <= 5";
 
-/// What helps with a word in upper case that others write in the place of a sign.
+/// Returns help with a word in upper case that other languages use in place of a sign.
 pub(crate) fn word_help(word: &[u8]) -> Option<&'static [u8]> {
     match word {
         b"IS" | b"EQ" | b"EQUALS" => Some(b"write = for equal"),
@@ -36,7 +36,7 @@ pub(crate) fn word_help(word: &[u8]) -> Option<&'static [u8]> {
     }
 }
 
-/// What helps where the text of a fault begins with a sign or a number that others write.
+/// Returns help with the text of a fault that begins with a sign or a number of other languages.
 pub(crate) fn text_help(text: &[u8]) -> Option<&'static [u8]> {
     match text {
         [b'!', ..] => Some(b"write never for not, and <> or != for unequal"),
@@ -52,7 +52,8 @@ pub(crate) fn text_help(text: &[u8]) -> Option<&'static [u8]> {
     }
 }
 
-/// Help with a hexadecimal number that others write with a dollar sign before its digits, if a text is one.
+/// Returns help with a text that is a hexadecimal number with a dollar sign before its digits, as others
+/// write it.
 pub(crate) fn hexadecimal_help(alloc: Global, text: &[u8]) -> Result<Option<Vec<u8>>, AllocError> {
     let [b'$', digits @ ..] = text else {
         return Ok(None);
@@ -68,19 +69,20 @@ pub(crate) fn hexadecimal_help(alloc: Global, text: &[u8]) -> Result<Option<Vec<
     Ok(Some([front, digits].concat(alloc)?))
 }
 
-/// Whether a sign, with which the rest begins, and one beside it are what others write for unequal.
+/// Whether a sign, together with one beside it, means unequal in other languages. `rest` begins with the
+/// sign.
 pub(crate) fn is_unequal(token: &Lexeme, before: &[Lexeme], rest: &[Lexeme]) -> bool {
     let is_slash = matches!(token, Lexeme::Sign(b'/' | b'\\'));
     let is_sign = is_slash || matches!(token, Lexeme::Sign(b'~' | b'^'));
     is_sign && is_equal_sign(rest.get(1)) || is_slash && is_equal_sign(before.last())
 }
 
-/// Whether a token is there, and is `=`.
+/// Whether there is a token and it is `=`.
 fn is_equal_sign(token: Option<&Lexeme>) -> bool {
     token.is_some_and(|token| is_sign_of(b'=', token))
 }
 
-/// A kind's word, in lower and in upper case, and what others write for it.
+/// The word for each kind, in lower and in upper case, and the words that others use for it.
 const OTHER_WORDS: &[(&str, &str, &[&str])] = &[
     (
         "always",
@@ -119,7 +121,8 @@ const OTHER_WORDS: &[(&str, &str, &[&str])] = &[
     ("can", "CAN", &["COULD", "MAY", "POSSIBLE", "POSSIBLY"]),
 ];
 
-/// The word for the kind that a word in upper case is elsewhere, or that it is nearly spelled as.
+/// Returns the word for the kind that a word in upper case means elsewhere, or that it is almost spelled
+/// like.
 pub(crate) fn other_kind(word: &[u8]) -> Option<&'static str> {
     for (kind, _, others) in OTHER_WORDS {
         if others.iter().any(|other| word == other.as_bytes()) {
@@ -129,7 +132,7 @@ pub(crate) fn other_kind(word: &[u8]) -> Option<&'static str> {
     near_kind(word)
 }
 
-/// The word for a kind that a word in upper case is nearly spelled as.
+/// Returns the word for a kind that a word in upper case is almost spelled like.
 fn near_kind(word: &[u8]) -> Option<&'static str> {
     let most = most_edits(word);
     for (kind, upper, _) in OTHER_WORDS {

@@ -1,4 +1,4 @@
-//! Some of the tokens of a property.
+//! A range of the tokens of a property.
 
 ghost use Rattle.std.specs.Prelude.{◌≡◌, ◌≤◌, ◌<◌, ◌+◌, IfSome, drop, length, option_map, take};
 ghost use Rattle.chip_properties.specs.computed.Separated.{before_first, from_first, after_first, enclosed};
@@ -8,7 +8,7 @@ use crate::fault::{Failure, FaultCode, Found};
 use crate::separator::Separator;
 use chip_lang::{Lexeme, is_sign_of};
 
-/// Some of the tokens of a property, and how many stand before them.
+/// A range of the tokens of a property, and the number of tokens before it.
 #[derive(Clone, Copy)]
 pub(crate) struct Part<'a> {
     pub(crate) tokens: &'a [Lexeme],
@@ -16,14 +16,14 @@ pub(crate) struct Part<'a> {
 }
 
 impl<'a> Part<'a> {
-    /// All tokens of a property.
+    /// Returns all tokens of a property.
     pub(crate) fn all(tokens: &'a [Lexeme]) -> Self
         ensures { result.tokens.now ≡ tokens.now }
     {
         Part { tokens, before: 0 }
     }
 
-    /// The first ones, so many.
+    /// Returns the first `count` tokens.
     fn up_to(self, count: usize) -> Self
         requires { count ≤ length self.tokens.now }
         ensures { result.tokens.now ≡ take count self.entry.tokens.now }
@@ -34,7 +34,7 @@ impl<'a> Part<'a> {
         }
     }
 
-    /// Those after the first ones, so many.
+    /// Returns the tokens after the first `count` ones.
     pub(crate) fn after(self, count: usize) -> Self
         requires { count ≤ length self.tokens.now }
         ensures { result.tokens.now ≡ drop count self.entry.tokens.now }
@@ -45,7 +45,7 @@ impl<'a> Part<'a> {
         }
     }
 
-    /// Those before the first separator, and those from it on.
+    /// Returns the tokens before the first separator, and the tokens from it on.
     pub(crate) fn split_at(self, separator: Separator) -> (Self, Self)
         ensures front { result.0.tokens.now ≡ before_first separator self.entry.tokens.now }
         ensures back { result.1.tokens.now ≡ from_first separator self.entry.tokens.now }
@@ -54,7 +54,7 @@ impl<'a> Part<'a> {
         (self.up_to(count), self.after(count))
     }
 
-    /// Those before the first separator, and those after it if there is one.
+    /// Returns the tokens before the first separator, and the tokens after it if there is one.
     #[tactic(auto, using(crate::proofs::Pieces::tail_after))]
     pub(crate) fn split_around(self, separator: Separator) -> (Self, Option<Self>)
         ensures front { result.0.tokens.now ≡ before_first separator self.entry.tokens.now }
@@ -71,7 +71,7 @@ impl<'a> Part<'a> {
         }
     }
 
-    /// Those between two signs with which they begin and end.
+    /// Returns the tokens between two signs, if the part begins and ends with these.
     pub(crate) fn between(self, begin: u8, end: u8) -> Option<Self>
         ensures { option_map tokens_in result ≡ enclosed begin end self.entry.tokens.now }
     {
@@ -87,7 +87,7 @@ impl<'a> Part<'a> {
         }
     }
 
-    /// A fault at all of them.
+    /// Returns a fault at all tokens of the part.
     pub(crate) fn fault(self, code: FaultCode) -> Failure {
         Failure::Fault(Found {
             code,
@@ -96,7 +96,7 @@ impl<'a> Part<'a> {
         })
     }
 
-    /// A fault at the first of them.
+    /// Returns a fault at the first token of the part.
     pub(crate) fn fault_at_first(self, code: FaultCode) -> Failure {
         Failure::Fault(Found {
             code,

@@ -1,4 +1,4 @@
-//! Help with a property that goes on behind its place.
+//! Help with a property that continues after its place.
 
 use crate::fault::{Failure, FaultCode, Found};
 use crate::other_words::is_conditional;
@@ -9,8 +9,8 @@ use crate::words::kind_of_word;
 use chip_lang::{Lexeme, Token, is_sign_of, is_the, tokens};
 use std::alloc::{AllocError, Global};
 
-/// Help with a property of this text and these tokens that goes on behind its place: the property with
-/// the place at its end. Nothing where that can't be read either.
+/// Returns help with a property of this text and these tokens that continues after its place: the
+/// property with the place at its end. Returns `None` if that can't be read either.
 pub(crate) fn place_help(
     reader: &Reader<'_>,
     text: &[u8],
@@ -35,14 +35,14 @@ pub(crate) fn place_help(
     }
 }
 
-/// The tokens of a place: from the first one up to the end.
+/// The tokens of a place, from `first` up to the one before `end`.
 #[derive(Clone, Copy)]
 struct Place {
     first: usize,
     end: usize,
 }
 
-/// The first place among tokens, if others stand behind it.
+/// Returns the first place among tokens, if other tokens follow it.
 fn place_in(parts: &[Lexeme]) -> Option<Place> {
     let first = Separator::Place.count_before(parts);
     let (_, rest) = parts.split_at(first);
@@ -59,7 +59,7 @@ fn place_in(parts: &[Lexeme]) -> Option<Place> {
     (end < parts.len()).then_some(Place { first, end })
 }
 
-/// The text of a property with its place at the end.
+/// Returns the text of a property with its place moved to the end.
 fn with_place_last(
     alloc: Global,
     text: &[u8],
@@ -96,7 +96,7 @@ fn with_place_last(
     Ok(written)
 }
 
-/// Whether more than the word for a kind stands before a place.
+/// Whether more than the word for a kind comes before a place.
 fn has_condition(parts: &[Lexeme], first: usize) -> bool {
     match parts.first() {
         Some(Lexeme::Word(word)) if kind_of_word(word.get()).is_some() => first > 1,
@@ -104,7 +104,7 @@ fn has_condition(parts: &[Lexeme], first: usize) -> bool {
     }
 }
 
-/// The text of the tokens from a first one up to an end.
+/// Returns the text of the tokens from `first` up to the one before `end`.
 fn text_of<'t>(text: &'t [u8], tokens: &[Token], first: usize, end: usize) -> &'t [u8] {
     match (tokens.get(first), tokens.get(end.saturating_sub(1))) {
         (Some(begin), Some(last)) if first < end => text.get(begin.start..last.end).unwrap_or(&[]),

@@ -25,15 +25,16 @@ use chip_asm::{LineView, Source};
 use chip_explore::Property;
 use std::alloc::{AllocError, Global};
 
-/// What a source states, and what of it can't be read, each in the order of the lines.
+/// The properties that a source states, and the faults of those that can't be read, each in the order of
+/// the lines.
 #[derive(Drop)]
 pub struct Properties {
     pub stated: Vec<Stated>,
     pub faults: Vec<PropertyFault>,
 }
 
-/// The properties of a source: those of its active lines that begin with `;!`, of which at most
-/// `MOST_PROPERTIES` are read.
+/// Reads the properties of a source: its active lines that begin with `;!`. At most `MOST_PROPERTIES` of
+/// them are read.
 ///
 /// # Errors
 ///
@@ -52,7 +53,7 @@ pub fn properties_of(alloc: Global, source: &Source) -> Result<Properties, Alloc
 }
 
 impl Properties {
-    /// Whether one more line is read as a property.
+    /// Whether one more line may be read as a property.
     fn has_room(&self) -> bool
         ensures { result ≡ nat_lt (length self.now.stated.items + length self.now.faults.items)
             MOST_PROPERTIES }
@@ -60,7 +61,7 @@ impl Properties {
         self.stated.len().saturating_add(self.faults.len()) < MOST_PROPERTIES
     }
 
-    /// Adds what the line of a number states, if it states something.
+    /// Adds what the line with a number states, if it states something.
     fn read_line(&mut self, alloc: Global, source: &Source, number: usize) -> Result<(), AllocError>
         requires { length self.old.stated.items + length self.old.faults.items
             ≡ count_in source.now.lines (number - 1) }
@@ -87,8 +88,8 @@ impl Properties {
     }
 }
 
-/// What a line states, whose property begins at a place of its text. Where there is no room for one
-/// more property it isn't read.
+/// Returns what a line states. The text of its property begins at `start` in the line. If there is no
+/// room for one more property, returns a fault without reading it.
 fn property_on(
     alloc: Global,
     source: &Source,
@@ -116,7 +117,7 @@ fn property_on(
     Ok(Err(fault))
 }
 
-/// Where the property of an active line begins in its text.
+/// Returns the place in the text of an active line at which its property begins.
 fn property_start(line: &LineView<'_>) -> Option<usize>
     ensures value { result ≡ property_start line.now }
     ensures within { IfSome result (λ start. start ≤ length line.now.text) }
@@ -128,8 +129,8 @@ fn property_start(line: &LineView<'_>) -> Option<usize>
     }
 }
 
-/// What a text states of a source, by itself: a property without `;!` and without the word for its
-/// kind, in which `here` has no place.
+/// Returns what a text by itself states about a source. The text is a property without `;!` and without
+/// the word for its kind; `here` can't be used in it.
 ///
 /// # Errors
 ///
@@ -160,8 +161,8 @@ pub fn property_of_text(
 }
 
 impl<'a> Reader<'a> {
-    /// What a line of a number states, whose property begins at a place of its text. Where no kind
-    /// is given the property may begin with one.
+    /// Returns what the line with a number states. The text of its property begins at `start` in the
+    /// line. If no kind is given, the property may begin with one.
     fn read(
         &self,
         kind: Option<Kind>,

@@ -1,4 +1,4 @@
-//! The reading of a property.
+//! Reads properties.
 
 ghost use Rattle.std.specs.Prelude.{◌≡◌, ◌<◌, ◌≤◌, IfOk, IfSome, length};
 ghost use Rattle.chip_properties.specs.SeenProperty.{seen_sum, seen_comparison, seen_comparisons, seen_condition, seen_property, seen_stated};
@@ -19,8 +19,8 @@ use chip_lang::limits::MEMORY_BYTES;
 use chip_lang::{Fault, Lexeme, eval, is_sign_of, is_the, parse_expression};
 use std::alloc::Global;
 
-/// What properties are read by: the source whose names have values, and the address of the line on
-/// which a property stands, if it stands on one.
+/// The context in which a property is read: the source, whose names have values, and the address of the
+/// property's line, if it is on one.
 #[derive(Drop)]
 pub(crate) struct Reader<'a> {
     pub(crate) alloc: Global,
@@ -29,8 +29,8 @@ pub(crate) struct Reader<'a> {
 }
 
 impl<'a> Reader<'a> {
-    /// What a property of a kind states. Where none is given it may begin with one, and is
-    /// `Always` without.
+    /// Returns what a property of a kind states. If no kind is given, the property may begin with one,
+    /// and is `Always` otherwise.
     pub(crate) fn stated(
         &self,
         kind: Option<Kind>,
@@ -49,7 +49,7 @@ impl<'a> Reader<'a> {
         }
     }
 
-    /// What a property of a kind states, without the word for its kind.
+    /// Returns what a property of a kind states, without the word for its kind.
     fn property(&self, kind: Kind, part: Part<'_>) -> Result<Property, Failure>
         ensures { IsReadAs seen_property
             (property_in (symbols_read self.now) self.now.here kind part.entry.tokens.now) result }
@@ -67,7 +67,7 @@ impl<'a> Reader<'a> {
         })
     }
 
-    /// The condition before a place, or none.
+    /// Reads the condition before a place, which may be left out.
     fn given_condition(
         &self,
         kind: Kind,
@@ -92,7 +92,7 @@ impl<'a> Reader<'a> {
         }
     }
 
-    /// The place of a property.
+    /// Reads the place of a property.
     fn place(&self, part: Part<'_>) -> Result<Option<u16>, Failure>
         ensures { IsRead (place_in (symbols_read self.now) self.now.here part.entry.tokens.now)
             result }
@@ -116,7 +116,7 @@ impl<'a> Reader<'a> {
         }
     }
 
-    /// Comparisons between `and`, or between `or`.
+    /// Reads comparisons with `and` or with `or` between them.
     fn condition(&self, part: Part<'_>) -> Result<Condition, Failure>
         ensures { IsReadAs seen_condition
             (condition_in (symbols_read self.now) part.entry.tokens.now) result }
@@ -134,7 +134,7 @@ impl<'a> Reader<'a> {
         })
     }
 
-    /// Comparisons between separators.
+    /// Reads comparisons with a separator between them.
     fn comparisons(&self, joint: Separator, part: Part<'_>) -> Result<Vec<Comparison>, Failure>
         ensures { IsReadAs seen_comparisons
             (comparisons_in (symbols_read self.now) joint part.entry.tokens.now) result }
@@ -154,7 +154,7 @@ impl<'a> Reader<'a> {
         Ok(comparisons)
     }
 
-    /// Two sums with a relation between them.
+    /// Reads two sums with a relation between them.
     fn comparison(&self, part: Part<'_>) -> Result<Comparison, Failure>
         ensures { IsReadAs seen_comparison
             (comparison_in (symbols_read self.now) part.entry.tokens.now) result }
@@ -172,7 +172,7 @@ impl<'a> Reader<'a> {
         })
     }
 
-    /// Numbers and terms between plus signs.
+    /// Reads numbers and terms with plus signs between them.
     fn sum(&self, part: Part<'_>) -> Result<Sum, Failure>
         ensures { IsReadAs seen_sum (sum_in (symbols_read self.now) part.entry.tokens.now) result }
     {
@@ -191,7 +191,7 @@ impl<'a> Reader<'a> {
         Ok(sum)
     }
 
-    /// A sum with what some tokens are: a number, an item, or so many times an item.
+    /// Adds some tokens to a sum: a number, an item, or an item with a factor.
     fn added(&self, sum: Sum, part: Part<'_>) -> Result<Sum, Failure>
         ensures { IsReadAs seen_sum
             (added_in (symbols_read self.now) (seen_sum sum) part.entry.tokens.now) result }
@@ -214,7 +214,7 @@ impl<'a> Reader<'a> {
         }
     }
 
-    /// What a property may ask for.
+    /// Reads an item that a property may ask for.
     fn item(&self, part: Part<'_>) -> Result<Item, Failure>
         ensures { IsRead (item_in (symbols_read self.now) part.entry.tokens.now) result }
     {
@@ -234,7 +234,7 @@ impl<'a> Reader<'a> {
         }
     }
 
-    /// A column and a row in parentheses.
+    /// Reads a column and a row in parentheses.
     fn pixel(&self, part: Part<'_>) -> Result<Item, Failure>
         ensures { IsRead (pixel_in (symbols_read self.now) part.entry.tokens.now) result }
     {
@@ -252,7 +252,7 @@ impl<'a> Reader<'a> {
         })
     }
 
-    /// The value of a number, a name, or an expression in parentheses.
+    /// Returns the value of a number, a name, or an expression in parentheses.
     fn value(&self, part: Part<'_>) -> Result<u32, Failure>
         ensures { IsRead (value_in (symbols_read self.now) part.entry.tokens.now) result }
     {
@@ -268,7 +268,7 @@ impl<'a> Reader<'a> {
         }
     }
 
-    /// The value of an expression, which is below a limit.
+    /// Returns the value of an expression, which must be below a limit.
     fn number_below(&self, part: Part<'_>, limit: u32) -> Result<u32, Failure>
         ensures ok { IsRead
             (number_below_in limit (symbols_read self.now) part.entry.tokens.now) result }
@@ -282,7 +282,7 @@ impl<'a> Reader<'a> {
         }
     }
 
-    /// The value of an expression, which isn't below 0.
+    /// Returns the value of an expression, which must not be below 0.
     fn number(&self, part: Part<'_>) -> Result<u32, Failure>
         ensures { IsRead (number_in (symbols_read self.now) part.entry.tokens.now) result }
     {
@@ -300,7 +300,7 @@ impl<'a> Reader<'a> {
     }
 }
 
-/// Whether tokens begin as what a property may ask for.
+/// Whether tokens begin like something that a property may ask for.
 fn is_item(tokens: &[Lexeme]) -> bool
     ensures { result ≡ is_item tokens.now }
 {
@@ -311,7 +311,7 @@ fn is_item(tokens: &[Lexeme]) -> bool
     }
 }
 
-/// The kind with which tokens begin.
+/// Returns the kind with which tokens begin, if any.
 fn kind_in_front(tokens: &[Lexeme]) -> Option<Kind>
     ensures value { result ≡ kind_in_front tokens.now }
     ensures some { IfSome result (λ _. 1 ≤ length tokens.now) }

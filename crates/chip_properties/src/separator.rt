@@ -1,4 +1,4 @@
-//! What stands between the parts of a property.
+//! Separators between the parts of a property.
 
 ghost use Rattle.std.specs.Prelude.{◌≡◌, ◌≤◌, ◌<◌, ◌+◌, ◌^◌, length};
 ghost use Rattle.chip_properties.specs.Nesting.{is_deep, level_after};
@@ -7,7 +7,7 @@ ghost use Rattle.chip_properties.specs.computed.Separated.{count_before, separat
 use chip_lang::limits::OPEN_PARENTHESES;
 use chip_lang::{Lexeme, is_sign_of, is_the};
 
-/// What separates parts of a property, outside of parentheses and brackets.
+/// A separator between parts of a property, outside of parentheses and brackets.
 #[derive(Clone, Copy)]
 pub(crate) enum Separator {
     /// `here` or `at`, which begins the place.
@@ -27,7 +27,7 @@ pub(crate) enum Separator {
 }
 
 impl Separator {
-    /// Whether a token is one.
+    /// Whether a token is this separator.
     fn is(self, token: &Lexeme) -> bool
         ensures { result ≡ separates self token.now }
     {
@@ -44,7 +44,7 @@ impl Separator {
         }
     }
 
-    /// How many tokens stand before the first one; all where there is none.
+    /// Returns the number of tokens before the first separator, or of all tokens if there is none.
     pub(crate) fn count_before(self, tokens: &[Lexeme]) -> usize
         ensures value { result ≡ count_before self 0 tokens.now }
         ensures within { result ≤ length tokens.now }
@@ -60,7 +60,7 @@ impl Separator {
     }
 }
 
-/// How many parentheses and brackets are open after a token, where so many are before it.
+/// Returns the number of open parentheses and brackets after a token, given the number before it.
 fn level_after(depth: usize, token: &Lexeme) -> usize
     requires { depth + 1 < 2 ^ 64 }
     ensures value { result ≡ level_after depth token.now }
@@ -75,7 +75,7 @@ fn level_after(depth: usize, token: &Lexeme) -> usize
     }
 }
 
-/// Whether over `OPEN_PARENTHESES` parentheses and brackets are open at once.
+/// Whether more than `OPEN_PARENTHESES` parentheses and brackets are open at once.
 pub(crate) fn is_deep(tokens: &[Lexeme]) -> bool
     ensures { result ≡ is_deep 0 tokens.now }
 {

@@ -1,27 +1,27 @@
-//! What a property states.
+//! The statement of a property.
 
 use chip_explore::Property;
 
-/// How a property is stated.
+/// The kind of a property.
 #[derive(Clone, Copy, PartialEq, Eq)]
 pub enum Kind {
-    /// Its condition holds at each step at its place.
+    /// The condition of the property holds at each step at its place.
     Always,
-    /// Its condition holds at no step at its place.
+    /// The condition of the property holds at no step at its place.
     Never,
-    /// Under some key script its condition holds at a step at its place.
+    /// Under some key script, the condition of the property holds at a step at its place.
     Ever,
-    /// Under each key script, from each step on, the keys can be pressed so that its condition holds then or
-    /// later at a step at its place, or where the machine has stopped there.
+    /// Under each key script, from each step on, the keys can be pressed so that the condition holds then
+    /// or later at a step at its place, or where the machine has stopped there.
     Can,
 }
 
 /// A property that is stated.
 #[derive(Drop)]
 pub struct Stated {
-    /// The number of its line, from 1; 0 for a text of its own.
+    /// The number of the line, counted from 1, or 0 for a text of its own.
     pub line: usize,
     pub kind: Kind,
-    /// What is looked for: for `Always` what breaks it.
+    /// The property that a search looks for. For `Always`, it is met where the condition fails.
     pub property: Property,
 }

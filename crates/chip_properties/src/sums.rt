@@ -11,7 +11,7 @@ use crate::part::Part;
 use chip_explore::{Item, Sum, Term};
 use std::alloc::Global;
 
-/// The sum of nothing.
+/// Returns the empty sum.
 pub(crate) fn no_sum(alloc: Global) -> Sum
     ensures { seen_sum result ≡ no_sum }
 {
@@ -21,7 +21,7 @@ pub(crate) fn no_sum(alloc: Global) -> Sum
     }
 }
 
-/// A sum with the number that some tokens are, where its numbers together have at most 32 bits.
+/// Adds the number that some tokens are to a sum, if its numbers together have at most 32 bits.
 pub(crate) fn with_number(sum: Sum, part: Part<'_>, number: u32) -> Result<Sum, Failure>
     ensures { IsReadAs seen_sum (with_addend (seen_sum sum) (a_number number)) result }
 {
@@ -32,7 +32,7 @@ pub(crate) fn with_number(sum: Sum, part: Part<'_>, number: u32) -> Result<Sum, 
     }
 }
 
-/// A sum with so many times an item.
+/// Adds an item with a factor to a sum.
 pub(crate) fn with_term(sum: Sum, factor: u32, item: Item) -> Result<Sum, Failure>
     ensures { IsReadAs seen_sum (with_addend (seen_sum sum) (times factor item)) result }
 {

@@ -6,7 +6,7 @@ ghost use Rattle.chip_properties.specs.Tokens.{property_tokens, respelled};
 use chip_lang::{Lexeme, lexemes};
 use std::alloc::{AllocError, Global};
 
-/// The tokens of a property's text, in which `!=` is `<>`.
+/// Returns the tokens of a property's text, in which `!=` is `<>`.
 pub(crate) fn property_tokens(alloc: Global, text: &[u8]) -> Result<Vec<Lexeme>, AllocError>
     ensures { IfOk result (λ tokens. tokens.items ≡ property_tokens text.now) }
 {
@@ -14,7 +14,7 @@ pub(crate) fn property_tokens(alloc: Global, text: &[u8]) -> Result<Vec<Lexeme>,
     lexemes(alloc, &text)
 }
 
-/// A text with `<>` in the place of each `!=`, so that each byte keeps its place.
+/// Returns a text with `<>` in place of each `!=`, so that each byte keeps its place.
 pub(crate) fn respelled(alloc: Global, text: &[u8]) -> Result<Vec<u8>, AllocError>
     ensures { IfOk result (λ bytes. bytes.items ≡ respelled text.now) }
 {

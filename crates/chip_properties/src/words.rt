@@ -1,4 +1,4 @@
-//! Words that mean something in a property.
+//! Words that have a meaning in a property.
 
 ghost use Rattle.std.specs.Prelude.{◌≡◌};
 ghost use Rattle.chip_properties.specs.Words.{is_property_word, item_of_word, kind_of_word};
@@ -7,7 +7,7 @@ use crate::stated::Kind;
 use chip_explore::Item;
 use chip_lang::register_of;
 
-/// Whether a word in upper case means something in a property. A name that is spelled so stands in
+/// Whether a word in upper case has a meaning in a property. A name with this spelling must be put in
 /// parentheses there.
 pub(crate) fn is_property_word(word: &[u8]) -> bool
     ensures { result ≡ is_property_word word.now }
@@ -21,7 +21,7 @@ pub(crate) fn is_property_word(word: &[u8]) -> bool
         || word == b"PIXEL".as_slice()
 }
 
-/// The kind of property that a word in upper case begins.
+/// Returns the kind of property that a word in upper case begins.
 pub(crate) fn kind_of_word(word: &[u8]) -> Option<Kind>
     ensures { result ≡ kind_of_word word.now }
 {
@@ -38,7 +38,7 @@ pub(crate) fn kind_of_word(word: &[u8]) -> Option<Kind>
     }
 }
 
-/// The item that a word in upper case is.
+/// Returns the item that a word in upper case means.
 pub(crate) fn item_of_word(word: &[u8]) -> Option<Item>
     ensures { result ≡ item_of_word word.now }
 {

@@ -1,5 +1,5 @@
--- The property that tokens are, found piece by piece (own). A law says that it is that of Language,
--- and that there is no other.
+-- The property that tokens state, found piece by piece (chosen by this project). A law says that it is
+-- the one of Language, and that there is no other.
 use Rattle.std.specs.Prelude.{ℕ, ◌+◌, ◌==◌, ◌||◌, Bool, true, false, not, if◌then◌else◌, nat_lt, pos, negsuc, ℤ, List, [], ◌∷◌, ◌++◌, length, Option, Some, None, Result, Ok, Err, is_some, option_map, option_and_then, codes, drop}
 use Rattle.chip_lang.specs.declared.fault.Fault.{Fault}
 use Rattle.chip_lang.specs.declared.limits.TheConstants.{MEMORY_BYTES}
@@ -54,7 +54,7 @@ value_in symbols (Sign c ∷ []) = number_in symbols (Sign c ∷ [])
 value_in symbols (Bad f ∷ []) = number_in symbols (Bad f ∷ [])
 value_in symbols ts = enclosed_number symbols (enclosed 40 41 ts)
 
--- the pixel of a column and a row
+-- the pixel at a column and a row
 abbrev pub point_in : Symbols → List Lexeme → Option (List Lexeme) → Option Item
 point_in symbols column None = None
 point_in symbols column (Some row) =
@@ -71,7 +71,7 @@ byte_in symbols ts =
     option_and_then (λ inside. option_map Byte (number_below_in MEMORY_BYTES symbols inside))
     (enclosed 91 93 ts)
 
--- what a property may ask for
+-- an item that a property may ask for
 abbrev pub item_in : Symbols → List Lexeme → Option Item
 item_in symbols [] = byte_in symbols []
 item_in symbols (Word w ∷ []) = item_of_word w
@@ -79,7 +79,7 @@ item_in symbols (t ∷ []) = byte_in symbols (t ∷ [])
 item_in symbols (t ∷ u ∷ ts) =
     if is_the (codes "PIXEL") t then pixel_in symbols (u ∷ ts) else byte_in symbols (t ∷ u ∷ ts)
 
--- tokens begin as what a property may ask for
+-- whether tokens begin like something that a property may ask for
 abbrev pub is_item : List Lexeme → Bool
 is_item [] = false
 is_item (Word w ∷ []) = is_some (item_of_word w)
@@ -102,17 +102,17 @@ times_in symbols front (Some back) =
 abbrev pub addend_in : Symbols → List Lexeme → Option Addend
 addend_in symbols ts = times_in symbols (before_first Times ts) (after_first Times ts)
 
--- a sum with one more addend, where its number has at most 32 bits
+-- a sum with one more addend, if its number has at most 32 bits
 abbrev pub with_addend : SeenSum → Addend → Option SeenSum
 with_addend s (a_number n) =
     if nat_lt (s.constant + n) 4294967296 then Some (record s { constant = s.constant + n }) else None
 with_addend s (times n i) = Some (record s { terms = s.terms ++ record { factor = n; item = i } ∷ [] })
 
--- a sum with what a piece is
+-- a sum with the addend that a piece is
 abbrev pub added_in : Symbols → SeenSum → List Lexeme → Option SeenSum
 added_in symbols s ts = option_and_then (with_addend s) (addend_in symbols ts)
 
--- the sum of so many addends, and of those that pieces are
+-- a sum of `count` addends, with the addends that some pieces are
 abbrev pub summed : Symbols → ℕ → SeenSum → List (List Lexeme) → Option SeenSum
 summed symbols count s [] = Some s
 summed symbols count s (p ∷ ps) =
@@ -152,7 +152,7 @@ abbrev pub comparison_in : Symbols → List Lexeme → Option SeenComparison
 comparison_in symbols ts =
     option_and_then (compared symbols (before_first relation ts)) (relation_in (from_first relation ts))
 
--- the comparisons that were found, and those that pieces are
+-- the comparisons found before, and those that some pieces are
 abbrev pub found_with : Symbols → List SeenComparison → List (List Lexeme) → Option (List SeenComparison)
 found_with symbols found [] = Some found
 found_with symbols found (p ∷ ps) =
@@ -162,7 +162,7 @@ found_with symbols found (p ∷ ps) =
 abbrev pub comparisons_in : Symbols → Separator → List Lexeme → Option (List SeenComparison)
 comparisons_in symbols separator ts = found_with symbols [] (pieces separator 0 ts)
 
--- no `or` stands between the comparisons
+-- whether there is no `or` between the comparisons
 abbrev pub has_no_or : List Lexeme → Bool
 has_no_or ts = count_before Or 0 ts == length ts
 
@@ -197,13 +197,13 @@ abbrev pub is_always : Kind → Bool
 is_always Always = true
 is_always k = false
 
--- the condition before a place; one that always holds where none stands there
+-- the condition before a place, or one that always holds if it is left out
 abbrev pub given_in : Symbols → Kind → (front back : List Lexeme) → Option SeenCondition
 given_in symbols kind [] [] = None
 given_in symbols kind [] (t ∷ ts) = if is_always kind then None else Some no_condition
 given_in symbols kind (t ∷ ts) back = condition_in symbols (t ∷ ts)
 
--- what tokens state without the word for their kind
+-- the property that tokens state, without the word for their kind
 abbrev pub property_in : Symbols → Option ℕ → Kind → List Lexeme → Option SeenProperty
 property_in symbols here kind ts =
     if is_deep 0 ts then None
@@ -225,7 +225,7 @@ abbrev pub begun_by : Symbols → Option ℕ → Option Kind → List Lexeme →
 begun_by symbols here None ts = of_kind symbols here Always ts
 begun_by symbols here (Some kind) ts = of_kind symbols here kind (drop 1 ts)
 
--- what tokens state: of a kind that is given, or else of the one with which they begin
+-- the kind and the property that tokens state, for a given kind or else the one with which they begin
 abbrev pub stated_in : Symbols → Option ℕ → Option Kind → List Lexeme → Option (Kind × SeenProperty)
 stated_in symbols here None ts = begun_by symbols here (kind_in_front ts) ts
 stated_in symbols here (Some kind) ts = of_kind symbols here kind ts

@@ -1,4 +1,4 @@
--- The tokens of a part (own).
+-- The tokens of a part (chosen by this project).
 use Rattle.std.specs.Prelude.{List}
 use Rattle.chip_lang.specs.declared.lexeme.Lexeme.{Lexeme}
 use Rattle.chip_properties.specs.declared.part.Part.{Part}

@@ -1,4 +1,4 @@
--- What is read of tokens (own).
+-- The result of reading tokens (chosen by this project).
 use Rattle.std.specs.Prelude.{◌≡◌, ◌⊎◌, Option, Some, None, Result, Ok, Err}
 use Rattle.chip_lang.specs.Value.{Symbols}
 use Rattle.chip_symbols.specs.Names.{values_of}
@@ -11,8 +11,8 @@ use Rattle.chip_properties.specs.declared.reader.Reader.{Reader}
 abbrev pub symbols_read : Reader → Symbols
 symbols_read reader = values_of (symbols_of reader.source.now.lines)
 
--- what was read is what was expected, as it is seen without where it lies; where something is wrong
--- with the tokens, nothing was
+-- the result is the expected one, apart from where it lies in memory; an error means that memory ran out,
+-- or that nothing was expected
 abbrev pub IsReadAs : {A B : Type 0} → (A → B) → Option B → Result A Failure → Type 0
 IsReadAs seen expected (Ok x) = expected ≡ Some (seen x)
 IsReadAs seen expected (Err e) = (e ≡ OutOfMemory) ⊎ (expected ≡ None)

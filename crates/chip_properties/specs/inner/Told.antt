@@ -1,4 +1,4 @@
--- What reading one line adds to the properties (own).
+-- The effect of reading one line on the properties (chosen by this project).
 use Rattle.std.specs.Prelude.{◌≡◌, ℕ, List, [], ◌∷◌, ◌++◌, Result, Ok, Err}
 use Rattle.chip_asm.specs.LineViews.{LineFacts}
 use Rattle.chip_properties.specs.declared.fault.PropertyFault.{PropertyFault}
@@ -6,12 +6,12 @@ use Rattle.chip_properties.specs.declared.properties.Properties.{Properties}
 use Rattle.chip_properties.specs.declared.stated.Stated.{Stated}
 use Rattle.chip_properties.specs.Lines.{IsStatedOn, StandsOn, States}
 
--- what the line of a number states, or its fault
+-- a result is what the line with a number states, or its fault
 abbrev pub IsAnswer : List (List ℕ) → ℕ → Result Stated PropertyFault → Type 0
 IsAnswer lines number (Ok s) = (s.line ≡ number) × IsStatedOn lines s
 IsAnswer lines number (Err fault) = (fault.line ≡ number) × StandsOn lines fault
 
--- what the line of a number adds: nothing where it states nothing, and else what it states or a fault
+-- the effect of the line with a number: nothing if it states nothing, otherwise one more property or fault
 pub data IsRead : List (List ℕ) → ℕ → (old new : Properties) → Type 0 where
   nothing : {lines : List (List ℕ)} {number : ℕ} {old new : Properties}
       → ((start : ℕ) (f : LineFacts) → States lines number start f → ⊥)
