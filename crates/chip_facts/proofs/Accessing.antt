@@ -1,4 +1,4 @@
--- Bytes that are loaded and stored: what is known of the registers and of the memory after it.
+-- Bytes that are loaded and stored, and what is known about the registers and the memory afterwards.
 use Rattle.std.proofs.Common.{◌≡◌, ℕ, ◌+◌, ◌-◌, ◌*◌, ◌<◌, ◌≤◌, ◌⊎◌, inl, inr, Bool, true, false, List, [], ◌++◌, length, take, drop, get_or, Any, Some, Result, Ok, refl, sym, ap, ◌∙◌, arith, subst, if◌then◌else◌, length-append, length-drop}
 use Rattle.std.proofs.lemmas.Bool.{cases_lt, cases_Bool, ltb-true, ltb-false}
 use Rattle.std.proofs.lemmas.List.{places, get_or_append_left, get_or-append_right, get_or-drop}
@@ -19,7 +19,7 @@ use Rattle.chip_facts.specs.declared.known.Known.{Known}
 use Rattle.chip_facts.specs.declared.outcome.Outcome.{Outcome}
 use Rattle.chip_facts.specs.declared.outcome.Stored.{Stored}
 
--- what is done if a test holds, and what if it doesn't
+-- one result if a test holds, and another one if it fails
 pub meets_if : (frames : List ℕ) (out : Outcome) (s : State) (test : Bool) (x y : Result State Stop)
     → (test ≡ true → Meets frames out s x) → (test ≡ false → Meets frames out s y) → Meets frames out s (if test then x else y)
 meets_if frames out s true x y h k = h refl
@@ -94,7 +94,7 @@ module _ (memory new : List ℕ) (k : Known) (s : State) (x i : ℕ) (bytes : Li
     size = known.size;
   }
 
--- I after registers were moved is a number of 16 bits
+-- I is a number of 16 bits after registers were moved
 pub index_past_small : (move : IndexMove) (x i : ℕ) → i < 65536 → index_past move x i < 65536
 index_past_small moves.Stays x i small = small
 index_past_small moves.AtLast x i small = omega arith

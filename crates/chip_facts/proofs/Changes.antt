@@ -1,4 +1,4 @@
--- Changes that go on to the next instruction, by the quirks and the flags that they ask.
+-- Changes that go on to the next instruction, by the quirks and flags that they depend on.
 use Rattle.std.proofs.Common.{◌≡◌, ℕ, ◌+◌, ◌%◌, ◌<◌, Bool, true, false, not, refl, sym, arith, subst, zero, suc, Option, Some, IfSome, if◌then◌else◌, nat_lt, find, cond, List, ap}
 use Rattle.std.specs.FinSet as set
 use Rattle.std.specs.List.{range_with_len}
@@ -10,7 +10,7 @@ use Rattle.chip_facts.specs.inner.Knowing.{IsKnown}
 use Rattle.chip_facts.specs.inner.Transfer.{IsOn}
 use Rattle.chip_facts.specs.declared.known.Known.{Known}
 
--- what a step to the next instruction leaves as it is, and the address
+-- the parts that a step to the next instruction leaves unchanged, and the new address
 pub record Rest : Type 0 where
   pub pc : ℕ
   pub frames : List ℕ
@@ -30,13 +30,13 @@ on_next k c new same known = record {
   then_known = known;
 }
 
--- VF is put to 0, or stays
+-- VF becomes 0, or stays
 pub on_plain : (k : Known) (c : Core) (x v : ℕ) (clears : Bool) → IsKnown k (if clears then with_flag x v 0 c else with_reg x v c)
     → IsOn k c (next (if clears then with_flag x v 0 c else with_reg x v c))
 on_plain k c x v true known = on_next _ _ _ refl known
 on_plain k c x v false known = on_next _ _ _ refl known
 
--- I moves on, and VF says whether it is large, or stays
+-- I moves on, and VF tells whether it is large, or stays
 moved : Core → ℕ → Bool → Core
 moved c n flags = if flags then with_reg 15 (bit_of (nat_lt 4095 (c.index + n))) (with_index ((c.index + n) % 65536) c) else with_index ((c.index + n) % 65536) c
 
@@ -57,7 +57,7 @@ pub bit_under_two : (test : Bool) → bit_of test < 2
 bit_under_two true = omega arith
 bit_under_two false = omega arith
 
--- the size is set, and the screen is dark or stays
+-- the size is set, and the screen is cleared or stays
 with_new_size : Known → Bool → Known
 with_new_size k high = record k { may_be_low = not high; may_be_high = high }
 
@@ -84,7 +84,7 @@ pub on_resized : (k : Known) (c : Core) (high : Bool) → IsKnown k c
     → IsOn (record k { may_be_low = not high; may_be_high = high }) c (next (resized high c))
 on_resized k c high known = on_sized k c high c.quirks.clears_at_size known
 
--- a key that is down is one of sixteen
+-- the key that is down is one of sixteen
 either_found : (b : Bool) (a bound : ℕ) (rest : Option ℕ) → a < bound → IfSome rest (λ k. k < bound) → IfSome (cond b (Some a) rest) (λ k. k < bound)
 either_found true a bound rest here there = here
 either_found false a bound rest here there = there

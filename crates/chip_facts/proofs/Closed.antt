@@ -1,4 +1,4 @@
--- Why a table that is closed has each state that is reached.
+-- Why a closed table contains each reached state.
 use Rattle.std.proofs.Common.{◌≡◌, ℕ, ◌+◌, ◌*◌, ◌<◌, ◌≤◌, inl, inr, Bool, true, false, List, length, All, Any, Contains, replicate, is_some, refl, ◌-◌, arith, if◌then◌else◌, Option, Some, None, IfSome, Result, Ok, Err, get_or, sym, ap, ◌∙◌, subst}
 use Rattle.std.proofs.lemmas.Bool.{cases_lt}
 use Rattle.std.proofs.lemmas.List.{get_or_append_left, get_or-append_right, get_or-replicate, get_or_past}
@@ -21,7 +21,7 @@ use Rattle.chip_facts.specs.declared.table.Row.{Row}
 use Rattle.chip_facts.specs.declared.table.Table.{Table}
 use Rattle.chip_facts.specs.declared.transfer.Before.{Before}
 
--- a byte is small and one of those of its address
+-- a number is a byte, and one of those that the table has for its address
 abbrev IsByte : List ℕ → ℕ → ℕ → Type 0
 IsByte memory at byte = (byte < 256) × (at < 4104 → Holds memory (256 * at + byte))
 
@@ -156,7 +156,7 @@ module _ (table : Table) (image : List ℕ) (quirks : Quirks) (begins : Starts t
   all_held _ (starts tape bytes) = held_start tape bytes
   all_held _ (steps s reached keys tick) = held_step s keys tick (all_held s reached)
 
--- what is said of a state that is held
+-- the facts about a state that is held
 pub one_of : (table : Table) (quirks : Quirks) (executed : List Bool) → ((pc : ℕ) → Any (λ row. pc ≡ row.pc) table.rows.items → is_among executed pc ≡ true)
     → (s : State) → IsHeld table quirks s → IsOneOf table.left.items executed s
 one_of table quirks executed among s (lies (k, row, within, is, in-row) around) = record {

@@ -1,4 +1,4 @@
--- What follows a step, from what is known before it.
+-- What follows a step, given what is known before it.
 use Rattle.std.proofs.Common.{◌≡◌, ℕ, ◌+◌, ◌/◌, ◌%◌, ◌==◌, ◌<◌, ◌⊎◌, inl, inr, nat_lt, nat_le, Bool, true, false, not, if◌then◌else◌, ◌++◌, Any, MatchOption, Option, Some, None, option_to_list, refl, sym, ap, ◌∙◌, arith, subst}
 use Rattle.std.proofs.lemmas.Bool.{cases_eq}
 use Rattle.chip_machine.specs.State.{Core, State}
@@ -14,7 +14,7 @@ use Rattle.chip_facts.specs.declared.outcome.Successor.{Successor}
 use Rattle.chip_facts.specs.declared.outcome.Way.TheVariants as way
 use Rattle.chip_facts.specs.declared.transfer.Before.{Before}
 
--- a core further on, with the same call stack
+-- a core at a later instruction, with the same call stack
 pub is_past : (before : Before) (s : State) (by : ℕ) (n : Successor) (k : Known) (c : Core) → IsAt before s
     → n.pc ≡ before.pc + by → n.known ≡ k → n.way ≡ way.Same
     → c.pc ≡ s.core.pc + by → c.frames ≡ s.core.frames → IsKnown k c → IsNext before.frames.now c n
@@ -24,7 +24,7 @@ is_past before s by n k c at pc known same pc-c frames-c is = record {
   known = subst (λ k. IsKnown k c) (sym known) is;
 }
 
--- one of two that may be there
+-- one of two successors that may exist
 pub any_first : (P : Successor → Type 0) (one two : Option Successor) → MatchOption one ⊥ P → Any P (option_to_list one ++ option_to_list two)
 any_first P None two h = absurd h
 any_first P (Some n) two h = (0, n, omega arith, refl, h)
@@ -55,7 +55,7 @@ flag_small op.ShiftRight a b small = under_two (b % 2) (omega arith)
 flag_small op.ShiftLeft a b small = under_two (b / 128) (omega arith)
 flag_small op.Compare a b small = bit_small (a == b)
 
--- of the two ways of an operation with a flag, one is gone
+-- one of the two results of an operation with a flag is impossible
 pub either_way : (before : Before) (c : Core) (operation : Operation) (a b : ℕ) (one two : Option Successor) → b < 256
     → (flag_of operation a b ≡ 0 → MatchOption one ⊥ (IsNext before.frames.now c))
     → (flag_of operation a b ≡ 1 → MatchOption two ⊥ (IsNext before.frames.now c))
@@ -66,7 +66,7 @@ either_way before c operation a b one two small first second =
       | inr is ↦ any_second _ one two (second is)
     ]
 
--- a skip where two bytes are the same or aren't, by what comparing them gives
+-- a skip if two bytes are the same or if they aren't, given the result of comparing them
 pub where_other : (test if_same : Bool) → bit_of test ≡ 0 → (if if_same then test else not test) ≡ not if_same
 where_other true same h = absurd (let no : 1 ≡ 0 = h in omega arith)
 where_other false true h = refl

@@ -1,4 +1,4 @@
--- What is known of a core after one of its parts has changed.
+-- What is known about a core after one of its parts has changed.
 use Rattle.std.proofs.Common.{◌≡◌, ◌≢◌, ℕ, ◌+◌, ◌*◌, ◌<◌, true, Bool, List, length, length-set, set, sym, ap, ◌∙◌, inl, inr, arith, subst, get_or-set_same, get_or-set_other}
 use Rattle.std.proofs.lemmas.Bool.{cases_eq}
 use Rattle.std.proofs.lemmas.List.{set-get_or}
@@ -57,11 +57,11 @@ module _ (k : Known) (c : Core) (x : ℕ) (values : List ℕ) (b : ℕ) (known :
         size = known.size;
       }
 
--- a register that gets the value that it has
+-- a register is set to the value that it already has
 pub same_register : (k : Known) (c : Core) (x : ℕ) → IsKnown k (with_reg x (reg c x) c) → IsKnown k c
 same_register k c x known = subst (λ rs. IsKnown k (record c { registers = rs })) (set-get_or c.registers x 0) known
 
--- what was made of the pairs of the bytes that two registers may have, has what is made of those that they have
+-- the results computed from the bytes that two registers may have include the result of the bytes that they have
 pub made_of_two : (k : Known) (c : Core) (x y : ℕ) (m : Pairs) (operation : Operation) (flag : ℕ) (firsts seconds : List ℕ) (same : Bool)
     → ((a b : ℕ) → a < 256 → b < 256 → Holds firsts a → Holds seconds b → (same ≡ true → a ≡ b) → flag_of operation a b ≡ flag → IsMade m (value_of operation a b) b)
     → IsKnown k c → x < 16 → y < 16

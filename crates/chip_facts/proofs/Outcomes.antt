@@ -1,4 +1,4 @@
--- What an outcome says, by where it leads.
+-- What an outcome says, given where it leads.
 use Rattle.std.proofs.Common.{◌≡◌, ℕ, ◌+◌, Bool, true, false, if◌then◌else◌, List, [], ◌∷◌, ◌++◌, length, Any, None, Result, Ok, Err, IfOk, refl, sym, ap, ◌∙◌, arith, subst, length-append}
 use Rattle.std.proofs.lemmas.List.{get_or_append_left}
 use Rattle.chip_machine.specs.State.{Core, State}
@@ -34,7 +34,7 @@ pub meets_one : (frames : List ℕ) (out : Outcome) (s : State) (new : Core) (n 
     → IsNext frames new n → Meets frames out s (Ok (record s { core = new }))
 meets_one frames out s new n is none calm next = meets_some frames out s new none calm (any_one _ out.next.items n is next)
 
--- likewise where it leads to one of two
+-- a change of the core that leads to one of two successors
 pub meets_first : (frames : List ℕ) (out : Outcome) (s : State) (new : Core) (one two : Successor) → out.next.items ≡ one ∷ two ∷ [] → out.stored ≡ None → IsCalm s.core new
     → IsNext frames new one → Meets frames out s (Ok (record s { core = new }))
 meets_first frames out s new one two is none calm next =
@@ -56,7 +56,7 @@ meets_on before out n k is none pc known same s new at on =
 pub calm_same : (c : Core) → IsCalm c c
 calm_same c = record { same_flags = refl; tape_is = refl; quirks_are = refl; stop_is = refl }
 
--- of a value that has two facts
+-- a value of which two facts hold
 pub ok_two : {T E : Type 0} (r : Result T E) (P Q R : T → Type 0) → IfOk r P → IfOk r Q → ((x : T) → P x → Q x → R x) → IfOk r R
 ok_two (Ok x) P Q R p q f = f x p q
 ok_two (Err e) P Q R p q f = tt
@@ -65,14 +65,14 @@ pub ok_three : {T E : Type 0} (r : Result T E) (P Q R S : T → Type 0) → IfOk
 ok_three (Ok x) P Q R S p q r f = f x p q r
 ok_three (Err e) P Q R S p q r f = tt
 
--- one effect if a test holds, and another one if it doesn't
+-- one effect if a test holds, and another one if it fails
 pub meets_either : (frames : List ℕ) (out : Outcome) (s : State) (keys : ℕ) (test : Bool) (x y : Effect)
     → (test ≡ true → Meets frames out s (perform keys s x)) → (test ≡ false → Meets frames out s (perform keys s y))
     → Meets frames out s (perform keys s (if test then x else y))
 meets_either frames out s keys true x y h k = h refl
 meets_either frames out s keys false x y h k = k refl
 
--- what one of some is, one of more is
+-- a property of one of some successors is also one of one of more successors
 pub any_more : (P : Successor → Type 0) (items : List Successor) (n : Successor) → Any P items → Any P (items ++ n ∷ [])
 any_more P items n (k, m, within, is, h) =
     (k, m, omega (arith, within, length-append items (n ∷ [])), get_or_append_left items (n ∷ []) m k within ∙ is, h)

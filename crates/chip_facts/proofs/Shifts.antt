@@ -1,4 +1,4 @@
--- Sets of bytes that are moved up or down: where the bits of their words come to stand.
+-- Sets of bytes that are moved up or down, and the new places of the bits of their words.
 use Rattle.std.proofs.Common.{◌≡◌, ℕ, ◌+◌, ◌-◌, ◌*◌, ◌/◌, ◌%◌, ◌^◌, ◌<◌, ◌≤◌, ◌∷◌, [], List, bit_or, get_or, nat_le, nat_lt, ap, ◌∙◌, inl, inr, arith, eq-eqb}
 use Rattle.std.specs.Int.{bit_at}
 use Rattle.std.proofs.lemmas.Bool.Decides.{nat_tests}
@@ -14,7 +14,7 @@ or_left x y i one = omega (arith, bit_at_or x y i, bit_at-lt y i, one)
 pub or_right : (x y i : ℕ) → bit_at y i ≡ 1 → bit_at (bit_or x y) i ≡ 1
 or_right x y i one = omega (arith, bit_at_or x y i, bit_at-lt x i, one)
 
--- a sum stands in the word that is moved up within itself, or in the word above
+-- a sum is in the word that is moved up within itself, or in the word above it
 pub raised_within : (set : List ℕ) (a by : ℕ) → Holds set a → a % 64 + by % 64 < 64 → bit_at (get_or set (a / 64) 0 * 2 ^ (by % 64) % 2 ^ 64) ((a + by) % 64) ≡ 1
 raised_within set a by h inside =
     let is : (a + by) % 64 ≡ a % 64 + by % 64 = omega (arith, inside) in
@@ -25,7 +25,7 @@ raised_over set a by h over =
     let is : 64 - by % 64 + (a + by) % 64 ≡ a % 64 = omega (arith, over) in
     bit_shr (get_or set (a / 64) 0) (64 - by % 64) ((a + by) % 64) ∙ ap (λ n. bit_at (get_or set (a / 64) 0) n) is ∙ eqb-true _ _ h
 
--- likewise a difference
+-- a difference is in the word that is moved down within itself, or in the word below it
 pub lowered_within : (set : List ℕ) (a by : ℕ) → Holds set a → by ≤ a → by % 64 ≤ a % 64 → bit_at (get_or set (a / 64) 0 / 2 ^ (by % 64)) ((a - by) % 64) ≡ 1
 lowered_within set a by h least inside =
     let is : by % 64 + (a - by) % 64 ≡ a % 64 = omega (arith, least, inside) in
@@ -37,7 +37,7 @@ lowered_over set a by h least over =
     let inside : a % 64 + (64 - by % 64) < 64 = omega (arith, over) in
     ap (λ n. bit_at (get_or set (a / 64) 0 * 2 ^ (64 - by % 64) % 2 ^ 64) n) is ∙ bit_shl (get_or set (a / 64) 0) (64 - by % 64) (a % 64) inside ∙ eqb-true _ _ h
 
--- a number is in a set of four words that has its bit in its word
+-- a number is in a set of four words if its bit is set in its word
 pub in_four : (w0 w1 w2 w3 n : ℕ) → n < 256 → (n / 64 ≡ 0 → bit_at w0 (n % 64) ≡ 1) → (n / 64 ≡ 1 → bit_at w1 (n % 64) ≡ 1)
     → (n / 64 ≡ 2 → bit_at w2 (n % 64) ≡ 1) → (n / 64 ≡ 3 → bit_at w3 (n % 64) ≡ 1) → Holds (w0 ∷ (w1 ∷ (w2 ∷ (w3 ∷ [])))) n
 in_four w0 w1 w2 w3 n small zero one two three =
@@ -55,7 +55,7 @@ in_four w0 w1 w2 w3 n small zero one two three =
       ]
     ]
 
--- what the flags of a sum and of a difference say
+-- the flags of a sum and of a difference
 pub no_carry : (a b : ℕ) → bit_of (nat_lt 255 (a + b)) ≡ 0 → a + b < 256
 no_carry a b none = grind (arith, nat_tests)
 

@@ -1,7 +1,8 @@
--- What is said of all states that a machine with an image may come to.
--- Source: own.
---     is_among        whether an address is among some; one past their table always is
---     AreFacts        a stop is one of those that are left, and a step is made where one may be
+-- Statements about all states that a machine with an image can come to.
+-- Source: chosen by this project.
+--     is_among        whether an address is in a table; an address past the table always is
+--     AreFacts        in each reached state, a stop is one of those that aren't excluded, and the address is
+--                     one at which a step may be made
 --     NeverAtAll      no keys, tape and ticks lead to a stop for this cause
 use Rattle.std.specs.Prelude.{◌≡◌, ◌≢◌, ℕ, Bool, true, List, Contains, IfSome, Some, slice_index_or}
 use Rattle.chip_machine.specs.declared.quirks.Quirks.{Quirks}
@@ -13,7 +14,7 @@ use Rattle.chip_facts.specs.declared.table.Left.{Left}
 abbrev pub is_among : List Bool → ℕ → Bool
 is_among addresses pc = slice_index_or addresses pc true
 
--- of one state
+-- `AreFacts` for one state
 pub record IsOneOf (left : List Left) (executed : List Bool) (s : State) : Type 0 where
   pub stop : IfSome s.core.stopped (λ why. Contains left (record { pc = s.core.pc; stop = why }))
   pub place : is_among executed s.core.pc ≡ true

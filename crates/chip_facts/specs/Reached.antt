@@ -1,6 +1,6 @@
--- The states that a machine with an image may come to: whichever keys are down, whichever bytes the tape
+-- The states that a machine with an image can come to, whichever keys are down, whichever bytes the tape
 -- has, and whenever the timers tick.
--- Source: own.
+-- Source: chosen by this project.
 --     IsByteTape      a tape of bytes
 --     IsReached       a state that some keys, tape and ticks lead to
 use Rattle.std.specs.Prelude.{ℕ, ◌<◌, Bool, List, slice_index}
@@ -12,7 +12,7 @@ use Rattle.chip_machine.specs.Step.{step_of}
 abbrev pub IsByteTape : List ℕ → Type 0
 IsByteTape tape = IsTape tape × ((i : ℕ) → slice_index tape i < 256)
 
--- a start, and what follows a state by any keys, with a tick or without one
+-- a state at the start, or one that follows a reached state, with any keys, and with or without a tick
 pub data IsReached (image : List ℕ) (quirks : Quirks) : State → Type 0 where
   starts : (tape : List ℕ) → IsByteTape tape → IsReached image quirks (start_of image tape quirks)
   steps : (s : State) → IsReached image quirks s → (keys : ℕ) (tick : Bool)

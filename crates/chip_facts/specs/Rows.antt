@@ -1,8 +1,8 @@
--- What the rows of a table say of states, and facts about all states that a machine with an image may come to.
--- Source: own.
---     MayBe           a number is a byte, and among those that a row of sets has at a place
+-- The meaning of the rows of a table, and facts about all states that a machine with an image can come to.
+-- Source: chosen by this project.
+--     MayBe           a number is a byte, and in the set at a place of a sequence of sets
 --     IsInRow         a state lies in a row
---     HoldFacts       facts hold of a machine with an image
+--     HoldFacts       facts hold for a machine with an image
 use Rattle.std.specs.Prelude.{◌≡◌, ℕ, ◌+◌, ◌*◌, ◌<◌, ◌≤◌, true, List, length, min, slice_index, Any, None, if◌then◌else◌}
 use Rattle.chip_machine.specs.declared.quirks.Quirks.{Quirks}
 use Rattle.chip_machine.specs.State.{State}
@@ -13,7 +13,7 @@ use Rattle.chip_facts.specs.Sets.{Holds}
 use Rattle.chip_facts.specs.declared.facts.Facts.{Facts}
 use Rattle.chip_facts.specs.declared.table.Row.{Row}
 
--- each place has a set of 256 numbers, one after another
+-- the set at a place has room for 256 numbers, and the sets come one after another
 pub record MayBe (sets : List ℕ) (place byte : ℕ) : Type 0 where
   pub small : byte < 256
   pub among : Holds sets (256 * place + byte)
@@ -25,19 +25,19 @@ pub record IsInRow (facts : Facts) (row : Row) (s : State) : Type 0 where
   -- each of the 16 registers has one of the bytes that the row has for it
   pub register_count : length s.core.registers ≡ 16
   pub registers : (x : ℕ) → x < 16 → MayBe row.known.registers x (reg s.core x)
-  -- I is one of the row's addresses, or past the memory, which the last number says
+  -- I is one of the row's addresses; the last number of the set stands for all values past the memory
   pub index_fits : s.core.index < 65536
   pub index : Holds row.known.index (min s.core.index 4096)
   -- the delay timer is at most the row's bound
   pub delay : s.core.delay ≤ row.known.delay
-  -- the screen has a size that it may have in the row
+  -- the screen has one of the sizes that it may have in the row
   pub size : (if s.core.high then row.known.may_be_high else row.known.may_be_low) ≡ true
   -- each byte of the memory is one of those that the table has for its address
   pub memory_size : length s.memory ≡ 4096
   pub memory : (at : ℕ) → at < 4096 → MayBe facts.memory.items at (slice_index s.memory at)
 
 pub record HoldFacts (image : List ℕ) (quirks : Quirks) (facts : Facts) : Type 0 where
-  -- a reached state that has stopped has done so in a way that is left, and a step is made where one may be
+  -- a reached state that has stopped has done so in a way that isn't excluded, and its address is one at which a step may be made
   pub are : AreFacts image quirks facts.left.items facts.executed.items
   -- each other reached state lies in a row
   pub rows : (s : State) → IsReached image quirks s → s.core.stopped ≡ None

@@ -1,5 +1,5 @@
--- Sets of numbers, a bit each in a row of words of 64 bits.
--- Source: own.
+-- Sets of numbers, one bit each, in a sequence of words of 64 bits.
+-- Source: chosen by this project.
 --     has             whether a number is in a set
 --     Holds           a number is in a set
 --     IsWithin        each number of a set is in another

@@ -24,7 +24,7 @@ use std::alloc::{AllocError, Global};
 
 #[tactic(auto, unfolding(chip_machine::specs::Step::effect))]
 impl Before<'_> {
-    /// The values of I after V0 to Vx were moved from one of these on.
+    /// Returns the values of I after V0 to Vx were moved from one of these addresses on.
     fn index_after(&self, index: &IndexSet, x: Reg) -> IndexSet
         ensures { (i : ℕ) → i < 65536 → HoldsIndex index.now i
             → HoldsIndex result (index_past self.now.quirks.index_move x i) }
@@ -36,7 +36,8 @@ impl Before<'_> {
         }
     }
 
-    /// The bytes that registers may have after V0 to Vx got those at one of some addresses, one after another.
+    /// Returns the bytes that registers may have after V0 to Vx got the bytes from one of some addresses
+    /// on, one after another.
     fn loaded_sets(&self, at: &IndexSet, x: Reg) -> [u64; 64]
         requires { length self.now.memory.now ≡ SETS_WORDS }
         ensures loaded { (y i b : ℕ) → y ≤ x → i ≤ 4096 → i + y < 4104 → b < 256 → Holds at.now i
@@ -51,7 +52,7 @@ impl Before<'_> {
         known.registers
     }
 
-    /// The bytes that each of V0 to Vx may have.
+    /// Returns the bytes that each of V0 to Vx may have.
     fn first_sets(&self, alloc: Global, x: Reg) -> Result<Vec<ByteSet>, AllocError>
         ensures count { IfOk result (λ sets. length sets.items ≡ x + 1) }
         ensures each { IfOk result (λ sets. (y b : ℕ) → y ≤ x → b < 256
@@ -64,7 +65,8 @@ impl Before<'_> {
         Ok(sets)
     }
 
-    /// Bytes are accessed from one of some addresses on, if there is one. The next instruction follows, where this is known.
+    /// Returns the outcome that accesses bytes from one of some addresses on, if there is one, and goes
+    /// on to the next instruction, where this is known.
     fn accesses(
         &self,
         alloc: Global,
@@ -134,7 +136,7 @@ impl Before<'_> {
         self.accesses(alloc, &access, known, Some(stored))
     }
 
-    /// `FX75`, `LD R, Vx`, where it is an instruction.
+    /// `FX75`, `LD R, Vx`, if it is an instruction.
     pub(crate) fn stores_flags(&self, alloc: Global, x: Reg) -> Result<Outcome, AllocError>
         requires { self.now.pc < 4095 }
         ensures { IfOk result (λ out. Gives self.now out (λ c.
@@ -156,7 +158,7 @@ impl Before<'_> {
         self.accesses(alloc, &access, self.known, Some(stored))
     }
 
-    /// `FX85`, `LD Vx, R`, where it is an instruction.
+    /// `FX85`, `LD Vx, R`, if it is an instruction.
     pub(crate) fn loads_flags(&self, alloc: Global, x: Reg) -> Result<Outcome, AllocError>
         requires pc { self.now.pc < 4095 }
         requires size { length self.now.memory.now ≡ SETS_WORDS }
@@ -171,8 +173,8 @@ impl Before<'_> {
         self.on(alloc, known)
     }
 
-    /// How many bytes a sprite of n rows has at least and at most, by the sizes that the screen may have. Where
-    /// nothing is drawn, a sprite has none.
+    /// Returns the least and the greatest number of bytes of a sprite of n rows, for the sizes that the
+    /// screen may have. If nothing is drawn, a sprite has no bytes.
     fn sprite_counts(&self, n: Nibble) -> (usize, usize)
         ensures least { (c : Core) → IsKnown self.now.known c → c.quirks ≡ self.now.quirks
             → result.0 ≤ drawn_bytes n c }
@@ -202,7 +204,7 @@ impl Before<'_> {
         (least, most)
     }
 
-    /// `DXYN`, `DRW Vx, Vy, n`: VF may be 0 or 1.
+    /// `DXYN`, `DRW Vx, Vy, n`. VF may be 0 or 1.
     pub(crate) fn draws(
         &self,
         alloc: Global,

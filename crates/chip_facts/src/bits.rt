@@ -1,4 +1,4 @@
-//! Sets of numbers, a bit each in a row of words.
+//! Sets of numbers, one bit each, in a sequence of words.
 
 ghost use Rattle.std.specs.Prelude.{◌≡◌, ◌≤◌, ◌<◌, ◌*◌, ℕ, false, true, IsTrue, length};
 ghost use Rattle.std.specs.Int.{bit_at};
@@ -31,7 +31,7 @@ pub(crate) fn remove(words: &mut [u64], n: usize)
     words[n / 64] &= !(1 << (n % 64));
 }
 
-/// The first bit of a word from one on, or 64 where there is none.
+/// Returns the first set bit of a word at `from` or later, or 64 if there is none.
 #[inline]
 fn first_bit(word: u64, from: usize) -> usize
     requires { from < 64 }
@@ -46,7 +46,8 @@ fn first_bit(word: u64, from: usize) -> usize
     from + rest.trailing_zeros() as usize
 }
 
-/// The first number of a set from one on. Where there is none, a number that is in no set of so many words.
+/// Returns the first number of a set that is at least `from`. If there is none, returns a number that is
+/// too large for a set with this many words.
 #[inline]
 pub(crate) fn next(words: &[u64], from: usize) -> usize
     requires { length words.now < 65536 }

@@ -1,4 +1,4 @@
-//! What holds of all states that a machine with an image may come to.
+//! Facts about all states that a machine with an image can come to.
 
 ghost use Rattle.std.specs.Prelude.{◌≡◌, ◌≤◌, ℕ, Any, Bool, IfOk, IfSome, IsTrue, List, length, true};
 ghost use Rattle.chip_lang.specs.declared.limits.TheConstants.{IMAGE_BYTES};
@@ -11,17 +11,17 @@ use chip_lang::limits::{IMAGE_BYTES, MEMORY_BYTES};
 use chip_machine::{Quirks, Stop};
 use std::alloc::{AllocError, Global};
 
-/// What holds of all states that a machine with an image may come to: whichever keys are down, whichever
+/// Facts about all states that a machine with an image can come to, whichever keys are down, whichever
 /// bytes the tape has, and whenever the timers tick.
 #[derive(Drop)]
 pub struct Facts {
-    /// The stops that aren't excluded, with where the machine is then. Any of them may be impossible.
+    /// The stops that aren't excluded, each with the address of the machine. Any of them may be impossible.
     pub left: Vec<Left>,
-    /// Whether a step may be made at each address of the memory. At the others none is ever made.
+    /// For each address of the memory, whether a step may be made there. No step is ever made at the others.
     pub executed: Vec<bool>,
-    /// The rows of the table by which all this was found.
+    /// The rows of the table that all this follows from.
     pub(crate) rows: Vec<Row>,
-    /// The bytes that each byte of the memory may have, and then each flag register.
+    /// The bytes that each byte of the memory may have, followed by those that each flag register may have.
     pub(crate) memory: Vec<u64>,
 }
 
@@ -41,7 +41,7 @@ impl Facts {
     }
 }
 
-/// Puts an address among some.
+/// Marks an address in a table of addresses.
 fn mark(addresses: &mut Vec<bool>, at: usize)
     ensures there { is_among addresses.new.items at ≡ true }
     ensures others { (n : ℕ) → is_among addresses.old.items n ≡ true
@@ -52,7 +52,7 @@ fn mark(addresses: &mut Vec<bool>, at: usize)
     }
 }
 
-/// Whether a row is at each address.
+/// Returns, for each address, whether there is a row at it.
 fn executed_in(alloc: Global, rows: &[Row]) -> Result<Vec<bool>, AllocError>
     ensures { IfOk result (λ executed. (pc : ℕ) → Any (λ row. pc ≡ row.pc) rows.now
         → is_among executed.items pc ≡ true) }
@@ -64,8 +64,8 @@ fn executed_in(alloc: Global, rows: &[Row]) -> Result<Vec<bool>, AllocError>
     Ok(executed)
 }
 
-/// Finds what holds of all states that a machine with an image may come to. `None` where nothing is found
-/// within a bound on steps of the search.
+/// Finds what holds in all states that a machine with an image can come to. Returns `None` if nothing is
+/// found within a bound on the steps of the search.
 ///
 /// # Errors
 ///

@@ -1,4 +1,4 @@
-//! What finds a table. Nothing rests on it: `Table::is_proof` says whether what it finds is one.
+//! Finds a table. No proof depends on it, because `Table::is_proof` checks what it finds.
 
 mod index;
 mod search;

@@ -9,28 +9,28 @@ use crate::byte_set::{ByteSet, NONE, block, unite};
 use chip_lang::limits::MEMORY_BYTES;
 use chip_machine::limits::FLAGS;
 
-/// How many words a set of values of I has.
+/// The number of words of a set of values of I.
 pub(crate) const INDEX_WORDS: usize = 65;
 
-/// A set of values of I: address a at bit a, and all values past the memory at the bit after those.
+/// A set of values of I: address a is at bit a, and all values past the memory are at the bit after those.
 pub(crate) type IndexSet = [u64; INDEX_WORDS];
 
-/// How many numbers fit into such a set.
+/// The number of different numbers that fit into such a set.
 pub(crate) const NUMBERS: usize = 64 * INDEX_WORDS;
 
-/// Where the values past the memory stand.
+/// The number that stands for all values past the memory.
 pub(crate) const PAST: usize = MEMORY_BYTES;
 
-/// How many bytes there are: those of the memory, and then the flag registers.
+/// The number of bytes: those of the memory, and then the flag registers.
 pub(crate) const BYTES: usize = MEMORY_BYTES + FLAGS;
 
-/// The words of the sets of all bytes.
+/// The number of words of the sets of all bytes.
 pub(crate) const SETS_WORDS: usize = 4 * BYTES;
 
-/// No value.
+/// The empty set.
 const NOWHERE: IndexSet = [0; INDEX_WORDS];
 
-/// One value.
+/// Returns the set of one value.
 pub(crate) fn only(at: usize) -> IndexSet
     requires { at < 65536 }
     ensures { HoldsIndex result at }
@@ -40,7 +40,7 @@ pub(crate) fn only(at: usize) -> IndexSet
     set
 }
 
-/// The addresses of digits that the low four bits of a byte number.
+/// Returns the addresses of the digits whose numbers are the low four bits of a byte of a set.
 pub(crate) fn digits(values: &ByteSet, first: usize, size: usize) -> IndexSet
     requires { first + size * 15 < 4096 }
     ensures { (b : ℕ) → b < 256 → Holds values.now b → HoldsIndex result (first + size * (b % 16)) }
@@ -56,7 +56,7 @@ pub(crate) fn digits(values: &ByteSet, first: usize, size: usize) -> IndexSet
     set
 }
 
-/// Puts the sums of an address and each byte of a set into a set.
+/// Adds the sums of an address and each byte of `values` to a set.
 fn add_sums(set: &mut IndexSet, at: usize, values: &ByteSet)
     requires { at < 4096 }
     ensures kept { (n : ℕ) → Holds set.old n → Holds set.new n }
@@ -69,7 +69,7 @@ fn add_sums(set: &mut IndexSet, at: usize, values: &ByteSet)
     }
 }
 
-/// The values past the memory, and what they become by the sum with a byte, modulo 65,536.
+/// Returns the values past the memory, and all sums of such a value and a byte, modulo 65,536.
 fn wrapped() -> IndexSet
     ensures past { Holds result 4096 }
     ensures low { (n : ℕ) → n < 255 → Holds result n }
@@ -82,7 +82,7 @@ fn wrapped() -> IndexSet
     set
 }
 
-/// The sums of a value of I and a byte, modulo 65,536.
+/// Returns the sums of a value of I and a byte, modulo 65,536.
 pub(crate) fn sums(index: &IndexSet, values: &ByteSet) -> IndexSet
     ensures { (i b : ℕ) → i < 65536 → b < 256 → HoldsIndex index.now i → Holds values.now b
         → HoldsIndex result ((i + b) % 65536) }
@@ -100,17 +100,17 @@ pub(crate) fn sums(index: &IndexSet, values: &ByteSet) -> IndexSet
     set
 }
 
-/// Of a set of values, those from which so many bytes can be accessed.
+/// The values of a set from which a given number of bytes can be accessed.
 #[derive(Drop)]
 pub(crate) struct Access {
     pub(crate) set: IndexSet,
-    /// Whether there is one.
+    /// Whether there is such a value.
     pub(crate) any: bool,
-    /// Whether there are others.
+    /// Whether there are values from which fewer bytes can be accessed.
     pub(crate) is_short: bool,
 }
 
-/// Parts the values of I from which so many bytes can be accessed from the others.
+/// Separates the values of I from which `count` bytes can be accessed from the others.
 pub(crate) fn fitting(index: &IndexSet, count: usize) -> Access
     requires some { 0 < count }
     requires few { count ≤ 32 }
@@ -140,8 +140,8 @@ pub(crate) fn fitting(index: &IndexSet, count: usize) -> Access
     }
 }
 
-/// Parts the values of I from which at least the lesser number of bytes can be accessed from those from
-/// which the larger one can't. From each value no byte can be accessed.
+/// Separates the values of I from which at least `least` bytes can be accessed, and finds out whether
+/// there are values from which `most` bytes can't be accessed. Zero bytes can be accessed from each value.
 pub(crate) fn fitting_between(index: &IndexSet, least: usize, most: usize) -> Access
     requires few { least ≤ 32 }
     requires most { most ≤ 32 }
@@ -167,7 +167,7 @@ pub(crate) fn fitting_between(index: &IndexSet, least: usize, most: usize) -> Ac
     Access { set, any, is_short }
 }
 
-/// The bytes that are at an offset from one of some addresses, by a row of sets.
+/// Returns the bytes that may be at an offset from one of some addresses, given the sets of all bytes.
 pub(crate) fn loaded(memory: &[u64], index: &IndexSet, offset: usize) -> ByteSet
     requires size { length memory.now ≡ SETS_WORDS }
     requires offset { offset < 16 }

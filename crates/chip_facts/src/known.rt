@@ -1,4 +1,4 @@
-//! What is known of the registers, I, the delay timer and the size of the screen.
+//! Knowledge about the registers, I, the delay timer and the size of the screen.
 
 ghost use Rattle.std.specs.Prelude.{◌≡◌, ◌≢◌, ◌<◌, ◌+◌, ◌*◌, ℕ, IsTrue, MatchOption, false, replicate};
 ghost use Rattle.chip_machine.specs.State.{Core};
@@ -20,10 +20,10 @@ pub(crate) enum Second {
     Byte(u8),
 }
 
-/// What is known of the registers, I, the delay timer and the size of the screen.
+/// Knowledge about the registers, I, the delay timer and the size of the screen.
 #[derive(Clone, Copy)]
 pub(crate) struct Known {
-    /// Register x may have byte b where bit 256 * x + b is set.
+    /// Register x may have byte b if bit 256 * x + b is set.
     pub(crate) registers: [u64; 64],
     pub(crate) index: IndexSet,
     /// The delay timer is at most this.
@@ -33,7 +33,7 @@ pub(crate) struct Known {
 }
 
 impl Known {
-    /// The bytes that a register may have.
+    /// Returns the bytes that a register may have.
     pub(crate) fn values(&self, x: Reg) -> ByteSet
         ensures each { (b : ℕ) → b < 256 → has result b ≡ has self.now.registers (256 * x + b) }
         ensures range { x < 16 }
@@ -41,7 +41,7 @@ impl Known {
         block(&self.registers, x.number() as usize)
     }
 
-    /// The register of a number gets one of these bytes.
+    /// Notes that the register with a number gets one of these bytes.
     pub(crate) fn put(&mut self, x: usize, values: &ByteSet)
         requires { x < 16 }
         ensures known { (c : Core) (b : ℕ) → IsKnown self.old c → Holds values.now b
@@ -58,7 +58,7 @@ impl Known {
         self.registers[at + 3] = values[3];
     }
 
-    /// A register gets one of these bytes.
+    /// Notes that a register gets one of these bytes.
     pub(crate) fn set(&mut self, x: Reg, values: &ByteSet)
         ensures { (c : Core) (b : ℕ) → IsKnown self.old c → Holds values.now b
             → IsKnown self.new (with_reg x b c) }
@@ -66,7 +66,7 @@ impl Known {
         self.put(x.number() as usize, values);
     }
 
-    /// VF gets one of these bytes.
+    /// Notes that VF gets one of these bytes.
     pub(crate) fn set_flag(&mut self, values: &ByteSet)
         ensures { (c : Core) (b : ℕ) → IsKnown self.old c → Holds values.now b
             → IsKnown self.new (with_reg 15 b c) }
@@ -74,8 +74,8 @@ impl Known {
         self.put(15, values);
     }
 
-    /// The knowledge after an operation on a register and a byte of a set, if the flag is this one. `None` where
-    /// the flag never is.
+    /// Returns what is known after an operation on a register and a byte of a set, if the flag is this
+    /// one, or `None` if it never is.
     fn operated_with(
         &self,
         operation: Operation,
@@ -96,8 +96,8 @@ impl Known {
         Some(known)
     }
 
-    /// The knowledge after an operation on two registers, if the flag is this one. More is known of the second one
-    /// then, too. `None` where the flag never is.
+    /// Returns what is known after an operation on two registers, if the flag is this one, or `None` if
+    /// it never is. The flag also tells more about the second register.
     fn operated_by(&self, operation: Operation, flag: u8, x: Reg, y: Reg) -> Option<Known>
         ensures { (c : Core) → IsKnown self.now c → flag_of operation (reg c x) (reg c y) ≡ flag
             → MatchOption result ⊥
@@ -114,8 +114,8 @@ impl Known {
         Some(known)
     }
 
-    /// The knowledge after an operation on a register and a second byte, if the flag is this one. `None` where the
-    /// flag never is.
+    /// Returns what is known after an operation on a register and a second byte, if the flag is this one,
+    /// or `None` if it never is.
     pub(crate) fn operated(
         &self,
         operation: Operation,
@@ -135,7 +135,7 @@ impl Known {
         }
     }
 
-    /// Whether the other knowledge holds of each core that this holds of.
+    /// Whether the other knowledge is true of each core that this one is true of.
     pub(crate) fn is_within(&self, other: &Known) -> bool
         ensures { IsTrue result → (c : Core) → IsKnown self.now c → IsKnown other.now c }
     {
@@ -148,7 +148,7 @@ impl Known {
 }
 
 impl Known {
-    /// What is known before the first step.
+    /// Returns what is known before the first step.
     pub(crate) fn start() -> Known
         ensures { (c : Core) → c.registers ≡ replicate 16 0 → c.index ≡ 0 → c.delay ≡ 0
             → c.high ≡ false → IsKnown result c }

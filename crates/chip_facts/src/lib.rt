@@ -1,7 +1,7 @@
-//! What holds of all states of a machine that any keys, any random bytes and any speed lead to.
+//! Facts about all states that any keys, any random bytes and any speed lead a machine to.
 #![tactic(auto)]
 
-// What is trusted is proved: a table is closed.
+// The proved modules: they find out whether a table is closed.
 mod accesses;
 mod bits;
 mod byte_set;
@@ -16,7 +16,7 @@ mod table;
 mod transfer;
 mod view;
 
-// What finds a table promises nothing.
+// The module that finds a table. Nothing is claimed about it.
 mod finder;
 
 pub use facts::{Facts, facts_of};

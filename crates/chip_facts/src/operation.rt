@@ -1,4 +1,4 @@
-//! What instructions make of two bytes.
+//! The results of instructions on two bytes.
 
 ghost use Rattle.std.specs.Prelude.{◌≡◌, ◌<◌, ℕ, IfSome, IsTrue};
 ghost use Rattle.chip_facts.specs.Sets.{Holds};
@@ -7,7 +7,7 @@ ghost use Rattle.chip_facts.specs.inner.Operations.{value_of, flag_of, IsMade};
 use crate::bits::{contains, insert, next};
 use crate::byte_set::{ByteSet, NONE, lowered, raised, unite};
 
-/// What an instruction makes of the byte of a register and a second one.
+/// The operation of an instruction on the byte of a register and a second byte.
 #[derive(Clone, Copy)]
 pub(crate) enum Operation {
     /// The second byte.
@@ -22,7 +22,7 @@ pub(crate) enum Operation {
     SubtractFrom,
     ShiftRight,
     ShiftLeft,
-    /// The first byte, and whether both are the same.
+    /// The first byte. The flag tells whether both bytes are the same.
     Compare,
 }
 
@@ -45,7 +45,8 @@ impl Operation {
         }
     }
 
-    /// What VF is after it, or whether the bytes are the same. 0 where an instruction sets no flag.
+    /// Returns VF after the operation or, for a comparison, whether the bytes are the same. Returns 0 for
+    /// an operation without a flag.
     #[inline]
     pub(crate) fn flag(self, first: u8, second: u8) -> u8
         ensures { result ≡ flag_of self first second }
@@ -62,7 +63,7 @@ impl Operation {
     }
 }
 
-/// What an operation makes of the pairs of two sets that give a flag.
+/// The results of an operation on those pairs of two sets that give a certain flag.
 #[derive(Drop)]
 pub(crate) struct Pairs {
     /// Whether there is such a pair.
@@ -72,8 +73,8 @@ pub(crate) struct Pairs {
     pub(crate) seconds: ByteSet,
 }
 
-/// What an operation makes of each byte of a set and a second one that give a flag, by a shift of the whole set.
-/// `None` for an operation that isn't one.
+/// Returns the results of an operation on a byte of a set and a second byte, for those bytes that give a
+/// flag, by shifting the whole set. Returns `None` for an operation that can't be computed in this way.
 fn made_at_once(operation: Operation, flag: u8, firsts: &ByteSet, second: u8) -> Option<ByteSet>
     ensures { IfSome result (λ made. (a : ℕ) → a < 256 → Holds firsts.now a
         → flag_of operation a second ≡ flag → Holds made (value_of operation a second)) }
@@ -102,7 +103,7 @@ impl Pairs {
         }
     }
 
-    /// Adds the pairs of each byte of a set and a second one, one after another.
+    /// Adds the pairs of each byte of a set and a second byte, one after another.
     fn add_each(&mut self, operation: Operation, flag: u8, firsts: &ByteSet, second: u8)
         ensures kept { (v b : ℕ) → IsMade self.old v b → IsMade self.new v b }
         ensures added { (a : ℕ) → a < 256 → Holds firsts.now a → flag_of operation a second ≡ flag
@@ -115,7 +116,7 @@ impl Pairs {
         }
     }
 
-    /// Adds values that were made with a second byte.
+    /// Adds results that were computed with a second byte.
     fn add_made(&mut self, made: &ByteSet, second: u8)
         ensures kept { (v b : ℕ) → IsMade self.old v b → IsMade self.new v b }
         ensures added { (v : ℕ) → v < 256 → Holds made.now v → IsMade self.new v second }
@@ -127,7 +128,7 @@ impl Pairs {
         }
     }
 
-    /// Adds the pairs of each byte of a set and a second one.
+    /// Adds the pairs of each byte of a set and a second byte.
     fn add_all(&mut self, operation: Operation, flag: u8, firsts: &ByteSet, second: u8)
         ensures kept { (v b : ℕ) → IsMade self.old v b → IsMade self.new v b }
         ensures added { (a : ℕ) → a < 256 → Holds firsts.now a → flag_of operation a second ≡ flag
@@ -140,8 +141,8 @@ impl Pairs {
     }
 }
 
-/// What an operation makes of the pairs of two sets that give a flag, of each pair. Where both bytes are the same,
-/// of pairs of a byte with itself.
+/// Returns the results of an operation on those pairs of two sets that give a flag, by trying each pair.
+/// If `same` is true, both bytes are the same, so only pairs of a byte with itself are tried.
 fn pairs_tried(
     operation: Operation,
     flag: u8,
@@ -170,13 +171,13 @@ fn pairs_tried(
     made
 }
 
-/// Whether a set has two bytes, and more.
+/// Whether a set has at least two bytes.
 fn has_several(set: &ByteSet) -> bool {
     next(set, next(set, 0).saturating_add(1)) < 256
 }
 
-/// What an operation makes of the pairs of two sets that give a flag. Where both bytes are those of
-/// one register, of pairs of a byte with itself.
+/// Returns the results of an operation on those pairs of two sets that give a flag. If `same` is true,
+/// both bytes are those of one register, so only pairs of a byte with itself count.
 pub(crate) fn pairs_made(
     operation: Operation,
     flag: u8,

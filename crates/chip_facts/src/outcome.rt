@@ -1,4 +1,4 @@
-//! What a step may do from a state, by what is known of the state.
+//! The possible results of a step from a state, given what is known about the state.
 
 ghost use Rattle.std.specs.Prelude.{◌≡◌, [], ◌∷◌, ◌++◌, IfOk, None, Some, option_to_list};
 
@@ -8,16 +8,16 @@ use crate::known::Known;
 use chip_machine::Stop;
 use std::alloc::{AllocError, Global};
 
-/// What a step does with the call stack.
+/// The effect of a step on the call stack.
 #[derive(Clone, Copy)]
 pub(crate) enum Way {
     Same,
-    /// The call stack has one return address more.
+    /// The call stack gets one more return address.
     Call(u16),
     Return,
 }
 
-/// Where a step may lead, and what is known there.
+/// A place that a step may lead to, and what is known there.
 #[derive(Clone, Copy)]
 pub(crate) struct Successor {
     pub(crate) pc: u16,
@@ -25,15 +25,15 @@ pub(crate) struct Successor {
     pub(crate) known: Known,
 }
 
-/// Bytes that a step may store, one after another from one of some addresses on. The flag registers
-/// stand behind the memory.
+/// The bytes that a step may store, one after another from one of some addresses on. The flag registers
+/// come after the memory.
 #[derive(Drop)]
 pub(crate) struct Stored {
     pub(crate) at: IndexSet,
     pub(crate) values: Vec<ByteSet>,
 }
 
-/// What a step may do.
+/// The possible results of a step.
 #[derive(Drop)]
 pub(crate) struct Outcome {
     pub(crate) stop: Option<Stop>,
@@ -42,7 +42,7 @@ pub(crate) struct Outcome {
 }
 
 impl Outcome {
-    /// The step stops the machine.
+    /// Returns the outcome that stops the machine.
     pub(crate) fn stops(alloc: Global, why: Stop) -> Outcome
         ensures { result.stop ≡ Some why }
     {
@@ -53,7 +53,7 @@ impl Outcome {
         }
     }
 
-    /// The step leads to one of these.
+    /// Returns the outcome that leads to one of these successors.
     pub(crate) fn leads(next: Vec<Successor>) -> Outcome
         ensures next { result.next ≡ next }
         ensures stored { result.stored ≡ None }
@@ -65,7 +65,7 @@ impl Outcome {
         }
     }
 
-    /// The step leads there.
+    /// Returns the outcome that leads to this successor.
     pub(crate) fn to(alloc: Global, successor: Successor) -> Result<Outcome, AllocError>
         ensures next { IfOk result (λ out. out.next.items ≡ successor ∷ []) }
         ensures stored { IfOk result (λ out. out.stored ≡ None) }
@@ -76,7 +76,7 @@ impl Outcome {
     }
 }
 
-/// The outcome that leads to one of two.
+/// Returns the outcome that leads to one of two successors.
 pub(crate) fn to_either(
     alloc: Global,
     first: &Successor,
@@ -91,7 +91,7 @@ pub(crate) fn to_either(
     Ok(Outcome::leads(next))
 }
 
-/// The successors that are there, in order.
+/// Returns the successors that exist, in order.
 pub(crate) fn both(
     alloc: Global,
     first: &Option<Successor>,

@@ -1,4 +1,4 @@
-//! Whether a table has each state that is reached.
+//! Whether each reached state is in a table.
 
 ghost use Rattle.std.specs.Prelude.{◌≡◌, ◌≤◌, ◌<◌, ◌*◌, ◌+◌, ℕ, All, IfOk, IsTrue, length, slice_index};
 ghost use Rattle.chip_lang.specs.declared.limits.TheConstants.{IMAGE_BYTES};
@@ -17,7 +17,7 @@ use chip_machine::{Machine, Quirks};
 use std::alloc::{AllocError, Global};
 
 impl Table {
-    /// Whether the bytes at the start are among those of the memory, and the flag registers.
+    /// Whether the table allows the bytes of the memory and the flag registers at the start.
     fn has_memory(&self, memory: &[u8]) -> bool
         requires sets { length self.now.memory.items ≡ SETS_WORDS }
         requires bytes { length memory.now ≡ 4096 }

@@ -1,5 +1,5 @@
-//! The rows of the table of instructions that change registers, I, timers, the screen or the keys'
-//! turn, and access no memory.
+//! The rows of the table of instructions that change registers, I, timers, the screen or the turn of the
+//! keys, and access no memory.
 
 ghost use Rattle.std.specs.Prelude.{◌≡◌, ◌<◌, ◌+◌, ◌*◌, ◌%◌, ℕ, Bool, Ok, IfOk, if◌then◌else◌};
 ghost use Rattle.chip_machine.specs.State.{Core, State};
@@ -26,7 +26,7 @@ use std::alloc::{AllocError, Global};
 
 #[tactic(auto, unfolding(chip_machine::specs::Step::effect))]
 impl Before<'_> {
-    /// What is known where a register got one of these bytes.
+    /// Returns what is known after a register got one of these bytes.
     pub(crate) fn with(&self, x: Reg, values: &ByteSet) -> Known
         ensures { (c : Core) (b : ℕ) → IsKnown self.now.known c → Holds values.now b
             → IsKnown result (with_reg x b c) }
@@ -36,7 +36,7 @@ impl Before<'_> {
         known
     }
 
-    /// What is known where I got one of these values.
+    /// Returns what is known after I got one of these values.
     pub(crate) fn with_index(&self, index: IndexSet) -> Known
         ensures { (c : Core) (i : ℕ) → IsKnown self.now.known c → i < 65536 → HoldsIndex index i
             → IsKnown result (with_index i c) }
@@ -46,7 +46,7 @@ impl Before<'_> {
         known
     }
 
-    /// The next instruction follows, where this is known.
+    /// Returns the outcome that goes on to the next instruction, where this is known.
     pub(crate) fn on(&self, alloc: Global, known: Known) -> Result<Outcome, AllocError>
         requires { self.now.pc < 4095 }
         ensures { IfOk result (λ out. (s : State) (new : Core) → IsAt self.now s
@@ -56,7 +56,8 @@ impl Before<'_> {
         Outcome::to(alloc, successor)
     }
 
-    /// A register gets what an operation without a flag gives, and VF is 0 then or stays.
+    /// Returns the outcome that sets a register to the result of an operation without a flag. VF becomes
+    /// 0 if `clears` is true, and stays otherwise.
     pub(crate) fn plain(
         &self,
         alloc: Global,
@@ -124,7 +125,7 @@ impl Before<'_> {
         Outcome::to(alloc, successor)
     }
 
-    /// `EX9E`, `SKP Vx`, and `EXA1`, `SKNP Vx`: any keys may be down.
+    /// `EX9E`, `SKP Vx`, and `EXA1`, `SKNP Vx`. Any keys may be down.
     pub(crate) fn asks_key(&self, alloc: Global) -> Result<Outcome, AllocError>
         requires { self.now.pc < 4095 }
         ensures { IfOk result (λ out. (test : ℕ → Core → Bool)
@@ -135,7 +136,7 @@ impl Before<'_> {
         to_either(alloc, &next, &skipped)
     }
 
-    /// `FX0A`, `LD Vx, K`: it waits, or a key is down.
+    /// `FX0A`, `LD Vx, K`. The machine waits, or a key is down.
     pub(crate) fn waits_key(&self, alloc: Global, x: Reg) -> Result<Outcome, AllocError>
         requires { self.now.pc < 4095 }
         ensures { IfOk result (λ out. Gives self.now out (effect (Instr.WaitKey x))) }
@@ -168,7 +169,7 @@ impl Before<'_> {
         self.on(alloc, known)
     }
 
-    /// `00FE`, `LOW`, and `00FF`, `HIGH`, where they are instructions.
+    /// `00FE`, `LOW`, and `00FF`, `HIGH`, if they are instructions.
     pub(crate) fn resizes(&self, alloc: Global, high: bool) -> Result<Outcome, AllocError>
         requires { self.now.pc < 4095 }
         ensures { IfOk result (λ out. Gives self.now out (λ c. Changes (next (resized high c)))) }
@@ -179,7 +180,7 @@ impl Before<'_> {
         self.on(alloc, known)
     }
 
-    /// A register gets what a logical operation gives.
+    /// Returns the outcome that sets a register to the result of a logical operation.
     pub(crate) fn logic(
         &self,
         alloc: Global,
@@ -196,7 +197,7 @@ impl Before<'_> {
         self.plain(alloc, operation, x, &Second::Register(y), clears)
     }
 
-    /// I gets the address of a digit that a register numbers.
+    /// Returns the outcome that sets I to the address of the digit whose number is in a register.
     pub(crate) fn points_at_digit(
         &self,
         alloc: Global,

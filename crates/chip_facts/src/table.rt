@@ -1,5 +1,5 @@
-//! Tables of rows. In a row stands what is known where the machine is at an address with a call stack.
-//! Each state that is reached lies in one, once a table is found to be closed.
+//! Tables of rows. A row contains what is known when the machine is at an address with a call stack. Once
+//! a table is found to be closed, each reached state lies in one of its rows.
 
 ghost use Rattle.std.specs.Prelude.{◌≡◌, ◌<◌, ◌+◌, ◌*◌, ℕ, Any, Contains, IfOk, IfSome, IsTrue, Result, length};
 ghost use Rattle.chip_lang.specs.Decoding.{decode_of};
@@ -25,26 +25,26 @@ use std::alloc::{AllocError, Global};
 /// A stop that isn't excluded.
 #[derive(Clone, Copy)]
 pub struct Left {
-    /// Where the machine is.
+    /// The address at which the machine stops.
     pub pc: u16,
     pub stop: Stop,
 }
 
-/// What is known where the machine is at an address with a call stack.
+/// Knowledge about the machine at an address with a call stack.
 #[derive(Drop)]
 pub struct Row {
     pub(crate) pc: u16,
     pub(crate) frames: Vec<u16>,
     pub(crate) known: Known,
-    /// The numbers of the rows that steps from it lead to.
+    /// The numbers of the rows that steps from this one lead to.
     pub(crate) leads: Vec<u32>,
 }
 
-/// What holds of all states that are reached.
+/// Facts about all reached states.
 #[derive(Drop)]
 pub(crate) struct Table {
     pub(crate) rows: Vec<Row>,
-    /// The bytes that each byte of the memory may have, and then each flag register.
+    /// The bytes that each byte of the memory may have, followed by those that each flag register may have.
     pub(crate) memory: Vec<u64>,
     pub(crate) left: Vec<Left>,
 }
@@ -67,7 +67,7 @@ fn are_frames(then: &[u16], way: Way, frames: &[u16]) -> bool
 }
 
 impl Table {
-    /// Whether a stop is one of those that are left.
+    /// Whether a stop is one of those that aren't excluded.
     pub(crate) fn has_left(&self, pc: u16, stop: Stop) -> bool
         ensures { IsTrue result → Contains self.now.left.items (record { pc = pc; stop = stop }) }
     {
@@ -79,7 +79,7 @@ impl Table {
         false
     }
 
-    /// Whether one of some rows is there for where a step leads.
+    /// Whether one of some rows covers the state that a step leads to.
     pub(crate) fn has_row(&self, leads: &[u32], frames: &[u16], successor: &Successor) -> bool
         ensures { IsTrue result → (c : Core) → IsNext frames.now c successor.now
             → IsInTable self.now.rows.items c }
@@ -98,7 +98,7 @@ impl Table {
         false
     }
 
-    /// Whether the bytes at an address may be those of a set.
+    /// Whether the table allows each byte of a set at an address.
     fn has_bytes(&self, at: usize, values: &[u64; 4]) -> bool
         requires { length self.now.memory.items ≡ SETS_WORDS }
         ensures { IsTrue result → (b : ℕ) → Holds values.now b
@@ -107,7 +107,7 @@ impl Table {
         at < BYTES && is_within(values, &block(&self.memory, at))
     }
 
-    /// Whether the bytes of the memory may be those that a step stores.
+    /// Whether the table allows the bytes that a step stores.
     fn has_stored(&self, stored: &Stored) -> bool
         requires { length self.now.memory.items ≡ SETS_WORDS }
         ensures { IsTrue result → (at byte : ℕ) → IsStored stored.now at byte
@@ -125,7 +125,7 @@ impl Table {
         true
     }
 
-    /// Whether a stop, if there is one, is left.
+    /// Whether a stop, if there is one, is one of those that aren't excluded.
     fn has_stop(&self, pc: u16, stop: Option<Stop>) -> bool
         ensures { IsTrue result → IfSome stop (λ why.
             Contains self.now.left.items (record { pc = pc; stop = why })) }
@@ -136,7 +136,7 @@ impl Table {
         }
     }
 
-    /// Whether the bytes of the memory may be those that a step stores, if it stores some.
+    /// Whether the table allows the bytes that a step stores, if it stores some.
     fn has_changes(&self, stored: &Option<Stored>) -> bool
         requires { length self.now.memory.items ≡ SETS_WORDS }
         ensures { IsTrue result → IfSome stored.now (λ stored. (at byte : ℕ) → IsStored stored at byte
@@ -148,7 +148,7 @@ impl Table {
         }
     }
 
-    /// Whether some rows are there for all where a step leads.
+    /// Whether some rows cover all states that a step leads to.
     fn has_next(&self, leads: &[u32], frames: &[u16], next: &[Successor]) -> bool
         ensures { IsTrue result → (c : Core) → Any (IsNext frames.now c) next.now
             → IsInTable self.now.rows.items c }
@@ -161,7 +161,7 @@ impl Table {
         true
     }
 
-    /// Whether all that a step may do is in the table, in these rows.
+    /// Whether the table, with these rows, covers everything that a step may do.
     fn has_outcome(&self, before: &Before<'_>, leads: &[u32], out: &Outcome) -> bool
         requires { length self.now.memory.items ≡ SETS_WORDS }
         ensures { IsTrue result → before.now.memory.now ≡ self.now.memory.items
@@ -174,7 +174,7 @@ impl Table {
             && self.has_next(leads, before.frames, &out.next)
     }
 
-    /// Whether all that a word may do is in the table, in these rows.
+    /// Whether the table, with these rows, covers everything that a word may do.
     fn has_word(
         &self,
         alloc: Global,
@@ -198,7 +198,7 @@ impl Table {
         }
     }
 
-    /// Whether each step from a row leads into the table, or to a stop that is left.
+    /// Whether each step from a row leads into the table, or to a stop that isn't excluded.
     pub(crate) fn is_closed_at(
         &self,
         alloc: Global,
@@ -231,7 +231,7 @@ impl Table {
         Ok(true)
     }
 
-    /// Whether all that the words with a high byte may do is in the table, in these rows.
+    /// Whether the table, with these rows, covers everything that the words with a high byte may do.
     fn has_words(
         &self,
         alloc: Global,

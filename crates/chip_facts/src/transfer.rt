@@ -1,4 +1,4 @@
-//! What each instruction may do from a state, by what is known of the state.
+//! The possible results of each instruction from a state, given what is known about the state.
 
 ghost use Rattle.std.specs.Prelude.{◌≡◌, ◌<◌, ◌+◌, ◌==◌, ℕ, not, length, IfOk, if◌then◌else◌, MatchOption};
 ghost use Rattle.chip_machine.specs.State.{Core, State};
@@ -19,8 +19,8 @@ use chip_lang::number::{Addr, Reg};
 use chip_machine::{Quirks, Stop};
 use std::alloc::{AllocError, Global};
 
-/// What is known before a step: where the machine is, with which call stack, what its parts may be,
-/// and which bytes its memory may have.
+/// The knowledge before a step: the address of the machine, its call stack, the possible values of its
+/// parts, and the bytes that its memory may have.
 #[derive(Clone, Copy)]
 pub(crate) struct Before<'a> {
     pub(crate) memory: &'a [u64],
@@ -31,7 +31,7 @@ pub(crate) struct Before<'a> {
 }
 
 impl Before<'_> {
-    /// The next instruction, or a later one.
+    /// Returns the successor at the next instruction, or at a later one.
     pub(crate) fn past(&self, by: u16, known: Known) -> Successor
         requires { self.now.pc + by < 65536 }
         ensures pc { result.pc ≡ self.now.pc + by }
@@ -45,7 +45,8 @@ impl Before<'_> {
         }
     }
 
-    /// What follows where an operation gives this flag, which is put into VF.
+    /// Returns the successor if an operation gives this flag, which is put into VF, or `None` if it never
+    /// does.
     fn flagged(&self, operation: Operation, flag: u8, x: Reg, second: &Second) -> Option<Successor>
         requires { self.now.pc < 4095 }
         ensures small { (s : State) → IsAt self.now s → second_of second.now s.core < 256 }
@@ -59,8 +60,8 @@ impl Before<'_> {
         Some(self.past(2, known))
     }
 
-    /// What follows where two bytes are compared with this result: the next instruction, or the one
-    /// after it.
+    /// Returns the successor if a comparison of two bytes gives this result, at the next instruction or
+    /// at the one after it. Returns `None` if it never does.
     fn compared(&self, flag: u8, x: Reg, second: &Second, skips: bool) -> Option<Successor>
         requires { self.now.pc < 4095 }
         ensures small { (s : State) → IsAt self.now s → second_of second.now s.core < 256 }
@@ -72,7 +73,7 @@ impl Before<'_> {
         Some(self.past(if skips { 4 } else { 2 }, known))
     }
 
-    /// A register and VF get what an operation gives.
+    /// Returns the outcome that sets a register and VF to the results of an operation.
     fn arithmetic(
         &self,
         alloc: Global,
@@ -91,7 +92,7 @@ impl Before<'_> {
         Ok(Outcome::leads(next))
     }
 
-    /// The next instruction is skipped if two bytes are the same, or if they aren't.
+    /// Returns the outcome that skips the next instruction if two bytes are equal, or if they aren't.
     fn skips(
         &self,
         alloc: Global,
@@ -110,7 +111,7 @@ impl Before<'_> {
         Ok(Outcome::leads(next))
     }
 
-    /// The number of the register that a jump adds to an address.
+    /// Returns the number of the register that a jump adds to an address.
     fn offset_number(&self, address: Addr) -> usize
         ensures number { (c : Core) → c.quirks ≡ self.now.quirks → offset_register address c ≡ result }
         ensures range { result < 16 }
@@ -122,7 +123,7 @@ impl Before<'_> {
         }
     }
 
-    /// Where a jump leads if the register of a number has this byte.
+    /// Returns the successor of a jump if the register with a number has this byte.
     fn jumped(&self, address: Addr, x: usize, byte: u8) -> Successor
         requires { x < 16 }
         ensures { (s : State) → IsAt self.now s → reg s.core x ≡ byte
@@ -152,7 +153,7 @@ impl Before<'_> {
         Ok(Outcome::leads(next))
     }
 
-    /// The register that a shift shifts.
+    /// Returns the register that a shift shifts.
     fn shifted(&self, x: Reg, y: Reg) -> Second
         ensures { (c : Core) → c.quirks ≡ self.now.quirks
             → second_of result c ≡ reg c (shifted_register x y c) }
@@ -164,7 +165,7 @@ impl Before<'_> {
         }
     }
 
-    /// What an instruction of SUPER-CHIP may do, which is none on other machines.
+    /// Returns what an instruction of SUPER-CHIP may do. On other machines it is no instruction.
     fn if_super(
         &self,
         alloc: Global,
@@ -180,7 +181,7 @@ impl Before<'_> {
         }
     }
 
-    /// What an instruction may do.
+    /// Returns what an instruction may do.
     pub(crate) fn execute(&self, alloc: Global, instr: Instr) -> Result<Outcome, AllocError>
         requires pc { self.now.pc < 4095 }
         requires size { length self.now.memory.now ≡ SETS_WORDS }

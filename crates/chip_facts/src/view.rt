@@ -1,4 +1,4 @@
-//! What rows say of the parts of a state that lies in them.
+//! The possible values of the parts of a state that lies in a row.
 
 ghost use Rattle.std.specs.Prelude.{◌≡◌, ◌≤◌, ◌<◌, IsTrue, length, slice_index};
 ghost use Rattle.chip_machine.specs.State.{State};
@@ -15,14 +15,14 @@ use chip_lang::limits::MEMORY_BYTES;
 use chip_lang::number::Reg;
 
 impl Facts {
-    /// The rows of the table: each state that is reached, and hasn't stopped, lies in one.
+    /// Returns the rows of the table. Each reached state that hasn't stopped lies in one of them.
     pub fn rows(&self) -> &[Row]
         ensures { result.now ≡ self.now.rows.items }
     {
         &self.rows
     }
 
-    /// Whether the byte at an address, 0 past the end of the memory, may be this one.
+    /// Whether the byte at an address may be this one. Past the end of the memory, the byte is 0.
     pub fn may_have(&self, at: u16, byte: u8) -> bool
         ensures { (row : Row) (s : State) → IsInRow self.now row s
             → slice_index s.memory at ≡ byte → IsTrue result }
@@ -36,14 +36,14 @@ impl Facts {
 }
 
 impl Row {
-    /// Where the machine is.
+    /// Returns the address of the machine.
     pub fn pc(&self) -> u16
         ensures { (facts : Facts) (s : State) → IsInRow facts self.now s → s.core.pc ≡ result }
     {
         self.pc
     }
 
-    /// How many calls are open.
+    /// Returns the number of open calls.
     pub fn depth(&self) -> usize
         ensures { (facts : Facts) (s : State) → IsInRow facts self.now s
             → length s.core.frames ≡ result }
@@ -70,14 +70,14 @@ impl Row {
         contains(&self.known.index, (index as usize).min(PAST))
     }
 
-    /// A number that the delay timer doesn't pass.
+    /// Returns a number that the delay timer never exceeds.
     pub fn delay_bound(&self) -> u8
         ensures { (facts : Facts) (s : State) → IsInRow facts self.now s → s.core.delay ≤ result }
     {
         self.known.delay
     }
 
-    /// Whether the screen may have its high size, or its low one.
+    /// Whether the screen may have its high size (if `high` is true) or its low size (otherwise).
     pub fn may_have_size(&self, high: bool) -> bool
         ensures { (facts : Facts) (s : State) → IsInRow facts self.now s → s.core.high ≡ high
             → IsTrue result }

@@ -1,4 +1,4 @@
--- What is known of the registers, I, the delay timer and the size of the screen.
+-- Knowledge about the registers, I, the delay timer and the size of the screen.
 use Rattle.std.specs.Prelude.{◌≡◌, ℕ, ◌+◌, ◌*◌, ◌<◌, ◌≤◌, Bool, true, List, length, slice_index, if◌then◌else◌}
 use Rattle.chip_machine.specs.State.{Core}
 use Rattle.chip_machine.specs.Step.{reg}
@@ -8,12 +8,12 @@ use Rattle.chip_facts.specs.declared.known.Known.{Known}
 use Rattle.chip_facts.specs.declared.known.Second.{Second}
 use Rattle.chip_facts.specs.declared.known.Second.TheVariants as second
 
--- a register has one of its bytes
+-- a register has one of the bytes that its set contains
 pub record HasRegister (sets registers : List ℕ) (x : ℕ) : Type 0 where
   pub small : slice_index registers x < 256
   pub among : Holds sets (256 * x + slice_index registers x)
 
--- each of these is among what is known of it
+-- each of these values is allowed by what is known
 pub record AreKnown (k : Known) (registers : List ℕ) (at delay : ℕ) (high : Bool) : Type 0 where
   pub count : length registers ≡ 16
   pub each : (x : ℕ) → x < 16 → HasRegister k.registers registers x

@@ -1,4 +1,4 @@
--- What instructions make of two bytes, by the table of the instructions.
+-- The results of instructions on two bytes, by the table of the instructions.
 use Rattle.std.specs.Prelude.{◌≡◌, ℕ, ◌+◌, ◌-◌, ◌*◌, ◌/◌, ◌%◌, ◌==◌, true, nat_lt, nat_le, bit_and, bit_or, bit_xor}
 use Rattle.chip_machine.specs.Step.{bit_of}
 use Rattle.chip_facts.specs.declared.operation.Operation.{Operation}
@@ -32,6 +32,6 @@ flag_of op.ShiftRight a b = b % 2
 flag_of op.ShiftLeft a b = b / 128
 flag_of op.Compare a b = bit_of (a == b)
 
--- a value and a second byte are among those that were made
+-- a result and a second byte are among the computed ones
 abbrev pub IsMade : Pairs → ℕ → ℕ → Type 0
 IsMade m v b = (m.any ≡ true) × Holds m.values v × Holds m.seconds b

@@ -1,4 +1,4 @@
--- What a step may do, from a state of which something is known.
+-- The possible results of a step from a state, given what is known about the state.
 use Rattle.std.specs.Prelude.{◌≡◌, ℕ, ◌+◌, ◌-◌, ◌*◌, ◌<◌, ◌⊎◌, List, [], ◌∷◌, ◌++◌, length, take, slice_index, slice_index_or, Any, Option, Some, None, Result, Ok, Err}
 use Rattle.chip_machine.specs.declared.quirks.Quirks.{Quirks}
 use Rattle.chip_machine.specs.declared.stop.Stop.{Stop}
@@ -11,14 +11,14 @@ use Rattle.chip_facts.specs.declared.outcome.Successor.{Successor}
 use Rattle.chip_facts.specs.declared.outcome.Stored.{Stored}
 use Rattle.chip_facts.specs.declared.outcome.Outcome.{Outcome}
 
--- the bytes of the memory, and the flag registers behind them
+-- the bytes of the memory, followed by the flag registers
 abbrev pub all_bytes : State → List ℕ
 all_bytes s = s.memory ++ s.core.flags
 
 abbrev pub byte_at : State → ℕ → ℕ
 byte_at s at = slice_index (all_bytes s) at
 
--- each byte is among those of its address, and the machine runs
+-- each byte is one of those that the table has for its address, and the machine hasn't stopped
 pub record IsAround (memory : List ℕ) (quirks : Quirks) (s : State) : Type 0 where
   pub size : length s.memory ≡ 4096
   pub flags : length s.core.flags ≡ 8
@@ -34,13 +34,13 @@ frames_by way.Same frames = frames
 frames_by (way.Call back) frames = frames ++ back ∷ []
 frames_by way.Return frames = take (length frames - 1) frames
 
--- a core is one that a successor stands for
+-- a core is one of those that a successor describes
 pub record IsNext (frames : List ℕ) (c : Core) (n : Successor) : Type 0 where
   pub pc : c.pc ≡ n.pc
   pub frames_are : c.frames ≡ frames_by n.way frames
   pub known : IsKnown n.known c
 
--- so many bytes, one after another from one of some addresses on, may have this one at an address
+-- the bytes that a step stores, one after another from one of some addresses on, may put this byte at an address
 pub record IsStored (stored : Stored) (at byte : ℕ) : Type 0 where
   pub from : ℕ
   pub place : ℕ
@@ -49,13 +49,13 @@ pub record IsStored (stored : Stored) (at byte : ℕ) : Type 0 where
   pub among : Holds stored.at from
   pub value : Holds (slice_index_or stored.values.items place []) byte
 
--- each byte is as it was, or one that may be stored there
+-- each byte is unchanged, or one that may be stored there
 abbrev pub AreStored : Option Stored → State → State → Type 0
 AreStored None old new = all_bytes new ≡ all_bytes old
 AreStored (Some stored) old new =
     (at : ℕ) → (byte_at new at ≡ byte_at old at) ⊎ IsStored stored at (byte_at new at)
 
--- what a step leaves as it is
+-- the parts of a state that a step leaves the same
 pub record IsKept (old new : State) : Type 0 where
   pub size : length new.memory ≡ length old.memory
   pub flags : length new.core.flags ≡ length old.core.flags
@@ -63,7 +63,7 @@ pub record IsKept (old new : State) : Type 0 where
   pub quirks : new.core.quirks ≡ old.core.quirks
   pub stopped : new.core.stopped ≡ old.core.stopped
 
--- what a step leads to is among what it may do
+-- an outcome allows the result of a step
 abbrev pub Meets : List ℕ → Outcome → State → Result State Stop → Type 0
 Meets frames out old (Err why) = out.stop ≡ Some why
 Meets frames out old (Ok new) =

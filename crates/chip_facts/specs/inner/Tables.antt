@@ -1,4 +1,4 @@
--- Tables of rows, in which each state lies that is reached.
+-- Tables of rows, in which each reached state lies.
 use Rattle.std.specs.Prelude.{◌≡◌, ℕ, List, Any, Contains, Some, Result, Ok, Err}
 use Rattle.chip_machine.specs.declared.quirks.Quirks.{Quirks}
 use Rattle.chip_machine.specs.declared.stop.Stop.{Stop}
@@ -18,18 +18,18 @@ pub record LiesIn (c : Core) (row : Row) : Type 0 where
 abbrev pub IsInTable : List Row → Core → Type 0
 IsInTable rows c = Any (LiesIn c) rows
 
--- what a step leads to lies in the table, or it is a stop that is left
+-- a step leads to a state that lies in the table, or to a stop that isn't excluded
 abbrev pub IsAllowed : Table → Quirks → ℕ → Result State Stop → Type 0
 IsAllowed table quirks pc (Err why) = Contains table.left.items (record { pc = pc; stop = why })
 IsAllowed table quirks pc (Ok new) = IsInTable table.rows.items new.core × IsAround table.memory.items quirks new
 
--- so does each step from a row
+-- each step from a row is allowed
 abbrev pub IsClosed : Table → Quirks → Row → Type 0
 IsClosed table quirks row =
     (s : State) → LiesIn s.core row → IsAround table.memory.items quirks s
     → (keys : ℕ) → IsAllowed table quirks s.core.pc (perform keys s (effect_at s))
 
--- a state lies in the table, or it has stopped in a way that is left
+-- a state lies in the table, or has stopped in a way that isn't excluded
 pub data IsHeld (table : Table) (quirks : Quirks) (s : State) : Type 0 where
   lies : IsInTable table.rows.items s.core → IsAround table.memory.items quirks s → IsHeld table quirks s
   stopped : (why : Stop) → s.core.stopped ≡ Some why → Contains table.left.items (record { pc = s.core.pc; stop = why })

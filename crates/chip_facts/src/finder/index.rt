@@ -1,14 +1,14 @@
-//! The rows of a search by where they are, with their call stack and their label.
+//! The rows of a search, looked up by address, call stack and label.
 
 use std::alloc::{AllocError, Global};
 
-/// How many rows a table may have.
+/// The largest number of rows of a table.
 pub(crate) const MOST_ROWS: usize = 20_000;
 
-/// How many slots there are: some more than rows.
+/// The number of slots, somewhat larger than the number of rows.
 const SLOTS: usize = 32_768;
 
-/// What rows are told apart by: the address, the number of the call stack, and what VF and I say.
+/// The key of a row: its address, the number of its call stack, and a label that depends on VF and I.
 #[derive(Clone, Copy)]
 pub(crate) struct Place {
     pub(crate) pc: u16,
@@ -21,7 +21,7 @@ impl Place {
         self.pc == other.pc && self.stack == other.stack && self.label == other.label
     }
 
-    /// The slot at which the search for it begins.
+    /// Returns the slot where a search for this place begins.
     fn slot(&self) -> usize {
         let mixed = (self.pc as u64)
             .wrapping_mul(0x9e37_79b9_7f4a_7c15)
@@ -31,7 +31,8 @@ impl Place {
     }
 }
 
-/// Where the number of each row stands: in the first slot that was free, from the place's own on.
+/// A hash table for the number of each row. A number is in the first slot that was free, from the slot of
+/// its place on.
 #[derive(Drop)]
 pub(crate) struct Index {
     slots: Vec<Option<(Place, u32)>>,
@@ -44,7 +45,7 @@ impl Index {
         })
     }
 
-    /// The number of the row at a place, if there is one.
+    /// Returns the number of the row at a place, if there is one.
     pub(crate) fn get(&self, place: &Place) -> Option<u32> {
         let mut slot = place.slot();
         for _ in 0..SLOTS {

@@ -1,4 +1,4 @@
-//! The search for a table: steps from rows, the least address first, until they lead to nothing new.
+//! The search for a table. It makes steps from rows, the least address first, until they lead to nothing new.
 
 ghost use Rattle.std.specs.Prelude.{◌≤◌, length};
 ghost use Rattle.chip_lang.specs.declared.limits.TheConstants.{IMAGE_BYTES};
@@ -20,26 +20,27 @@ use chip_machine::limits::LAST_WORD;
 use chip_machine::{Machine, Quirks, Stop};
 use std::alloc::{AllocError, Global};
 
-/// How often a row is joined before its sets grow to the next constant of the program.
+/// How often a row may be joined before its sets grow to the next constant of the program.
 const PATIENCE: u32 = 8;
 
-/// How many words may stand at an address of the code.
+/// The largest number of words that an address of the code may have.
 const MOST_WORDS: u32 = 256;
 
-/// How many rows at one address are told apart by I where loops are unrolled.
+/// The largest number of rows at one address that are told apart by I, if loops are unrolled.
 const MOST_TURNS: u16 = 256;
 
-/// How a search goes.
+/// The manner of a search.
 #[derive(Clone, Copy)]
 struct Manner {
-    /// Sets grow to the next constant of the program once a row has grown often.
+    /// Whether sets grow to the next constant of the program once a row has grown often.
     hurries: bool,
-    /// Rows are told apart by I where it has one value, so that each turn of a loop that moves I has its own.
+    /// Whether rows are told apart by I if it has only one value, so that each turn of a loop that moves
+    /// I has its own row.
     unrolls: bool,
 }
 
-/// The manners that are tried, one after another, as long as a crash is left. A hurried search ends soon, but
-/// its sets may grow too far.
+/// The manners to try, one after another, as long as a crash isn't excluded. A hurried search ends soon,
+/// but its sets may grow too far.
 const MANNERS: [Manner; 3] = [
     Manner {
         hurries: true,
@@ -55,19 +56,20 @@ const MANNERS: [Manner; 3] = [
     },
 ];
 
-/// What a search notes of a row beside what the table has.
+/// The notes of a search about a row, in addition to the contents of the table.
 #[derive(Clone, Copy)]
 struct Note {
     /// The number of its call stack.
     stack: u32,
-    /// How often it has grown.
+    /// How often the row has grown.
     joins: u32,
-    /// The least and the greatest of the addresses that its steps load bytes from. None if the least is the larger one.
+    /// The least and the greatest address that its steps load bytes from. If the least is the larger one,
+    /// there are none.
     least: usize,
     greatest: usize,
 }
 
-/// A table that is being made.
+/// A table under construction.
 #[derive(Drop)]
 pub(crate) struct Search {
     alloc: Global,
@@ -77,15 +79,16 @@ pub(crate) struct Search {
     index: Index,
     stacks: Stacks,
     waiting: Waiting,
-    /// The addresses of bytes that have grown since the rows that ask for them were last said to wait.
+    /// The addresses of the bytes that have grown since the rows that need them were last made to wait.
     grown: IndexSet,
-    /// The constants of the program, and their neighbours, up to which sets grow in a hurry. `None` without hurry.
+    /// The constants of the program and their neighbours, up to which sets grow in a hurry. `None`
+    /// without hurry.
     marks: Option<ByteSet>,
-    /// How many rows at each address are told apart by I. Empty where loops aren't unrolled.
+    /// For each address, the number of rows that are told apart by I. Empty if loops aren't unrolled.
     turns: Vec<u16>,
 }
 
-/// What VF tells rows at one place apart by: 0, 1, or anything else.
+/// Returns the label by which VF tells rows at one place apart: 0, 1, or 2 for anything else.
 fn label(known: &Known) -> u32 {
     match block(&known.registers, 15) {
         [1, 0, 0, 0] => 0,
@@ -94,7 +97,7 @@ fn label(known: &Known) -> u32 {
     }
 }
 
-/// The call stack after a step.
+/// Returns the call stack after a step.
 fn frames_after(alloc: Global, frames: &[u16], way: Way) -> Result<Vec<u16>, AllocError> {
     match way {
         Way::Same => Vec::from_slice(alloc, frames),
@@ -110,14 +113,14 @@ fn frames_after(alloc: Global, frames: &[u16], way: Way) -> Result<Vec<u16>, All
     }
 }
 
-/// The only address of a set, if it has no other number.
+/// Returns the only address of a set, if the set has no other number.
 fn only_address(set: &IndexSet) -> Option<u32> {
     let first = next(set, 0);
     let is_alone = first < PAST && next(set, first + 1) > PAST;
     is_alone.then_some(first as u32)
 }
 
-/// How many bytes a set has.
+/// Returns the number of bytes of a set.
 fn count(set: &ByteSet) -> u32 {
     let mut count: u32 = 0;
     for word in set {
@@ -126,7 +129,7 @@ fn count(set: &ByteSet) -> u32 {
     count
 }
 
-/// The greatest number of a set, or 0.
+/// Returns the greatest number of a set, or 0.
 fn last(set: &IndexSet) -> usize {
     for back in 0..INDEX_WORDS {
         let word = set[INDEX_WORDS - 1 - back];
@@ -137,7 +140,7 @@ fn last(set: &IndexSet) -> usize {
     0
 }
 
-/// The least and the greatest of the addresses that an instruction loads bytes from.
+/// Returns the least and the greatest address that an instruction loads bytes from.
 fn loaded_from(instr: Instr, index: &IndexSet) -> (usize, usize) {
     match instr {
         Instr::LoadRegisters(x) => (
@@ -150,7 +153,7 @@ fn loaded_from(instr: Instr, index: &IndexSet) -> (usize, usize) {
 }
 
 impl Search {
-    /// A row waits to be stepped from.
+    /// Lets a row wait to be stepped from.
     fn wait(&mut self, number: usize) {
         if let Some(row) = self.table.rows.get(number)
             && let Ok(number) = u32::try_from(number)
@@ -159,7 +162,7 @@ impl Search {
         }
     }
 
-    /// Puts more into a row.
+    /// Adds what else may be known to a row.
     fn join(&mut self, number: usize, known: &Known) {
         let Some(row) = self.table.rows.get_mut(number) else {
             return;
@@ -180,7 +183,7 @@ impl Search {
         self.wait(number);
     }
 
-    /// Makes a row, which waits. Its number, or nothing where there is no room.
+    /// Adds a row, which waits. Returns its number, or `None` if there is no room.
     fn add_row(
         &mut self,
         place: Place,
@@ -209,7 +212,7 @@ impl Search {
         Ok(Some(number as u32))
     }
 
-    /// Where the row for a step's end is, with the number of its call stack.
+    /// Returns the place of the row for the end of a step, given the number of the call stack there.
     fn place_of(&mut self, stack: u32, successor: &Successor) -> Place {
         let flag = label(&successor.known);
         let mut place = Place {
@@ -221,7 +224,7 @@ impl Search {
             return place;
         };
         if let Some(address) = only_address(&successor.known.index) {
-            // 0 to 2 are the labels without an address.
+            // Labels 0 to 2 are without an address.
             place.label = address
                 .saturating_add(1)
                 .saturating_mul(4)
@@ -237,7 +240,8 @@ impl Search {
         place
     }
 
-    /// The row for where a step from a row leads, after that was put into it. Nothing where there is no room.
+    /// Returns the row that a step from a row leads to, after adding what is known there. Returns `None`
+    /// if there is no room.
     fn row_for(&mut self, from: usize, successor: &Successor) -> Result<Option<u32>, AllocError> {
         let Some(note) = self.notes.get(from) else {
             return Ok(None);
@@ -257,7 +261,7 @@ impl Search {
         self.add_row(place, frames, &successor.known)
     }
 
-    /// Takes over where a step from a row leads. Whether there is room.
+    /// Adds what a step from a row leads to. Returns whether there is room.
     fn lead(&mut self, from: usize, successor: &Successor) -> Result<bool, AllocError> {
         let Some(number) = self.row_for(from, successor)? else {
             return Ok(false);
@@ -270,7 +274,7 @@ impl Search {
         Ok(true)
     }
 
-    /// Puts into the memory what a step stores.
+    /// Adds the bytes that a step stores to the memory.
     fn store(&mut self, stored: &Stored) {
         let mut from = next(&stored.at, 0);
         while from <= PAST {
@@ -281,7 +285,7 @@ impl Search {
         }
     }
 
-    /// Puts bytes into the set of an address.
+    /// Adds bytes to the set of an address.
     fn store_at(&mut self, at: usize, values: &ByteSet) {
         for word in 0..4 {
             let place = at.saturating_mul(4).saturating_add(word);
@@ -297,7 +301,7 @@ impl Search {
         }
     }
 
-    /// Notes a stop among those before it, in the order of their addresses.
+    /// Adds a stop to those found before, in the order of their addresses.
     fn stop(&mut self, pc: u16, stop: Stop) -> Result<(), AllocError> {
         if self.table.has_left(pc, stop) {
             return Ok(());
@@ -310,7 +314,7 @@ impl Search {
         Ok(())
     }
 
-    /// What an instruction may do from a row.
+    /// Returns what an instruction may do from a row.
     fn outcome_of(&self, row: &Row, instr: Instr) -> Result<Option<Outcome>, AllocError> {
         if row.pc as usize > LAST_WORD || self.table.memory.len() != SETS_WORDS {
             return Ok(None);
@@ -325,7 +329,7 @@ impl Search {
         Ok(Some(before.execute(self.alloc, instr)?))
     }
 
-    /// Takes over what a word may do from a row. Whether there is room.
+    /// Adds what a word may do from a row. Returns whether there is room.
     fn take(&mut self, number: usize, word: u16) -> Result<bool, AllocError> {
         let Some(row) = self.table.rows.get(number) else {
             return Ok(true);
@@ -357,7 +361,7 @@ impl Search {
         Ok(true)
     }
 
-    /// The set of the byte at an address.
+    /// Returns the set of the byte at an address.
     fn bytes_at(&self, at: usize) -> ByteSet {
         if at < MEMORY_BYTES && self.table.memory.len() == SETS_WORDS {
             block(&self.table.memory, at)
@@ -366,7 +370,7 @@ impl Search {
         }
     }
 
-    /// Steps from a row. Whether there is room for where that leads.
+    /// Makes the steps from a row. Returns whether there is room for what they lead to.
     fn step_from(&mut self, number: usize) -> Result<bool, AllocError> {
         let Some(row) = self.table.rows.get(number) else {
             return Ok(true);
@@ -395,7 +399,7 @@ impl Search {
         Ok(true)
     }
 
-    /// Whether a row asks for a byte that has grown, one of its word or one that it loads.
+    /// Whether a row needs a byte that has grown, either one of its word or one that it loads.
     fn asks_for_grown(&self, number: usize) -> bool {
         let Some(row) = self.table.rows.get(number) else {
             return false;
@@ -407,7 +411,7 @@ impl Search {
             || next(&self.grown, note.least) <= note.greatest
     }
 
-    /// The rows that ask for a byte that has grown wait again. Whether some byte has.
+    /// Lets the rows that need a byte that has grown wait again. Returns whether any byte has grown.
     fn wait_for_grown(&mut self) -> bool {
         if next(&self.grown, 0) >= BYTES {
             return false;
@@ -421,8 +425,8 @@ impl Search {
         true
     }
 
-    /// Steps from all rows that wait, until none does. Whether that ended within a number of steps, and within
-    /// the room that there is.
+    /// Makes steps from all rows that wait, until none does. Returns whether that ended within the given
+    /// number of steps and within the available room.
     fn run(&mut self, most_steps: usize) -> Result<bool, AllocError> {
         for _ in 0..most_steps {
             match self.waiting.take() {
@@ -441,7 +445,7 @@ impl Search {
         Ok(false)
     }
 
-    /// A search that begins with the state before the first step.
+    /// Returns a search that begins with the state before the first step.
     fn new(
         alloc: Global,
         image: &[u8],
@@ -491,7 +495,7 @@ impl Search {
     }
 }
 
-/// The table of a search that ended.
+/// Returns the table of a search that ended.
 fn table_of(search: Search) -> Table {
     let Search {
         alloc: _,
@@ -508,7 +512,7 @@ fn table_of(search: Search) -> Table {
     table
 }
 
-/// How many of the stops that a table leaves are crashes.
+/// Returns how many of the stops that a table doesn't exclude are crashes.
 fn crashes(table: &Table) -> usize {
     let mut count: usize = 0;
     for left in &table.left {
@@ -519,8 +523,8 @@ fn crashes(table: &Table) -> usize {
     count
 }
 
-/// A table for an image, if the first manner finds one within a number of steps: the one that leaves the fewest
-/// crashes.
+/// Returns a table for an image, if the first manner finds one within a number of steps. Of the tables
+/// found, it is the one that leaves the fewest crashes.
 pub(crate) fn find(
     alloc: Global,
     image: &[u8],

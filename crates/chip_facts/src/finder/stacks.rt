@@ -1,21 +1,22 @@
-//! The call stacks of the rows of a search, each under a number, so that two are compared at once.
+//! The call stacks of the rows of a search. Each has a number, so that two are compared at once.
 
 use crate::outcome::Way;
 use std::alloc::{AllocError, Global};
 
-/// The number of no call stack.
+/// The number that stands for no call stack.
 const NO_STACK: u32 = u32::MAX;
 
-/// How many call stacks a search may have.
+/// The largest number of call stacks of a search.
 const MOST_STACKS: usize = 2_000;
 
 /// A call stack.
 #[derive(Clone, Copy)]
 struct Stack {
-    /// The call stack without the newest return address. The empty one is its own caller.
+    /// The number of the call stack without the newest return address. The empty one is its own caller.
     caller: u32,
     back: u16,
-    /// One that has a return address more, and another one of the same caller.
+    /// The number of a call stack with one more return address, and that of another call stack with the
+    /// same caller.
     callee: u32,
     other: u32,
 }
@@ -43,7 +44,7 @@ impl Stacks {
         self.list.get(number as usize).copied()
     }
 
-    /// The call stack after a step, or nothing where there is no room for it.
+    /// Returns the number of the call stack after a step, or `None` if there is no room for it.
     pub(crate) fn after(&mut self, number: u32, way: Way) -> Result<Option<u32>, AllocError> {
         match way {
             Way::Same => Ok(Some(number)),
@@ -52,7 +53,8 @@ impl Stacks {
         }
     }
 
-    /// The call stack with a return address more.
+    /// Returns the number of the call stack with one more return address, or `None` if there is no room
+    /// for it.
     fn called(&mut self, caller: u32, back: u16) -> Result<Option<u32>, AllocError> {
         let Some(first) = self.get(caller) else {
             return Ok(None);

@@ -1,14 +1,15 @@
-//! The rows that wait to be stepped from: one at the least address goes first, so that inner loops come to rest
-//! before what follows them.
+//! The rows that wait to be stepped from. A row at the least address goes first, so that inner loops come
+//! to rest before the code that follows them.
 
 use crate::bits::{insert, next, remove};
 use chip_lang::limits::MEMORY_BYTES;
 use std::alloc::{AllocError, Global};
 
-/// How many addresses rows may be at: those of the memory, and where a jump by a register may lead.
+/// The number of addresses that rows may be at: those of the memory, and those that a jump by a register
+/// may lead to.
 pub(crate) const PLACES: usize = MEMORY_BYTES + 512;
 
-/// The number of no row.
+/// The number that stands for no row.
 const NO_ROW: u32 = u32::MAX;
 
 /// The rows that wait to be stepped from.
@@ -21,7 +22,7 @@ pub(crate) struct Waiting {
     rows: Vec<Wait>,
 }
 
-/// Whether a row waits, and another one that waits at its address, or `NO_ROW`.
+/// Whether a row waits, and the number of another row that waits at its address, or `NO_ROW`.
 #[derive(Clone, Copy)]
 struct Wait {
     waits: bool,
@@ -37,7 +38,7 @@ impl Waiting {
         })
     }
 
-    /// There is one row more, which doesn't wait.
+    /// Adds a row, which doesn't wait.
     pub(crate) fn add(&mut self) -> Result<(), AllocError> {
         self.rows.push(Wait {
             waits: false,
@@ -46,7 +47,7 @@ impl Waiting {
         Ok(())
     }
 
-    /// A row at an address waits.
+    /// Lets a row at an address wait.
     pub(crate) fn put(&mut self, pc: u16, number: u32) {
         let Some(first) = self.first.get_mut(pc as usize) else {
             return;
@@ -63,7 +64,7 @@ impl Waiting {
         insert(&mut self.places, pc as usize);
     }
 
-    /// A row that waits at the least address, which doesn't wait then any more.
+    /// Returns a row that waits at the least address, and removes it from the waiting ones.
     pub(crate) fn take(&mut self) -> Option<u32> {
         let pc = next(&self.places, 0);
         let first = self.first.get_mut(pc)?;
