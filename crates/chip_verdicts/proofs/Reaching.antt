@@ -1,4 +1,4 @@
--- What is never met, in runs.
+-- Runs in which a target is never met.
 use Rattle.std.proofs.Common.{ℕ, zero, suc, Bool, List}
 use Rattle.chip_explore.specs.Speeds.{run_ticking}
 use Rattle.chip_facts.specs.Reached.{IsByteTape, IsReached}

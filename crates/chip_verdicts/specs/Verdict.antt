@@ -2,8 +2,8 @@
 -- Source: chosen by this project.
 --     NeverMet        no state that the image comes to meets the target, whichever keys are down, whichever
 --                     bytes are drawn, and whenever the timers tick
---     AvoidsAll       the law: then the target is avoided up to each step under each key script, at any rate
---                     and with any tape of bytes
+--     AvoidsAll       the law: a target that is never met is avoided up to each step under each key script, at
+--                     any rate and with any tape of bytes
 --     AvoidsAtAll     the law: the same at any speed
 use Rattle.std.specs.Prelude.{◌≡◌, ℕ, List, None}
 use Rattle.chip_machine.specs.State.{State}

@@ -1,2 +1,2 @@
--- What private contracts say: what may be in the states of a row.
+-- The meaning of private contracts: what is possible in the states of a row.
 pub mod Possible

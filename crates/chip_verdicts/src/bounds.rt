@@ -1,4 +1,4 @@
-//! What bounds of two numbers say of a relation between them.
+//! Relations between two numbers of which only bounds are known.
 
 ghost use Rattle.std.specs.Prelude.{◌≡◌, ◌==◌, ℕ, nat_lt};
 ghost use Rattle.chip_explore.specs.Property.{is_related};
@@ -7,7 +7,7 @@ ghost use Rattle.chip_verdicts.specs.inner.Possible.{IsPossible, IsWithin};
 use crate::possible::Possible;
 use chip_explore::Relation;
 
-/// Bounds of a number, which it may have itself.
+/// Bounds of a number. The number may be equal to a bound.
 #[derive(Clone, Copy)]
 pub(crate) struct Bounds {
     pub(crate) least: u128,
@@ -15,7 +15,7 @@ pub(crate) struct Bounds {
 }
 
 impl Bounds {
-    /// The bounds of one number alone.
+    /// Returns the bounds of a number that is known exactly.
     pub(crate) fn exactly(number: u128) -> Bounds
         ensures { IsWithin result number }
     {
@@ -25,7 +25,7 @@ impl Bounds {
         }
     }
 
-    /// Whether a number may be less than another one.
+    /// Returns the possible results of the test whether a number is less than another one.
     fn is_less(self, other: Bounds) -> Possible
         ensures { (a b : ℕ) → IsWithin self a → IsWithin other b → IsPossible result (nat_lt a b) }
     {
@@ -35,7 +35,7 @@ impl Bounds {
         }
     }
 
-    /// Whether a number may be the same as another one.
+    /// Returns the possible results of the test whether two numbers are equal.
     fn is_equal(self, other: Bounds) -> Possible
         ensures { (a b : ℕ) → IsWithin self a → IsWithin other b → IsPossible result (a == b) }
     {
@@ -46,7 +46,7 @@ impl Bounds {
     }
 }
 
-/// Whether two numbers may be so related.
+/// Returns the possible results of the test whether two numbers are in a relation.
 pub(crate) fn related(relation: Relation, left: Bounds, right: Bounds) -> Possible
     ensures { (a b : ℕ) → IsWithin left a → IsWithin right b
         → IsPossible result (is_related relation a b) }
@@ -61,7 +61,7 @@ pub(crate) fn related(relation: Relation, left: Bounds, right: Bounds) -> Possib
     }
 }
 
-/// The same relation, seen from the other side.
+/// Returns the relation with its sides exchanged.
 pub(crate) fn mirrored(relation: Relation) -> Relation
     ensures { (a b : ℕ) → is_related result b a ≡ is_related relation a b }
 {

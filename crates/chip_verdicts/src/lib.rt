@@ -1,4 +1,4 @@
-//! What facts exclude of the targets of a search.
+//! Finds out which targets of a search the facts exclude.
 #![tactic(auto)]
 
 mod bounds;

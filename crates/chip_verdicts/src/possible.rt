@@ -1,23 +1,23 @@
-//! What a test may result in, where several states are possible.
+//! The possible results of a test, if several states are possible.
 
 ghost use Rattle.std.specs.Prelude.{◌&&◌, ◌||◌, Bool, not};
 ghost use Rattle.chip_verdicts.specs.inner.Possible.{IsPossible};
 
-/// Which results a test may have in several states.
+/// The results that a test may have in several states.
 #[derive(Clone, Copy)]
 pub(crate) struct Possible {
     pub(crate) may_hold: bool,
     pub(crate) may_fail: bool,
 }
 
-/// No result: there is no state.
+/// No result, because there is no state.
 pub(crate) const NEITHER: Possible = Possible {
     may_hold: false,
     may_fail: false,
 };
 
 impl Possible {
-    /// The results of the opposite test.
+    /// Returns the results of the opposite test.
     pub(crate) fn negated(self) -> Possible
         ensures { (test : Bool) → IsPossible self test → IsPossible result (not test) }
     {
@@ -27,7 +27,7 @@ impl Possible {
         }
     }
 
-    /// The results of the test whether both hold.
+    /// Returns the results of the test whether both tests hold.
     pub(crate) fn and(self, other: Possible) -> Possible
         ensures { (one two : Bool) → IsPossible self one → IsPossible other two
             → IsPossible result (one && two) }
@@ -38,7 +38,7 @@ impl Possible {
         }
     }
 
-    /// The results of the test whether one of both holds at least.
+    /// Returns the results of the test whether at least one of both tests holds.
     pub(crate) fn or(self, other: Possible) -> Possible
         ensures { (one two : Bool) → IsPossible self one → IsPossible other two
             → IsPossible result (one || two) }
@@ -49,7 +49,7 @@ impl Possible {
         }
     }
 
-    /// The results of a test in the states of both.
+    /// Returns the results of a test in the states of both.
     pub(crate) fn united(self, other: Possible) -> Possible
         ensures first { (test : Bool) → IsPossible self test → IsPossible result test }
         ensures second { (test : Bool) → IsPossible other test → IsPossible result test }

@@ -11,7 +11,7 @@ use crate::possible::{NEITHER, Possible};
 use crate::view::View;
 use chip_explore::{Comparison, Condition, Item, Property, Relation, Sum, Term};
 
-/// A value, so many times.
+/// Returns a factor times a value.
 fn product(factor: u32, value: u16) -> u64
     ensures value { result ≡ factor * value }
     ensures small { result < 2 ^ 48 }
@@ -19,7 +19,7 @@ fn product(factor: u32, value: u16) -> u64
     u64::from(factor) * u64::from(value)
 }
 
-/// The term of a sum that has no other.
+/// Returns the only term of a sum, or `None` if it hasn't exactly one.
 fn only_term(sum: &Sum) -> Option<&Term>
     ensures { IfSome result (λ term. sum.now.terms.items ≡ term.now ∷ []) }
 {
@@ -29,7 +29,7 @@ fn only_term(sum: &Sum) -> Option<&Term>
     }
 }
 
-/// The first item that a comparison names, if it names one.
+/// Returns the first item that a comparison names, or `None` if it names none.
 fn first_item(comparison: &Comparison) -> Option<&Item> {
     match (&comparison.left.terms[..], &comparison.right.terms[..]) {
         ([term, ..], _) | (_, [term, ..]) => Some(&term.item),
@@ -38,7 +38,7 @@ fn first_item(comparison: &Comparison) -> Option<&Item> {
 }
 
 impl View<'_> {
-    /// A number that a sum is at least.
+    /// Returns a lower bound of a sum.
     fn least_sum(&self, sum: &Sum) -> u128
         ensures { (s : State) → IsSeen self.now s → result ≤ sum_in s sum.now }
     {
@@ -49,7 +49,7 @@ impl View<'_> {
         total
     }
 
-    /// A number that a sum is at most.
+    /// Returns an upper bound of a sum.
     fn most_sum(&self, sum: &Sum) -> u128
         ensures { (s : State) → IsSeen self.now s → sum_in s sum.now ≤ result }
     {
@@ -60,7 +60,7 @@ impl View<'_> {
         total
     }
 
-    /// The bounds of a sum.
+    /// Returns the bounds of a sum.
     fn bounds(&self, sum: &Sum) -> Bounds
         ensures { (s : State) → IsSeen self.now s → IsWithin result (sum_in s sum.now) }
     {
@@ -70,7 +70,8 @@ impl View<'_> {
         }
     }
 
-    /// The results that the comparison of a constant and a term with a number may have, by each value of the term.
+    /// Returns the possible results of comparing a constant plus a term with a number, by trying each
+    /// value of the term's item.
     fn term_related(
         &self,
         constant: u32,
@@ -93,7 +94,8 @@ impl View<'_> {
         possible
     }
 
-    /// The results that the comparison of two sums may have. Where a side is one term, each value of it is tried.
+    /// Returns the possible results of comparing two sums. If a side has only one term, tries each value
+    /// of its item.
     fn sums_related(&self, left: &Sum, relation: Relation, right: &Sum) -> Possible
         ensures { (s : State) → IsSeen self.now s
             → IsPossible result (is_related relation (sum_in s left.now) (sum_in s right.now)) }
@@ -109,7 +111,7 @@ impl View<'_> {
         }
     }
 
-    /// The results that a comparison may have.
+    /// Returns the possible results of a comparison.
     fn compared(&self, comparison: &Comparison) -> Possible
         ensures { (s : State) → IsSeen self.now s
             → IsPossible result (compares s comparison.now) }
@@ -117,7 +119,7 @@ impl View<'_> {
         self.sums_related(&comparison.left, comparison.relation, &comparison.right)
     }
 
-    /// The results of the test whether all comparisons hold.
+    /// Returns the possible results of the test whether all comparisons hold.
     fn all_hold(&self, comparisons: &[Comparison]) -> Possible
         ensures { (s : State) → IsSeen self.now s
             → IsPossible result (list_all (compares s) comparisons.now) }
@@ -132,7 +134,7 @@ impl View<'_> {
         possible
     }
 
-    /// The results of the test whether one comparison holds at least.
+    /// Returns the possible results of the test whether at least one comparison holds.
     fn any_holds(&self, comparisons: &[Comparison]) -> Possible
         ensures { (s : State) → IsSeen self.now s
             → IsPossible result (list_any (compares s) comparisons.now) }
@@ -147,7 +149,7 @@ impl View<'_> {
         possible
     }
 
-    /// The results that a condition may have.
+    /// Returns the possible results of a condition.
     fn holds(&self, condition: &Condition) -> Possible
         ensures { (s : State) → IsSeen self.now s
             → IsPossible result (holds_in s condition.now) }
@@ -159,7 +161,7 @@ impl View<'_> {
         }
     }
 
-    /// Whether a property is asked in the row.
+    /// Whether a property with this place is evaluated in the row.
     fn is_asked(&self, place: Option<u16>) -> bool
         ensures { (s : State) → IsSeen self.now s → is_at place s.core.pc ≡ true → IsTrue result }
     {
@@ -169,7 +171,7 @@ impl View<'_> {
         }
     }
 
-    /// Whether the condition of a property may be as it is looked for.
+    /// Whether the condition of a property may hold or fail, whichever is wanted.
     fn may_be_wanted(&self, property: &Property) -> bool
         ensures { (s : State) → IsSeen self.now s → is_as_wanted s property.now ≡ true → IsTrue result }
     {
@@ -181,8 +183,8 @@ impl View<'_> {
         }
     }
 
-    /// Whether the condition of a property may be as it is looked for, where an item has one of its values. Each
-    /// value is tried, so comparisons of the item in several places are taken together.
+    /// Whether the condition of a property may hold or fail, whichever is wanted, while an item has one of
+    /// its values. Tries each value, so all comparisons that name the item are evaluated with the same value.
     fn may_be_wanted_by(&self, property: &Property, item: &Item) -> bool
         ensures { (s : State) → IsSeen self.now s → is_as_wanted s property.now ≡ true → IsTrue result }
     {
@@ -197,7 +199,7 @@ impl View<'_> {
         }
         false
     }
-    /// Whether a property may be met.
+    /// Whether a property may be met in a state of the view.
     pub(crate) fn may_meet(&self, property: &Property) -> bool
         ensures { (s : State) → IsSeen self.now s → is_met s property.now ≡ true → IsTrue result }
     {

@@ -15,8 +15,8 @@ use crate::view::view_of;
 use chip_explore::{Causes, Property, Target};
 use chip_facts::{Facts, Left, Row};
 
-/// Whether facts exclude a target: with any keys, any random bytes and any ticks, no state of the machine meets
-/// it. Where the answer is `false`, the target may still never be met.
+/// Whether facts exclude a target: with any keys, any random bytes and any ticks, no state of the machine
+/// meets it. If the answer is `false`, the target may still never be met.
 pub fn excludes(facts: &Facts, target: &Target<'_>) -> bool
     ensures { IsTrue result → (image : List ℕ) (quirks : Quirks)
         → HoldFacts image quirks facts.now → NeverMet image quirks target.now }
@@ -39,7 +39,7 @@ fn has_wanted(left: &[Left], causes: Causes) -> bool
     false
 }
 
-/// Whether no step is made at the address, or there is none.
+/// Whether no step is ever made at the address, or there is no address.
 fn is_never_at(executed: &[bool], address: Option<u16>) -> bool
     ensures { IsTrue result → (pc : ℕ) → is_among executed.now pc ≡ true → is_address address pc ≡ false }
 {

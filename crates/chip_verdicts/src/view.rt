@@ -1,4 +1,4 @@
-//! Which values an item of a property may have in the states of a row.
+//! The values that an item of a property may have in the states of a row.
 
 ghost use Rattle.std.specs.Prelude.{◌≡◌, ◌≤◌, IfSome, IsTrue, MatchOption};
 ghost use Rattle.chip_machine.specs.State.{State};
@@ -9,24 +9,24 @@ ghost use Rattle.chip_verdicts.specs.inner.Possible.{IsSeen};
 use chip_explore::Item;
 use chip_facts::{Facts, Row};
 
-/// A value that an item has.
+/// An item with its value.
 #[derive(Clone, Copy)]
 pub(crate) struct Fixed {
     pub(crate) item: Item,
     pub(crate) value: u16,
 }
 
-/// The states of a row of the table of facts, or those of them in which an item has one value.
+/// The states of a row of the table of facts, or only those of them in which an item has one value.
 #[derive(Clone, Copy)]
 pub(crate) struct View<'f> {
     pub(crate) facts: &'f Facts,
     pub(crate) row: &'f Row,
-    /// How many calls are open in the row.
+    /// The number of open calls in the row.
     pub(crate) depth: u16,
     pub(crate) fixed: Option<Fixed>,
 }
 
-/// The view of a row, if it isn't too deep for one.
+/// Returns the view of a row, or `None` if its call stack is too deep for one.
 pub(crate) fn view_of<'f>(facts: &'f Facts, row: &'f Row) -> Option<View<'f>>
     ensures { (s : State) → IsInRow facts.now row.now s
         → MatchOption result (Unit {0}) (λ view. IsSeen view s) }
@@ -44,7 +44,7 @@ pub(crate) fn view_of<'f>(facts: &'f Facts, row: &'f Row) -> Option<View<'f>>
 }
 
 impl<'f> View<'f> {
-    /// The states in which an item has this value.
+    /// Returns the view of the states in which an item has this value.
     pub(crate) fn fixed_at(&self, item: &Item, value: u16) -> View<'f>
         ensures { (s : State) → IsSeen self.now s → value_in s item.now ≡ value → IsSeen result s }
     {
@@ -56,7 +56,7 @@ impl<'f> View<'f> {
         }
     }
 
-    /// The value of an item, if it has one alone.
+    /// Returns the value of an item, if it is fixed.
     fn fixed_value(&self, item: &Item) -> Option<u16>
         ensures { IfSome result (λ value. (s : State) → IsSeen self.now s → value_in s item.now ≡ value) }
     {
@@ -82,7 +82,7 @@ impl<'f> View<'f> {
         }
     }
 
-    /// Whether an item may have a value.
+    /// Whether an item may have a value in a state of the view.
     pub(crate) fn may_be(&self, item: &Item, value: u16) -> bool
         ensures { (s : State) → IsSeen self.now s → value_in s item.now ≡ value → IsTrue result }
     {
@@ -92,7 +92,7 @@ impl<'f> View<'f> {
         }
     }
 
-    /// A number that the value of an item doesn't pass in any state of the row.
+    /// Returns a number that the value of an item doesn't exceed in any state of the row.
     fn limit(&self, item: &Item) -> u16
         ensures { (s : State) → IsSeen self.now s → value_in s item.now ≤ result }
     {
@@ -106,7 +106,7 @@ impl<'f> View<'f> {
         }
     }
 
-    /// A number that each value of an item is at least, by trying those from 0 on.
+    /// Returns a lower bound of the values of an item, by trying values from 0 up.
     fn least_tried(&self, item: &Item) -> u16
         ensures { (s : State) → IsSeen self.now s → result ≤ value_in s item.now }
     {
@@ -118,7 +118,7 @@ impl<'f> View<'f> {
         u16::MAX
     }
 
-    /// A number that each value of an item is at most, by trying those from its limit down.
+    /// Returns an upper bound of the values of an item, by trying values from its limit down.
     fn most_tried(&self, item: &Item) -> u16
         ensures { (s : State) → IsSeen self.now s → value_in s item.now ≤ result }
     {
@@ -132,7 +132,7 @@ impl<'f> View<'f> {
         0
     }
 
-    /// A number that each value of an item is at least.
+    /// Returns a lower bound of the values of an item.
     pub(crate) fn least(&self, item: &Item) -> u16
         ensures { (s : State) → IsSeen self.now s → result ≤ value_in s item.now }
     {
@@ -142,7 +142,7 @@ impl<'f> View<'f> {
         }
     }
 
-    /// A number that each value of an item is at most.
+    /// Returns an upper bound of the values of an item.
     pub(crate) fn most(&self, item: &Item) -> u16
         ensures { (s : State) → IsSeen self.now s → value_in s item.now ≤ result }
     {

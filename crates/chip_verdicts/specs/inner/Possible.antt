@@ -1,9 +1,8 @@
--- What may be in several states.
+-- Possible values and results, for a state that is one of several.
 --     IsPossible      a test may have this result
 --     IsWithin        a number lies within bounds
 --     IsSeen          a state is one of those of a view
---     is_as_wanted    whether the condition of a property holds where that is looked for, or doesn't where
---                     that is
+--     is_as_wanted    whether the condition of a property holds or fails, whichever is wanted
 use Rattle.std.specs.Prelude.{◌≡◌, ℕ, ◌≤◌, Bool, true, IfSome, length, not, if◌then◌else◌}
 use Rattle.chip_machine.specs.State.{State}
 use Rattle.chip_explore.specs.Property.{holds_in, value_in}
