@@ -1,3 +1,3 @@
--- What of a source is executed (own).
---     Marks     its listing with a mark at each line that is
+-- The lines of a source that are executed (chosen by this project).
+--     Marks     the listing of a source with a mark at each line that is executed
 pub mod Marks

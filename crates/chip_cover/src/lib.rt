@@ -1,4 +1,4 @@
-//! What of a source is executed: its listing with marks.
+//! The listing of a source with a mark at each line that is executed.
 #![tactic(auto)]
 
 mod marks;

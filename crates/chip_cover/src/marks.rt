@@ -7,8 +7,8 @@ use chip_asm::{LineView, Source};
 use chip_explore::Executed;
 use std::alloc::{AllocError, Global};
 
-/// The listing of a source with `+ ` before each line with bytes at whose address a step is made,
-/// and two spaces before each other line.
+/// Returns the listing of a source. A line that has bytes and at whose address a step is made gets
+/// `+ ` before it, and every other line gets two spaces.
 ///
 /// # Errors
 ///
@@ -30,7 +30,7 @@ pub fn marked_listing(
     Ok(text)
 }
 
-/// Adds the listing's line for a line, after its mark.
+/// Adds the mark of a line, and then its row of the listing.
 fn push_marked(
     text: &mut Vec<u8>,
     line: &LineView<'_>,
