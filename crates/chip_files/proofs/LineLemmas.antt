@@ -1,4 +1,4 @@
--- The first line of bytes, and the lines after it.
+-- The first line of some bytes, and the lines after it.
 use Rattle.std.proofs.Common.{◌≡◌, ℕ, ◌<◌, ◌≤◌, ◌==◌, Bool, true, false, cond, List, [], ◌∷◌, length, refl, ap, sym, ◌∙◌, arith, ne_eqb}
 use Rattle.std.specs.List.{slice_split, onto_first, position_or_len, before_first, after_first, All}
 use Rattle.std.specs.Str.Lines.{lines, lines_of_parts, strip_carriage_return}
@@ -26,7 +26,7 @@ filled : (bytes : List ℕ) → Filled (slice_split is_newline bytes)
 filled [] = record { first = []; others = []; is = refl }
 filled (x ∷ xs) = filled_cond (is_newline x) _ _ (record { first = []; others = slice_split is_newline xs; is = refl }) (filled_first x (slice_split is_newline xs))
 
--- a first line that a newline ends
+-- the lines of bytes whose first line is ended by a newline
 pub ended_line : (bytes : List ℕ) → position_or_len is_newline bytes < length bytes →
     lines bytes ≡ strip_carriage_return (before_first is_newline bytes) ∷ lines (after_first is_newline bytes)
 ended_line bytes h =
@@ -38,7 +38,7 @@ not_empty : (bytes : List ℕ) → 0 < length bytes → cond (length bytes == 0)
 not_empty [] h = absurd (omega arith)
 not_empty (x ∷ xs) h = let e : (length (x ∷ xs) == 0) ≡ false = ne_eqb (length (x ∷ xs)) 0 (λ k. omega arith) in rw e refl
 
--- the only line
+-- the lines of bytes without a newline: only one
 pub last_line : (bytes : List ℕ) → 0 < length bytes → length bytes ≤ position_or_len is_newline bytes → lines bytes ≡ bytes ∷ []
 last_line bytes some h =
     let none : All (λ b. is_newline b ≡ false) bytes =

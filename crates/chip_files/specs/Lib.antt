@@ -1,3 +1,4 @@
--- What the contracts of chip_files speak of (own).
---     KeyLines     the lines of a file of key events, as lines of a script
+-- The definitions that the contracts of chip_files use.
+-- Source: chosen by this project.
+--     KeyLines     the lines of a file of key events, as commands of a script
 pub mod KeyLines

@@ -1,4 +1,4 @@
-//! A file that is written atomically.
+//! Writing a file atomically.
 ghost use Rattle.std.specs.Prelude.{OnOk};
 ghost use Rattle.std.specs.Io.KnownBytes.{Appends};
 
@@ -10,24 +10,27 @@ use std::path::{Path, PathBuf};
 use std::rt::Files;
 use std::{fs, io};
 
-// How many links are followed, one after another: as many as Linux follows.
+// The number of links that are followed one after another: as many as Linux follows.
 const MOST_LINKS: u32 = 40;
 
-/// The name of the standard input, in the place of a file's.
+/// The name that stands for the standard input in a list of file names.
 pub const STANDARD_INPUT: &str = "/dev/stdin";
 
-/// Writes the file of a name whole. On an error it is as it was, or there is none, as before. A
-/// file of the names in `taken`, which the command reads or has written, isn't written, and neither is
-/// one that is the standard input, where `taken` has `STANDARD_INPUT`.
+/// Writes `bytes` to the file `name` atomically. After an error, the file has its old content, or is
+/// still missing if there was none before.
 ///
-/// The bytes go to a new file in the same folder, `chipbench.part1`, say, which gets the name once
-/// they are on the disk, and which is taken away on an error. A file of that name is replaced if it
-/// may be written, and its permissions are kept. Where the name is a link, what it leads to is
-/// replaced or made.
+/// The names in `taken` are those of files that the command reads or has written. Such a file isn't
+/// written: the call fails with `InvalidInput`. If `taken` contains `STANDARD_INPUT`, the same is true
+/// of the file that is the standard input.
 ///
-/// What a new file can't stand for is written in place, and some bytes may have gone there before
-/// an error: a file of several names or of another owner, and what is not a file, such as a
-/// terminal or a pipe.
+/// The bytes go to a new file in the same folder, for example `chipbench.part1`. Once they are on the
+/// disk, that file is renamed to `name`; after an error it is removed. An existing file is replaced
+/// only if it may be written, and its permissions are kept. If `name` is a link, the file that it leads
+/// to is replaced or created.
+///
+/// Some files can't be replaced by a new one, so they are written in place, and an error may leave some
+/// of the bytes in them: a file with several names, a file of another owner or group, and anything
+/// that isn't a regular file, such as a terminal or a pipe.
 pub fn write_file<F: Files>(
     alloc: Global,
     files: &F,
@@ -46,7 +49,7 @@ pub fn write_file<F: Files>(
     }
 }
 
-// Writes where something of that name is open.
+// Writes the bytes to a file that exists and is open as `old`: replaces it, or writes it in place.
 fn write_over<F: Files>(
     alloc: Global,
     files: &F,
@@ -76,7 +79,7 @@ fn write_over<F: Files>(
     }
 }
 
-// Whether this is told of a file of one of these names.
+// Whether the open file, whose metadata is given, is one of the files in `taken`.
 fn is_taken<F: Files>(files: &F, taken: &[Option<&str>], open: &Metadata) -> io::Result<bool> {
     for name in taken {
         if let Some(name) = name
@@ -88,8 +91,9 @@ fn is_taken<F: Files>(files: &F, taken: &[Option<&str>], open: &Metadata) -> io:
     Ok(false)
 }
 
-// Whether this is told of what has that name. The standard input has it only where it is a file: a terminal
-// is read and written, and a system may not tell what it is.
+// Whether the open file, whose metadata is given, has that name. The standard input counts only if it is a
+// file, because a terminal is both read and written. If the system doesn't tell what the standard input is,
+// the answer is no.
 fn is_named<F: Files>(files: &F, name: &str, open: &Metadata) -> io::Result<bool> {
     let is_input = name == STANDARD_INPUT;
     match fs::metadata(files, name) {
@@ -99,13 +103,14 @@ fn is_named<F: Files>(files: &F, name: &str, open: &Metadata) -> io::Result<bool
     }
 }
 
-// Whether both tell of one file, by whatever names. A file system that isn't the system's has no
-// numbers.
+// Whether both are the metadata of one file, under whatever names. A file system other than that of the
+// operating system has no inode numbers, so none of its files count as one.
 fn is_same(one: &Metadata, other: &Metadata) -> bool {
     one.ino() != 0 && one.ino() == other.ino() && one.dev() == other.dev()
 }
 
-// The name that a name leads to, link after link. There needn't be anything of that name.
+// The name that a name leads to when each link is followed. A file of that name need not exist. Fails with
+// `FilesystemLoop` after `MOST_LINKS` links.
 fn followed<F: Files>(alloc: Global, files: &F, name: &str) -> io::Result<PathBuf> {
     let mut place = PathBuf::from_str(alloc, name)?;
     for _ in 0..MOST_LINKS {
@@ -120,7 +125,7 @@ fn followed<F: Files>(alloc: Global, files: &F, name: &str) -> io::Result<PathBu
     Err(io::Error::from(ErrorKind::FilesystemLoop))
 }
 
-// Whether what has that name is the open file that tells this of itself.
+// Whether the name `place` is that of the open file, whose metadata is given, and not of a link to it.
 fn leads_to<F: Files>(files: &F, place: &str, open: &Metadata) -> bool {
     match fs::symlink_metadata(files, place) {
         Ok(metadata) => is_same(&metadata, open),
@@ -141,7 +146,7 @@ fn write_in_place<F: OpenFile + Write + Drop>(mut file: F, bytes: &[u8]) -> io::
     file.sync_all()
 }
 
-// A new file beside another, with its own name.
+// A new file with a name of its own, in the folder of the file that it will replace or become.
 #[derive(Drop)]
 struct Part<F: Drop> {
     name: PathBuf,
@@ -149,7 +154,8 @@ struct Part<F: Drop> {
 }
 
 impl<F: OpenFile + Write + Drop> Part<F> {
-    // No file that was there is opened, so what a killed run left stays, and is in nobody's way.
+    // Creates the first of `chipbench.part1`, `chipbench.part2` and so on that doesn't exist. A file that
+    // exists is never opened, so one that a killed run left behind stays there and is in nobody's way.
     fn new<S: Files<File = F>>(alloc: Global, files: &S, place: &str) -> io::Result<Self> {
         for number in 1..=u32::MAX {
             let own_name = format!(in alloc; "chipbench.part{number}")?;
@@ -174,7 +180,7 @@ impl<F: OpenFile + Write + Drop> Part<F> {
         let _ = fs::remove_file(files, &self.name);
     }
 
-    // Makes it the file of the bytes, and gives it the name.
+    // Writes the bytes to the new file and renames it to `place`, or removes it on an error.
     fn put<S: Files>(
         self,
         files: &S,
@@ -196,13 +202,13 @@ impl<F: OpenFile + Write + Drop> Part<F> {
     }
 }
 
-// Writes the bytes down to the disk, and closes the file.
+// Writes the bytes to the disk and closes the file.
 fn fill<F: OpenFile + Write + Drop>(
     mut file: F,
     permissions: Option<Permissions>,
     bytes: &[u8],
 ) -> io::Result<()> {
-    // Nobody may read the bytes who may not read the file.
+    // Set the permissions first, so that only those who may read the old file can read the bytes.
     if let Some(permissions) = permissions {
         file.set_permissions(permissions)?;
     }
@@ -210,8 +216,8 @@ fn fill<F: OpenFile + Write + Drop>(
     file.sync_all()
 }
 
-// Brings the new name down to the disk, where the system lets a folder be synced. The file is
-// written either way.
+// Writes the new name to the disk, if the system lets a folder be synced. Errors are ignored, because the
+// file is written either way.
 fn sync_folder<F: Files>(files: &F, place: &str) {
     let folder = match Path::new(place).parent() {
         Some(folder) if !folder.as_str().is_empty() => folder.as_str(),

@@ -7,7 +7,8 @@ ghost use Rattle.chip_files.specs.KeyLines.{is_space, is_key_letter, key_command
 use memchr::memchr;
 use std::alloc::{AllocError, Global};
 
-/// The first line of some bytes, and what follows it.
+/// Returns the first line of some bytes and the bytes that follow it. The line comes without the newline
+/// that ends it, and without a carriage return before that newline.
 pub fn first_line(bytes: &[u8]) -> (&[u8], &[u8])
     requires { 0 < length bytes.now }
     ensures first { lines bytes.now ≡ result.0.now ∷ lines result.1.now }
@@ -21,9 +22,10 @@ pub fn first_line(bytes: &[u8]) -> (&[u8], &[u8])
     }
 }
 
-/// The line of a script that does what a line of the file says: a line `S K down` or `S K up` is
-/// `kins S K down` or `kins S K up`. K may be a letter A to F too, of either case, before which the
-/// script's line has a `#`. A semicolon begins a comment, and a line may be blank.
+/// Returns the command of a script for a line of the file: `kins S K down` for `S K down`, and
+/// `kins S K up` for `S K up`. K may also be a letter A to F, in either case, which gets a `#` before it
+/// in the command. A semicolon begins a comment. A line that is blank or only a comment gives an empty
+/// command.
 ///
 /// # Errors
 ///
@@ -43,7 +45,7 @@ pub fn key_command(alloc: Global, line: &[u8]) -> Result<Vec<u8>, AllocError>
     Ok(command)
 }
 
-// Adds a text that begins with a key, with `#` before it where the key is a letter.
+// Adds a text that begins with a key, with `#` before it if the key is a letter.
 #[tactic(auto, unfolding(crate::specs::KeyLines::with_sign))]
 fn push_key(command: &mut Vec<u8>, text: &[u8]) -> Result<(), AllocError>
     ensures { OnOk result (command.new.items ≡ command.old.items ++ with_sign text.now) }
@@ -55,7 +57,7 @@ fn push_key(command: &mut Vec<u8>, text: &[u8]) -> Result<(), AllocError>
     Ok(())
 }
 
-// Whether a word is one letter A to F, of either case.
+// Whether a word is one letter A to F, in either case.
 #[tactic(auto, unfolding(crate::specs::KeyLines::is_key_letter))]
 fn is_key_letter(word: &[u8]) -> bool
     ensures { result ≡ is_key_letter word.now }
@@ -66,7 +68,7 @@ fn is_key_letter(word: &[u8]) -> bool
     }
 }
 
-// A text from its second word on.
+// The part of a text from its second word on; empty if it has no second word.
 #[tactic(auto, unfolding(crate::specs::KeyLines::from_second_word))]
 fn from_second_word(text: &[u8]) -> &[u8]
     ensures value { result.now ≡ from_second_word text.now }
@@ -75,7 +77,7 @@ fn from_second_word(text: &[u8]) -> &[u8]
     skip_spaces(skip_word(skip_spaces(text)))
 }
 
-// A text from its first byte on that is no space.
+// A text without the spaces at its start.
 fn skip_spaces(text: &[u8]) -> &[u8]
     ensures value { result.now ≡ skip_spaces text.now }
     ensures within { length result.now ≤ length text.now }
@@ -87,7 +89,7 @@ fn skip_spaces(text: &[u8]) -> &[u8]
     rest
 }
 
-// A text from its first space on.
+// The part of a text from its first space on; empty if it has no space.
 fn skip_word(text: &[u8]) -> &[u8]
     ensures value { result.now ≡ skip_word text.now }
     ensures within { length result.now ≤ length text.now }
@@ -95,14 +97,14 @@ fn skip_word(text: &[u8]) -> &[u8]
     &text[place_of(b' ', text)..]
 }
 
-// What a line says, without its comment.
+// The part of a line before its comment.
 fn said(line: &[u8]) -> &[u8]
     ensures { result.now ≡ said line.now }
 {
     &line[..place_of(b';', line)]
 }
 
-// Whether a text is of spaces alone.
+// Whether a text consists of spaces only.
 fn is_blank(text: &[u8]) -> bool
     ensures { result ≡ list_all is_space text.now }
 {
@@ -119,7 +121,7 @@ fn without_carriage_return(line: &[u8]) -> &[u8]
     }
 }
 
-// Where a byte stands first, or the length where it stands nowhere.
+// The place where a byte first occurs in a text, or the text's length if it doesn't occur.
 fn place_of(wanted: u8, text: &[u8]) -> usize
     ensures value { result ≡ position_or_len (λ byte. byte == wanted) text.now }
     ensures within { result ≤ length text.now }

@@ -1,4 +1,4 @@
-//! Files of the program: how one is read, how one is written, and the lines of a file of key events.
+//! The program's files: reading a file, writing one, and the lines of a file of key events.
 #![tactic(auto)]
 
 mod image_file;

@@ -1,4 +1,4 @@
-//! The bytes of a file or of a stream, up to a number.
+//! Reading a file or a stream, up to a number of bytes.
 ghost use Rattle.std.specs.Prelude.{◌≡◌, ◌++◌, IfOk, IfSome, OnOk, take};
 
 use std::alloc::Global;
@@ -7,12 +7,13 @@ use std::io::Read;
 use std::rt::Files;
 use std::{fs, io};
 
-/// What the file of a name has, up to `most` bytes.
+/// Returns the contents of the file `name`, up to `most` bytes.
 pub fn read_file<F: Files>(alloc: Global, files: &F, name: &str, most: u32) -> io::Result<Vec<u8>> {
     read_whole(alloc, fs::open(files, name)?, most)
 }
 
-/// That there is a folder of a name, or why none is found.
+/// Succeeds if `name` is a folder. Fails with `NotADirectory` if it is something else, and with the
+/// system's error if it can't be found.
 pub fn find_folder<F: Files>(files: &F, name: &str) -> io::Result<()> {
     if fs::metadata(files, name)?.is_dir() {
         Ok(())
@@ -21,7 +22,8 @@ pub fn find_folder<F: Files>(files: &F, name: &str) -> io::Result<()> {
     }
 }
 
-// What a file has. Room for it is taken at once, where the file tells its length.
+// Returns the contents of a file, up to `most` bytes. If the file tells its length, memory for all of them is
+// allocated at once.
 fn read_whole<F: OpenFile + Read + Drop>(alloc: Global, file: F, most: u32) -> io::Result<Vec<u8>>
     ensures { IfOk result (λ bytes. IfSome (F.remaining file)
         (λ all. bytes.items ≡ take most all)) }
@@ -30,13 +32,13 @@ fn read_whole<F: OpenFile + Read + Drop>(alloc: Global, file: F, most: u32) -> i
         Ok(metadata) => metadata.len().min(u64::from(most)),
         Err(_) => 0,
     };
-    // One byte more, so that its end is found without another allocation.
+    // Allocate one byte more, so that reading finds the end of the file without another allocation.
     let mut bytes = Vec::with_capacity(alloc, length as usize + 1)?;
     read_most(file, &mut bytes, most)?;
     Ok(bytes)
 }
 
-/// Appends what a reader has, up to `most` bytes.
+/// Appends the contents of a reader to `bytes`, up to `most` bytes.
 pub fn read_most<R: Read + Drop>(reader: R, bytes: &mut Vec<u8>, most: u32) -> io::Result<()>
     ensures { OnOk result (IfSome (R.remaining reader)
         (λ all. bytes.new.items ≡ bytes.old.items ++ take most all)) }
