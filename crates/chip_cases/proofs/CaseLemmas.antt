@@ -1,4 +1,4 @@
--- The cases of a file, from its parts.
+-- Lemmas that put the cases of a file together from its parts.
 use Rattle.std.proofs.Common.{◌≡◌, ◌==◌, inl, inr, ℕ, true, false, List, [], ◌∷◌, ◌++◌, append-nil, length, map, refl, sym, ap, ◌∙◌, subst, arith, eqb-true}
 use Rattle.std.specs.Str.Lines.{lines}
 use Rattle.chip_cases.specs.Cases.{AreCases, AreCasesBehind, AreCasesOf, behind_setup, behind_steps}
@@ -17,7 +17,7 @@ one_case text commands case old cases added nothing same named steps none =
     subst (λ behind. AreCasesBehind behind cases) same
     (inl (record { case = case; alone = added ∙ ap (λ xs. xs ++ case ∷ []) nothing; is_case = record { named = named; steps = steps }; no_other = none }))
 
--- a file with some
+-- a file with lines `case`
 pub some_cases : (text : List ℕ) (commands : List (List ℕ)) (steps : List Step) (cases : List Case) → commands ≡ behind_setup false (lines text)
     → map expectation_of steps ≡ steps_below commands → steps ≡ [] → AreCasesOf (behind_steps (behind_setup false (lines text))) (cases ++ [])
     → AreCases text cases

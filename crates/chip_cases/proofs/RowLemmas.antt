@@ -1,4 +1,4 @@
--- The comparison of lines, by the ends of the answered ones.
+-- Lemmas on the comparison of lines by rows, which have a bit for each end of the answered lines.
 use Rattle.std.proofs.Common.{◌≡◌, ◌≢◌, ◌⊎◌, inl, inr, ℕ, zero, suc, ◌+◌, ◌-◌, ◌<◌, ◌≤◌, ◌&&◌, ◌||◌, Bool, true, false, Bor, List, [], ◌∷◌, ◌++◌, drop, length, get_or, refl, sym, ap, ◌∙◌, subst, arith, drop-cons, length-append}
 use Rattle.std.specs.Prelude.{◌↔◌}
 use Rattle.std.specs.Str.{bytes_eq}
@@ -9,7 +9,7 @@ use Rattle.chip_cases.specs.Matching.{Matches, any_lines, texts}
 use Rattle.chip_cases.specs.inner.Rows.{IsRow, stands_for}
 
 module _ (line : List ℕ) (others : List (List ℕ)) where
-  -- `...` before no lines, before others, and before one line more
+  -- `...` against no answered lines, against some, and against one line more
   any_nil : Matches (line ∷ others) [] → Matches others []
   any_nil ([], (rest, split, stands, m)) = subst (Matches others) (sym split) m
   any_nil (p ∷ ps, (rest, split, stands, m)) = cc
@@ -24,7 +24,7 @@ module _ (line : List ℕ) (others : List (List ℕ)) where
   any_later : (x : List ℕ) (xs : List (List ℕ)) → line ≡ any_lines → Matches (line ∷ others) xs → Matches (line ∷ others) (x ∷ xs)
   any_later x xs is (part, (rest, split, stands, m)) = (x ∷ part, (rest, ap (λ l. x ∷ l) split, inl is, m))
 
-  -- another line
+  -- an expected line other than `...`
   one_nil : line ≢ any_lines → Matches (line ∷ others) [] → ⊥
   one_nil other (part, (rest, split, inl is, m)) = other is
   one_nil other (part, (rest, split, inr alone, m)) = let e : [] ≡ line ∷ rest = split ∙ ap (λ p. p ++ rest) alone in cc
@@ -125,7 +125,7 @@ row_begins line others answered behind some is =
     at zero h = subst (λ xs. (bit ≡ true) ↔ Matches (line ∷ others) xs) (sym (nothing_left answered)) first
     at (suc count) h = absurd (omega arith)
 
--- and each further one
+-- each further bit of the row with one expected line more
 pub row_goes_on : (line first : List ℕ) (others answered : List (List ℕ)) (behind row : List Bool) (count : ℕ) → 0 < count → count < length behind
     → length behind ≡ length answered + 1 → length row ≡ count → get_or answered (length answered - count) [] ≡ first
     → IsRow others answered behind → IsRow (line ∷ others) answered row
@@ -185,7 +185,7 @@ last_bit row bit count long =
     let none : count - count ≡ 0 = omega arith in
     sym (ap (λ n. get_or (row ++ bit ∷ []) n false) same ∙ get_or-append_right row (bit ∷ []) count count false long (omega arith) ∙ ap (λ n. get_or (bit ∷ []) n false) none)
 
--- the expected lines from one before on
+-- The expected lines from `left - 1` on are line `left - 1` and the expected lines from `left` on.
 pub drop_before : (lines : List (Bor (List ℕ))) (left : ℕ) (nothing : Bor (List ℕ)) → 0 < left → left ≤ length lines
     → drop (left - 1) (texts lines) ≡ (get_or lines (left - 1) nothing).now ∷ drop left (texts lines)
 drop_before lines left nothing some within =

@@ -1,4 +1,4 @@
--- What a line of a file of cases is, by itself (own).
+-- The kinds of lines in a file of cases, as far as the line alone tells (chosen by this project).
 use Rattle.std.specs.Prelude.{ℕ, ◌==◌, ◌||◌, Bool, true, List, [], ◌∷◌, codes}
 use Rattle.std.specs.List.{after_first, before_first}
 use Rattle.std.specs.Str.{bytes_eq}
@@ -6,36 +6,36 @@ use Rattle.std.specs.Str.{bytes_eq}
 abbrev pub is_space : ℕ → Bool
 is_space byte = byte == 32
 
--- what stands before the first space
+-- the bytes before the first space
 abbrev pub first_word : List ℕ → List ℕ
 first_word line = before_first is_space line
 
--- what stands after it
+-- the bytes after the first space
 abbrev pub other_words : List ℕ → List ℕ
 other_words line = after_first is_space line
 
--- an empty line, or a comment, which begins with `#`
+-- whether a line is empty or a comment, which begins with `#`
 abbrev pub is_skipped : List ℕ → Bool
 is_skipped [] = true
 is_skipped (byte ∷ line) = byte == 35
 
--- a command of which a refusal is expected
+-- whether a line is a command for which a refusal is expected
 abbrev pub is_refused : List ℕ → Bool
 is_refused line = bytes_eq (first_word line) (codes "!")
 
--- a command
+-- whether a line is a command
 abbrev pub is_command : List ℕ → Bool
 is_command line = bytes_eq (first_word line) (codes ">") || is_refused line
 
--- the first line of a case
+-- whether a line is the first one of a case
 abbrev pub is_case : List ℕ → Bool
 is_case line = bytes_eq (first_word line) (codes "case")
 
--- a line at which what stands above it ends
+-- whether a line ends the part above it
 abbrev pub begins_part : List ℕ → Bool
 begins_part line = is_command line || is_case line
 
--- the line before those of a source, and the line behind them
+-- whether a line is the one before the lines of a source, and whether it is the one after them
 abbrev pub begins_source : List ℕ → Bool
 begins_source line = bytes_eq line (codes "source")
 

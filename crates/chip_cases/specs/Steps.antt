@@ -1,4 +1,4 @@
--- The commands of a case, and what is expected below each (own).
+-- The commands of a case, and the lines that are expected below each (chosen by this project).
 use Rattle.std.specs.Prelude.{ℕ, Bool, List, [], ◌∷◌, if◌then◌else◌}
 use Rattle.chip_cases.specs.Lines.{begins_part, is_case, is_command, is_refused, is_skipped, other_words}
 use Rattle.chip_cases.specs.Matching.{texts}
@@ -17,7 +17,7 @@ expectation_of step = record {
   expected = texts step.expected.items;
 }
 
--- what is expected by the lines below a command: those up to the next command or case, without
+-- the expected lines among the lines below a command: those up to the next command or case, without
 -- comments and empty lines
 abbrev pub expected_below : List (List ℕ) → List (List ℕ)
 expected_below [] = []
@@ -25,7 +25,7 @@ expected_below (line ∷ lines) =
     if begins_part line then []
     else if is_skipped line then expected_below lines else line ∷ expected_below lines
 
--- a command's line, with those below it
+-- the expectation of a command's line, from the lines below it
 abbrev pub expectation : List ℕ → List (List ℕ) → Expectation
 expectation line below = record {
   command = other_words line;
@@ -33,7 +33,7 @@ expectation line below = record {
   expected = expected_below below;
 }
 
--- the commands of a case, from its lines: those up to the next case
+-- the commands among some lines, up to the next case
 abbrev pub steps_below : List (List ℕ) → List Expectation
 steps_below [] = []
 steps_below (line ∷ lines) =

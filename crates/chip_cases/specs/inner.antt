@@ -1,2 +1,2 @@
--- What private contracts say.
+-- Definitions of private contracts.
 pub mod Rows

@@ -1,4 +1,4 @@
-//! Why a file is not one of cases.
+//! The faults of a file of cases.
 
 ghost use Rattle.std.specs.Prelude.{◌≡◌};
 ghost use Rattle.chip_cases.specs.declared.fault.FileFault.TheVariants.{OutOfMemory};
@@ -9,33 +9,33 @@ use thiserror::Error;
 /// Why a line of a file of cases can't be read.
 #[derive(Clone, Copy, Debug, Error)]
 pub enum CaseFault {
-    /// A line before a case's first command is neither a setting nor anything else known.
+    /// A line before the first command of a case has none of the known forms, such as a setting.
     #[error("expected a setting, as in `rate 10`, or a command, as in `> image` (a comment begins with `#`)")]
     UnknownLine,
-    /// The lines of a source end with the file.
+    /// No line `end` follows a line `source`.
     #[error("no `end` follows")]
     NoEnd,
-    /// A line `case` names none.
+    /// A line `case` gives no name.
     #[error("a case without a name")]
     NoName,
-    /// Commands stand before the first line `case`.
+    /// Commands come before the first line `case`.
     #[error("commands stand before the first case")]
     EarlyCommands,
     /// The file has no command and no line `case`.
     #[error("there is no case")]
     NoCase,
-    /// Below `>` a refusal is expected.
+    /// A refusal is expected for a command with the mark `>`.
     #[error("a refusal is expected of this command: begin it with `!`")]
     Refusal,
-    /// Below `!` stands no refusal.
+    /// No refusal is expected for a command with the mark `!`.
     #[error("no refusal is expected of this command: begin it with `>`")]
     NoRefusal,
 }
 
-/// Why a file is not one of cases.
+/// Why the cases of a file can't be read.
 #[derive(Clone, Copy)]
 pub enum FileFault {
-    /// The line of that number, from 1.
+    /// A fault of the line with this number, from 1.
     Line(usize, CaseFault),
     OutOfMemory,
 }

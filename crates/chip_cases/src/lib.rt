@@ -1,4 +1,4 @@
-//! Files of cases: sessions of the workbench, each with the answers that are expected.
+//! Files of cases, which are sessions of the workbench together with the answers that are expected.
 #![tactic(auto)]
 
 mod case;

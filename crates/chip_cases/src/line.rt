@@ -1,10 +1,10 @@
-//! What a line of a file of cases is, by itself.
+//! The kinds of lines in a file of cases, as far as the line alone tells.
 
 ghost use Rattle.std.specs.Prelude.{◌≡◌, ◌≤◌, length};
 ghost use Rattle.std.specs.List.{after_first, before_first, position_or_len};
 ghost use Rattle.chip_cases.specs.Lines.{begins_part, is_case, is_command, is_skipped, is_space, is_refused};
 
-/// An empty line, or a comment.
+/// Whether a line is empty or a comment, which begins with `#`.
 pub(crate) fn is_skipped(line: &[u8]) -> bool
     ensures { result ≡ is_skipped line.now }
 {
@@ -14,7 +14,7 @@ pub(crate) fn is_skipped(line: &[u8]) -> bool
     }
 }
 
-/// A command: `> COMMAND` or `! COMMAND`.
+/// Whether a line is a command: `> COMMAND` or `! COMMAND`.
 pub(crate) fn is_command(line: &[u8]) -> bool
     ensures { result ≡ is_command line.now }
 {
@@ -22,28 +22,29 @@ pub(crate) fn is_command(line: &[u8]) -> bool
     mark == b">".as_slice() || mark == b"!".as_slice()
 }
 
-/// Whether the mark of a command says that a refusal is expected.
+/// Whether the first word of a line is `!`, the mark of a command for which a refusal is expected.
 pub(crate) fn is_refused(line: &[u8]) -> bool
     ensures { result ≡ is_refused line.now }
 {
     split_word(line).0 == b"!".as_slice()
 }
 
-/// The first line of a case: `case NAME`.
+/// Whether a line is the first one of a case: `case NAME`.
 pub(crate) fn is_case(line: &[u8]) -> bool
     ensures { result ≡ is_case line.now }
 {
     split_word(line).0 == b"case".as_slice()
 }
 
-/// A line at which what stands above it ends: a command, or the first line of a case.
+/// Whether a line ends the part above it: it is a command, or the first line of a case.
 pub(crate) fn begins_part(line: &[u8]) -> bool
     ensures { result ≡ begins_part line.now }
 {
     is_command(line) || is_case(line)
 }
 
-/// What stands before the first space, and what stands after it.
+/// Returns the bytes before the first space and the bytes after it. Without a space, these are the
+/// whole line and nothing.
 pub(crate) fn split_word(line: &[u8]) -> (&[u8], &[u8])
     ensures word { result.0.now ≡ before_first is_space line.now }
     ensures rest { result.1.now ≡ after_first is_space line.now }
@@ -56,7 +57,7 @@ pub(crate) fn split_word(line: &[u8]) -> (&[u8], &[u8])
     }
 }
 
-// Where the first space stands, or the length where there is none.
+// The index of the first space, or the length of the line if there is no space.
 fn word_len(line: &[u8]) -> usize
     ensures value { result ≡ position_or_len is_space line.now }
     ensures within { result ≤ length line.now }

@@ -1,4 +1,4 @@
-//! The comparison of an answer with what is expected.
+//! The comparison of an answer with the lines that are expected.
 
 ghost use Rattle.std.specs.Prelude.{◌≡◌, ℕ, ◌+◌, ◌&&◌, List, [], ◌∷◌, ◌↔◌, IsTrue, IfOk, length, vec_len};
 ghost use Rattle.std.specs.Str.{bytes_eq};
@@ -11,8 +11,8 @@ use std::alloc::{AllocError, Global};
 // The line that stands for any lines.
 const ANY_LINES: &[u8] = b"...";
 
-/// Whether an answer is as expected: line for line, where `...` stands for any lines, and where an
-/// empty line of the answer does not count.
+/// Whether an answer is as expected, line for line. An expected line `...` stands for any number of
+/// lines, and empty lines of the answer do not count.
 ///
 /// # Errors
 ///
@@ -25,13 +25,13 @@ pub fn is_answered(alloc: Global, expected: &[&[u8]], answer: &[u8]) -> Result<b
     is_match(alloc, expected, &answered)
 }
 
-/// Whether an answer is a refusal, `no CODE`. Of the other answers only that of `syms` can begin so,
-/// and it ends with a line that is a full stop.
+/// Whether an answer is a refusal, `no CODE`. Only the answer to `syms` can also begin with `no `, and
+/// that answer ends with a line that is a full stop.
 pub fn is_refusal(answer: &[u8]) -> bool {
     answer.starts_with(b"no ") && !answer.ends_with(b".\n")
 }
 
-/// The lines of an answer, without empty ones.
+/// Returns the lines of an answer, without empty ones.
 pub(crate) fn lines_that_count<'a>(
     alloc: Global,
     answer: &'a [u8],
@@ -50,8 +50,8 @@ pub(crate) fn lines_that_count<'a>(
     Ok(counted)
 }
 
-// Whether lines are as expected. The row says of each end of the answered lines, by how many lines it
-// has, whether it is as the expected lines from one on say; it begins behind the last of these.
+// Whether the answered lines are as expected. Bit N of `row` says whether the last N answered lines are
+// as expected from some expected line on. The loop takes the expected lines from the last to the first.
 fn is_match(alloc: Global, expected: &[&[u8]], answered: &[&[u8]]) -> Result<bool, AllocError>
     ensures { IfOk result (λ is_match.
         IsTrue is_match ↔ Matches (texts expected.now) (texts answered.now)) }
@@ -66,7 +66,7 @@ fn is_match(alloc: Global, expected: &[&[u8]], answered: &[&[u8]]) -> Result<boo
     Ok(bits[answered.len()])
 }
 
-// The row behind all expected lines: only the end without lines is as expected.
+// Returns the row for the place after all expected lines, where only an end without lines is as expected.
 fn last_row(alloc: Global, answered: &[&[u8]]) -> Result<Vec<bool>, AllocError>
     ensures row { IfOk result (λ row. IsRow [] (texts answered.now) row.items) }
     ensures whole { IfOk result (λ row. vec_len row ≡ length answered.now + 1) }
@@ -79,7 +79,7 @@ fn last_row(alloc: Global, answered: &[&[u8]]) -> Result<Vec<bool>, AllocError>
     Ok(row)
 }
 
-// The row with one expected line more, by the row behind it.
+// Returns the row from the expected line `line` on; `behind` is the row from the next expected line on.
 fn row_before(
     alloc: Global,
     line: &[u8],
@@ -103,16 +103,17 @@ fn row_before(
     Ok(row)
 }
 
-// Whether no lines are as expected from `line` on, where `is_behind` says it from the next line on.
+// Whether an end without lines is as expected from `line` on; `is_behind` says whether it is from the
+// next expected line on.
 fn is_nothing_expected(line: &[u8], is_behind: bool) -> bool
     ensures { result ≡ (bytes_eq line.now any_lines && is_behind) }
 {
     line == ANY_LINES && is_behind
 }
 
-// Whether an end of the answered lines that begins with `first` is as expected from `line` on:
-// `is_later` says it of the end without `first`; `is_behind` and `is_next` say of both ends whether
-// they are as expected from the line after `line` on.
+// Whether an end of the answered lines that begins with `first` is as expected from `line` on.
+// `is_later` says this of the end without `first`. `is_behind` and `is_next` say whether the end with
+// `first` and the end without it are as expected from the line after `line` on.
 fn stands_for(line: &[u8], first: &[u8], is_later: bool, is_behind: bool, is_next: bool) -> bool
     ensures { result ≡ stands_for line.now first.now is_later is_behind is_next }
 {

@@ -5,17 +5,17 @@ ghost use Rattle.std.specs.Str.Lines.{lines};
 
 use chip_files::first_line;
 
-/// What follows a line of a file.
+/// A place in a file: after one of its lines, or before the first.
 #[derive(Clone, Copy)]
 pub(crate) struct Place<'a> {
-    /// The bytes that follow it.
+    /// The bytes of the file after this place.
     pub(crate) rest: &'a [u8],
-    /// The line's number, from 1.
+    /// The number of the line before this place, from 1; 0 before the first line.
     pub(crate) number: usize,
 }
 
 impl<'a> Place<'a> {
-    /// Before the first line.
+    /// Returns the place before the first line.
     pub(crate) fn start(text: &'a [u8]) -> Place<'a>
         ensures { result.rest.now ≡ text.entry.now }
     {
@@ -25,7 +25,7 @@ impl<'a> Place<'a> {
         }
     }
 
-    /// The next line, and the place behind it.
+    /// Returns the next line and the place after it.
     pub(crate) fn next_line(self) -> (&'a [u8], Place<'a>)
         requires { 0 < length self.rest.now }
         ensures first { lines self.entry.rest.now ≡ result.0.now ∷ lines result.1.rest.now }

@@ -1,4 +1,4 @@
-//! The cases of a file.
+//! Reads the cases of a file.
 
 ghost use Rattle.std.specs.Prelude.{◌≡◌, ◌≤◌, true, false, [], ◌∷◌, ◌++◌, IfOk, OnOk, length, map};
 ghost use Rattle.std.specs.Str.Lines.{lines};
@@ -12,12 +12,13 @@ use crate::line::{begins_part, is_case, is_command, is_refused, is_skipped, spli
 use crate::place::Place;
 use std::alloc::{AllocError, Global};
 
-/// The cases of a file, in their order. What stands before the first line `case` holds for each
-/// case that does not say otherwise; a file without such a line is one case.
+/// Returns the cases of a file, in their order. The source, key events and settings before the first
+/// line `case` hold for each case, unless the case gives its own. A file without such a line is one
+/// case.
 ///
 /// # Errors
 ///
-/// The first line that can't be read, or that memory ran out.
+/// A line that can't be read, with its fault; or out of memory.
 pub fn read_cases<'a>(alloc: Global, text: &'a [u8]) -> Result<Vec<Case<'a>>, FileFault>
     ensures { IfOk result (λ cases. AreCases text.entry.now cases.items) }
 {
@@ -68,8 +69,9 @@ fn push_case<'a>(cases: &mut Vec<Case<'a>>, case: Case<'a>) -> Result<(), AllocE
     Ok(())
 }
 
-/// The first command whose mark is not that of its answer, with its line: below `!` one line is
-/// expected, a refusal, and below `>` no refusal.
+/// Returns the line number of the first command whose mark doesn't fit its expected answer, with the
+/// fault. The expected answer to a command with `!` has to be one line, a refusal, and that to a
+/// command with `>` must not be a refusal.
 pub fn misplaced_refusal(cases: &[Case<'_>]) -> Option<(usize, CaseFault)> {
     for case in cases {
         for step in &case.steps {
@@ -87,8 +89,8 @@ pub fn misplaced_refusal(cases: &[Case<'_>]) -> Option<(usize, CaseFault)> {
     None
 }
 
-// The source, key events and settings that the next lines give, where `common` stands for what they
-// don't; and the place before the first command or case.
+// Returns the source, key events and settings of the next lines, and those of `common` where these
+// lines give none; and the place before the first command or case.
 fn read_setup<'a>(begun: Place<'a>, common: Setup<'a>) -> Result<(Setup<'a>, Place<'a>), FileFault>
     ensures behind { IfOk result (λ read. lines read.1.rest.now
         ≡ behind_setup false (lines begun.entry.rest.now)) }
@@ -116,7 +118,7 @@ fn read_setup<'a>(begun: Place<'a>, common: Setup<'a>) -> Result<(Setup<'a>, Pla
     Ok((setup, place))
 }
 
-// The lines up to `end`, and the place behind it.
+// Returns the lines before the line `end`, and the place after it. Fails if no such line follows.
 fn read_source<'a>(begun: Place<'a>) -> Result<(&'a [u8], Place<'a>), FileFault>
     ensures behind { IfOk result (λ read. behind_setup false (lines read.1.rest.now)
         ≡ behind_setup true (lines begun.entry.rest.now)) }
@@ -135,7 +137,7 @@ fn read_source<'a>(begun: Place<'a>) -> Result<(&'a [u8], Place<'a>), FileFault>
     Err(FileFault::Line(begun.number, CaseFault::NoEnd))
 }
 
-// The setup with a line that gives a setting, or a file.
+// Returns the setup with the setting or the file of a line. Fails if the line gives neither.
 fn with_line<'a>(setup: Setup<'a>, text: &'a [u8], line: usize) -> Result<Setup<'a>, FileFault> {
     let (word, value) = split_word(text);
     let given = Some(Placed { line, text: value });
@@ -167,7 +169,8 @@ fn with_line<'a>(setup: Setup<'a>, text: &'a [u8], line: usize) -> Result<Setup<
     Ok(with)
 }
 
-// The commands up to the next case, each with what is expected below it; and the place behind them.
+// Returns the commands up to the next case, each with the lines that are expected below it; and the
+// place after them.
 fn read_steps<'a>(alloc: Global, begun: Place<'a>) -> Result<(Vec<Step<'a>>, Place<'a>), AllocError>
     ensures steps { IfOk result (λ read.
         map expectation_of read.0.items ≡ steps_below (lines begun.entry.rest.now)) }
@@ -192,7 +195,8 @@ fn read_steps<'a>(alloc: Global, begun: Place<'a>) -> Result<(Vec<Step<'a>>, Pla
     Ok((steps, place))
 }
 
-// Adds the command of a line, with what is expected below it, and gives the place behind that.
+// Adds the command of a line with the lines that are expected below it, and returns the place after
+// these lines.
 fn push_step<'a>(
     alloc: Global,
     steps: &mut Vec<Step<'a>>,
@@ -219,8 +223,8 @@ fn push_step<'a>(
     Ok(place)
 }
 
-// The lines up to the next command or case, without comments and empty lines; and the place behind
-// them.
+// Returns the lines up to the next command or case, without comments and empty lines; and the place
+// after them.
 fn read_expected<'a>(
     alloc: Global,
     begun: Place<'a>,

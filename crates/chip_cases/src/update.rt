@@ -1,10 +1,10 @@
-//! A file of cases with other answers.
+//! Replaces the expected answers in a file of cases.
 
 use crate::line::{begins_part, is_command, is_skipped};
 use crate::place::Place;
 use std::alloc::{AllocError, Global};
 
-/// An answer that was given to a command.
+/// The answer that a command got.
 #[derive(Drop)]
 pub struct Given {
     /// The number of the command's line, from 1.
@@ -14,9 +14,10 @@ pub struct Given {
     pub answer: Vec<u8>,
 }
 
-/// The text of a file of cases with these answers in the place of what is expected of their
-/// commands, which stand in the order of their lines. Each command gets the mark that its answer asks
-/// for. Comments and all other lines stay, in their order.
+/// Returns the text of a file of cases with these answers in place of the expected ones. The answers
+/// are in the order of the lines of their commands. Each command gets the mark that fits its answer in
+/// the new text: `!` for a refusal and `>` for any other answer. Comments and all other lines stay, in
+/// their order.
 ///
 /// # Errors
 ///
@@ -52,7 +53,7 @@ pub fn updated_text(alloc: Global, text: &[u8], given: &[Given]) -> Result<Vec<u
     Ok(updated)
 }
 
-// Whether the lines below a command expect a refusal: one line, which is one.
+// Whether exactly one line is expected below a command, and that line is a refusal.
 fn expects_refusal(below: Place<'_>) -> bool {
     let mut count = 0;
     let mut is_refusal = false;
@@ -71,7 +72,7 @@ fn expects_refusal(below: Place<'_>) -> bool {
     is_refusal
 }
 
-// Adds a command's line, with `!` where its answer is a refusal and else with `>`.
+// Adds the line of a command, with the mark `!` if its answer is a refusal and `>` otherwise.
 fn push_marked(updated: &mut Vec<u8>, whole: &[u8], is_refused: bool) -> Result<(), AllocError> {
     updated.push(if is_refused { b'!' } else { b'>' })?;
     if let [_, rest @ ..] = whole {
@@ -80,7 +81,7 @@ fn push_marked(updated: &mut Vec<u8>, whole: &[u8], is_refused: bool) -> Result<
     Ok(())
 }
 
-// Adds a command's line with the mark that its answer asks for, and the answer without empty lines.
+// Adds the line of a command with the mark that fits its answer, and the answer without empty lines.
 fn push_answered(updated: &mut Vec<u8>, whole: &[u8], given: &Given) -> Result<(), AllocError> {
     push_marked(updated, whole, given.is_refused)?;
     push_newline(updated)?;
@@ -96,7 +97,7 @@ fn push_answered(updated: &mut Vec<u8>, whole: &[u8], given: &Given) -> Result<(
     Ok(())
 }
 
-// Ends a last line that no newline ends.
+// Adds a newline if the text doesn't end with one.
 fn push_newline(updated: &mut Vec<u8>) -> Result<(), AllocError> {
     match updated.last() {
         Some(b'\n') => {}
