@@ -70,30 +70,30 @@ static LINE_PAGES: [Page; 32] = [
     Page {
         code: "F1",
         title: "bad character",
-        meaning: "A byte begins no token, or a run of digits is not a number, such as `0x10` or `12A`.",
+        meaning: "A byte that begins no token, or digits that are no number, such as `0x10` or `12A`.",
         example: Example::Source("DB ?"),
-        fix: "Remove the byte. A hexadecimal number is `#10`, an octal one `@17`, a binary one `$1..1`; `;` begins a comment.",
+        fix: "Remove the byte. Write a hexadecimal number as `#10`, an octal one as `@17`, a binary one as `$1..1`, and begin a comment with `;`.",
     },
     Page {
         code: "F2",
         title: "unfinished string",
-        meaning: "A quote has no second quote on its line.",
+        meaning: "A quote without a second quote on its line.",
         example: Example::Source("DB 'ab"),
-        fix: "Put the same quote at the end of the text. A text has no escapes: one that holds a `'` stands in `\"`.",
+        fix: "Put the same quote at the end of the text. There are no escapes: put a text that contains `'` between `\"`.",
     },
     Page {
         code: "F3",
         title: "unknown word",
-        meaning: "A statement begins with a word that is neither an instruction nor a directive. A label without its colon is such a word.",
+        meaning: "A statement begins with a word that is neither an instruction nor a directive, such as a label without its colon.",
         example: Example::Source("FOO V0"),
-        fix: "Spell the word as docs/LANGUAGE.md has it, or put `:` after a label.",
+        fix: "Correct the spelling (docs/LANGUAGE.md lists the words), or put `:` after a label.",
     },
     Page {
         code: "F4",
         title: "operands don't fit",
-        meaning: "The operands fit no form of the instruction or directive: one too many or too few, a comma that is missing, or a register where a value belongs.",
+        meaning: "The operands fit no form of the instruction or directive. There may be one too many or too few, a missing comma, or a register instead of a value.",
         example: Example::Source("LD V0"),
-        fix: "Compare the line with the table of instructions in docs/MACHINE.md. Text of several bytes belongs in `DA 'text'`.",
+        fix: "Compare the line with the table of instructions in docs/MACHINE.md. Use `DA 'text'` for a text of several bytes.",
     },
     Page {
         code: "F5",
@@ -107,28 +107,28 @@ static LINE_PAGES: [Page; 32] = [
         title: "parentheses deeper than 16",
         meaning: "More than 16 parentheses are open at one place of a line.",
         example: Example::Source("DB (((((((((((((((((1)))))))))))))))))"),
-        fix: "Define a part of the expression by EQU, and use its name.",
+        fix: "Define a part of the expression with EQU, and use its name.",
     },
     Page {
         code: "F7",
         title: "name reserved or over 64 bytes",
-        meaning: "A line defines a word that the language has for itself, such as a register, or a name of over 64 bytes.",
+        meaning: "A line defines a reserved word, such as a register, or a name of over 64 bytes.",
         example: Example::Source("LD: CLS"),
         fix: "Use another name.",
     },
     Page {
         code: "F8",
         title: "name defined on an earlier line",
-        meaning: "Two lines define one name; upper and lower case are the same.",
+        meaning: "Two lines define the same name. Upper and lower case don't differ.",
         example: Example::Source("X EQU 1\nx EQU 2"),
         fix: "Give one of them another name.",
     },
     Page {
         code: "F9",
         title: "undefined name",
-        meaning: "A name has no value. EQU, ORG and DS use only names that earlier lines define.",
+        meaning: "A name has no value. EQU, ORG and DS can only use names that earlier lines define.",
         example: Example::Source("DB NONE"),
-        fix: "Define the name by a label or by EQU, or correct its spelling; for EQU, ORG and DS define it further up.",
+        fix: "Define the name with a label or EQU, or correct its spelling. For EQU, ORG and DS, define it further up.",
     },
     Page {
         code: "F10",
@@ -147,28 +147,28 @@ static LINE_PAGES: [Page; 32] = [
     Page {
         code: "F12",
         title: "overflow, or a shift outside 0 to 31",
-        meaning: "A result doesn't fit 32 bits with a sign, or `<` or `>` shifts by less than 0 or more than 31. `<` is a shift, and no comparison.",
+        meaning: "A result doesn't fit 32 bits with a sign, or `<` or `>` shifts by less than 0 or more than 31. `<` is a shift, not a comparison.",
         example: Example::Source("DW 1 < 31"),
         fix: "Correct the expression.",
     },
     Page {
         code: "F13",
         title: "ORG below the line's address",
-        meaning: "ORG goes back to an address that is passed already. The first address is 512.",
+        meaning: "ORG goes back to an earlier address. The first address is 512.",
         example: Example::Source("ORG 100"),
-        fix: "Use an address at or after the line's own, which the listing shows.",
+        fix: "Use an address at or after the address of the line, which the listing shows.",
     },
     Page {
         code: "F14",
         title: "past address 4096",
-        meaning: "The line would end above address 4096: an image has at most 3584 bytes.",
+        meaning: "The line would end above address 4096, because an image has at most 3584 bytes.",
         example: Example::Source("DS 3585"),
         fix: "Make the program smaller.",
     },
     Page {
         code: "F15",
         title: "stray ELSE or ENDIF",
-        meaning: "An ELSE or ENDIF has no IFDEF or IFUND before it, or it is the second ELSE of one.",
+        meaning: "An ELSE or ENDIF without an IFDEF or IFUND before it, or a second ELSE.",
         example: Example::Source("ENDIF"),
         fix: "Delete the line, or put its IFDEF or IFUND before it.",
     },
@@ -182,60 +182,60 @@ static LINE_PAGES: [Page; 32] = [
     Page {
         code: "F17",
         title: "not in this profile",
-        meaning: "A directive of the Chipper assembler that this one doesn't have: INCLUDE, UNDEF, or OPTION with another word.",
+        meaning: "A directive of the Chipper assembler that this assembler lacks: INCLUDE, UNDEF, or OPTION with another word.",
         example: Example::Source("INCLUDE 'x'"),
-        fix: "Replace each INCLUDE by the lines of its file.",
+        fix: "Replace each INCLUDE with the lines of its file.",
     },
     Page {
         code: "W1",
         title: "rows apart by a zero byte",
-        meaning: "Two lines of DB without a label between them have an odd number of bytes each. Under ALIGN ON, as at the start, a zero byte follows each of them, so a sprite of these rows has a dark row between.",
+        meaning: "Two lines of DB without a label between them have an odd number of bytes each. Under ALIGN ON, which is the default, a zero byte follows each of them, so a sprite of these rows has a dark row between them.",
         example: Example::Source(
             "LD I, BALL\nDRW V0, V1, 2\nSTOP: JP STOP\nBALL: DB $.1111...\nDB $.1111...",
         ),
-        fix: "Write the rows in one DB, or ALIGN OFF before them and ALIGN ON after them.",
+        fix: "Write the rows in one DB, or put ALIGN OFF before them and ALIGN ON after them.",
     },
     Page {
         code: "W2",
         title: "name never used",
-        meaning: "No expression, IFDEF or IFUND has a name that a label, EQU or DEFINE gives. A label where the program begins may be there for its reader, and so may a name that begins with `_`: neither has this warning.",
+        meaning: "A label, EQU or DEFINE defines a name, and no expression, IFDEF or IFUND uses it. A label at the beginning of the program, and a name that begins with `_`, may be there for the reader and have no warning.",
         example: Example::Source("STOP: JP STOP\nWIDTH EQU 64"),
-        fix: "Delete the name, correct the spelling where it was meant, or begin it with `_`.",
+        fix: "Delete the name, correct the spelling where you meant to use it, or begin it with `_`.",
     },
     Page {
         code: "W3",
         title: "instruction never reached",
-        meaning: "An instruction stands directly after JP, RET or EXIT, has no label, and no JP or CALL names its address. Nothing is said where a skip stands before the JP, after JP V0, or in a program that writes over its instructions.",
+        meaning: "An instruction follows directly after JP, RET or EXIT, has no label, and is never executed, for any keys, random bytes and speed. There is no warning if that can't be proved.",
         example: Example::Source("STOP: JP STOP\nCLS"),
         fix: "Delete the instruction, or put a label before it and jump there.",
     },
     Page {
         code: "W4",
         title: "execution runs into data",
-        meaning: "A line of DB, DA, DW or DS stands directly after an instruction that goes on there. The machine would take its bytes for instructions. DW with the word of an instruction is no such line.",
+        meaning: "A line of DB, DA, DW or DS follows directly after an instruction that goes on there, so the machine would execute its bytes. A DW with the word of an instruction has no warning.",
         example: Example::Source("LD I, BALL\nDRW V0, V1, 1\nBALL: DB $.1111..."),
-        fix: "Put a JP, a RET or an EXIT before the data.",
+        fix: "Put a JP, RET or EXIT before the data.",
     },
     Page {
         code: "W5",
         title: "jump to data",
-        meaning: "A JP or a CALL leads to a line of DB, DA, DW or DS. Nothing is said of DW with the word of an instruction, or where the program may write there.",
+        meaning: "A JP or CALL leads to a line of DB, DA, DW or DS. There is no warning for a DW with the word of an instruction, or if the program may write there.",
         example: Example::Source("JP START\nBALL: DB $.1111...\nSTART: LD I, BALL\nCALL BALL"),
         fix: "Use the label of an instruction.",
     },
     Page {
         code: "W6",
         title: "instruction at an odd address",
-        meaning: "Instructions belong at even addresses. This one stands at an odd one, after data of an odd number of bytes under ALIGN OFF, or after an ORG. Of several in a row the first has the warning.",
+        meaning: "Instructions belong at even addresses. This one has an odd address, after an odd number of data bytes under ALIGN OFF, or after an ORG. Only the first of several in a row has the warning.",
         example: Example::Source("JP START\nALIGN OFF\nBALL: DB $.1111...\nSTART: LD I, BALL"),
-        fix: "Write ALIGN ON before the data, or one byte more after it.",
+        fix: "Write ALIGN ON before the data, or add a byte after it.",
     },
     Page {
         code: "W7",
         title: "instruction that the profile lacks",
-        meaning: "The profile has no instructions of SUPER-CHIP alone, as vip and chip48, and this is one: SCD, SCR, SCL, EXIT, LOW, HIGH, LD HF, Vx, LD R, Vx or LD Vx, R. The machine stops there with S2.",
+        meaning: "The profile, vip or chip48, lacks the instructions that only SUPER-CHIP has: SCD, SCR, SCL, EXIT, LOW, HIGH, LD HF, Vx, LD R, Vx and LD Vx, R. The machine stops here with S2.",
         example: Example::Source("HIGH"),
-        fix: "Do without the instruction, or take the profile schip.",
+        fix: "Avoid the instruction, or use the profile schip.",
     },
     Page {
         code: "W8",
@@ -254,44 +254,44 @@ static LINE_PAGES: [Page; 32] = [
     Page {
         code: "P1",
         title: "property that states nothing",
-        meaning: "A line of `;!` has no condition and no place.",
+        meaning: "A line with `;!` has no condition and no place.",
         example: Example::Source("STOP: JP STOP\n;! always"),
         fix: "Write a condition, as in `;! always V0 <= 7`, or a place, as in `;! never at BUG`.",
     },
     Page {
         code: "P2",
         title: "comparison expected",
-        meaning: "A property goes on in a way that it can't: a comparison, a value or a place is missing, a second relation follows a comparison, `and` stands beside `or`, or a token is bad. Equal is `=`, unequal `<>` or `!=`.",
+        meaning: "A property goes on in a way that it can't: a comparison, a value or a place is missing, a second relation follows a comparison, `and` stands beside `or`, or a token is bad. Write `=` for equal, and `<>` or `!=` for unequal.",
         example: Example::Source("STOP: JP STOP\n;! 0 < V0 < 5"),
-        fix: "Write two comparisons, as in `;! 0 < V0 and V0 < 5`. A calculation with names and numbers stands in parentheses.",
+        fix: "Write two comparisons, as in `;! 0 < V0 and V0 < 5`. Put a calculation with names and numbers in parentheses.",
     },
     Page {
         code: "P3",
         title: "undefined name in a property",
         meaning: "A name in a property has no value.",
         example: Example::Source("STOP: JP STOP\n;! never V0 = 1 at STOPP"),
-        fix: "Correct its spelling, or define it by a label or by EQU.",
+        fix: "Correct its spelling, or define it with a label or EQU.",
     },
     Page {
         code: "P4",
         title: "value out of range in a property",
         meaning: "A value is below 0, the numbers of a sum have over 32 bits together, an address is above 4095, or a pixel is off the screen: columns go to 127, rows to 63.",
         example: Example::Source("STOP: JP STOP\n;! never [4096] = 1"),
-        fix: "Use a value in the range. What is subtracted on one side of a relation is added on the other.",
+        fix: "Use a value in the range. Instead of subtracting on one side of a relation, add on the other.",
     },
     Page {
         code: "P5",
         title: "what can't be asked",
-        meaning: "A property names what a search doesn't tell states apart by: ST, K or DRAWS. Or it has `here` but no line, as in a text of `explore --never`.",
+        meaning: "A property names ST, K or DRAWS, which the states of a search don't record, or it has `here` without a line, as in `explore --never`.",
         example: Example::Source("STOP: JP STOP\n;! always ST = 0"),
-        fix: "Ask a register, a byte of the memory, or DT. KEYS is 1 where the next instruction asks for a key.",
+        fix: "Use a register, a byte of memory, or DT. KEYS is 1 where the next instruction asks for a key.",
     },
     Page {
         code: "P6",
         title: "too many parts of properties",
         meaning: "A condition has over 16 comparisons, a sum over 16 terms, a source over 64 properties, or over 16 parentheses and brackets are open at one place.",
         example: Example::Source("STOP: JP STOP\n;! (((((((((((((((((1))))))))))))))))) = V0"),
-        fix: "State it by several properties, or define a part of the expression by EQU.",
+        fix: "Split it into several properties, or define a part of the expression with EQU.",
     },
 ];
 
@@ -300,7 +300,7 @@ static COMMAND_PAGES: [Page; 16] = [
     Page {
         code: "N1",
         title: "no such line",
-        meaning: "The number is 0 or above the number of lines (for `ins`, of lines and one more).",
+        meaning: "The number is 0, or above the number of lines (for `ins`, above that number plus 1).",
         example: Example::Script {
             source: "CLS",
             script: "del 2",
@@ -324,9 +324,9 @@ static COMMAND_PAGES: [Page; 16] = [
     Page {
         code: "N4",
         title: "line break in the text",
-        meaning: "The text holds a CR or an LF.",
+        meaning: "The text contains a CR or an LF.",
         example: Example::Told("`ins 1 A`, a CR, and `B`."),
-        fix: "Insert each part as a line of its own.",
+        fix: "Insert each part as a separate line.",
     },
     Page {
         code: "N5",
@@ -351,7 +351,7 @@ static COMMAND_PAGES: [Page; 16] = [
     Page {
         code: "N7",
         title: "event there already",
-        meaning: "There is an event of that step and key.",
+        meaning: "There is already an event for that step and key.",
         example: Example::Script {
             source: "CLS",
             script: "kins 2 5 down\nkins 2 5 up",
@@ -361,7 +361,7 @@ static COMMAND_PAGES: [Page; 16] = [
     Page {
         code: "N8",
         title: "no such event",
-        meaning: "There is no event of that step and key.",
+        meaning: "There is no event for that step and key.",
         example: Example::Script {
             source: "CLS",
             script: "kdel 2 5",
@@ -378,14 +378,14 @@ static COMMAND_PAGES: [Page; 16] = [
     Page {
         code: "N10",
         title: "out of memory for an edit",
-        meaning: "There was no memory for an edit; the session is as it was. The library answers it; in a script the session ends.",
+        meaning: "Memory ran out in an edit, and the session is unchanged. Only the library returns this code; a script's session ends.",
         example: Example::Told("none can be shown: it depends on the system."),
-        fix: "Free memory, and make the edit again.",
+        fix: "Free memory, and repeat the edit.",
     },
     Page {
         code: "Q1",
         title: "no image",
-        meaning: "Some line has a fault, so that there is no image to show or run.",
+        meaning: "A line has a fault, so there is no image to show or run.",
         example: Example::Script {
             source: "DB NONE",
             script: "regs 0",
@@ -405,36 +405,36 @@ static COMMAND_PAGES: [Page; 16] = [
     Page {
         code: "Q3",
         title: "past address 4096",
-        meaning: "The bytes asked for go past the end of the memory.",
+        meaning: "The question asks for bytes past the end of memory.",
         example: Example::Script {
             source: "CLS",
             script: "mem 0 4095 2",
         },
-        fix: "Ask for fewer bytes, or from a lower address; a word of `dis` has two bytes.",
+        fix: "Ask for fewer bytes, or begin at a lower address. A word of `dis` has two bytes.",
     },
     Page {
         code: "Q4",
         title: "out of memory for an answer",
-        meaning: "There was no memory for an answer. The library answers it; in a script the session ends.",
+        meaning: "Memory ran out in an answer. Only the library returns this code; a script's session ends.",
         example: Example::Told("none can be shown: it depends on the system."),
         fix: "Free memory, and ask again.",
     },
     Page {
         code: "C1",
         title: "no such command",
-        meaning: "The line's first word is not a command, or what follows doesn't fit it. Commands are lower case, and begin the line.",
+        meaning: "The first word of the line is not a command, or the words after it don't fit the command. Commands are in lower case and begin the line.",
         example: Example::Script {
             source: "CLS",
             script: "Image",
         },
-        fix: "`chipbench debug --help` has all commands with an example each.",
+        fix: "`chipbench debug --help` lists all commands with examples.",
     },
     Page {
         code: "C2",
         title: "line too long",
         meaning: "A line of a script has over 400 bytes.",
         example: Example::Told("`syms` and 397 spaces."),
-        fix: "Make the line shorter; a source's line has at most 200 bytes.",
+        fix: "Make the line shorter. A line of a source has at most 200 bytes.",
     },
 ];
 
@@ -443,23 +443,23 @@ static END_PAGES: [Page; 14] = [
     Page {
         code: "E1",
         title: "input fault",
-        meaning: "A read of the script failed, so that the session ended: `chipbench: input fault`, status 3.",
+        meaning: "Reading the script failed, so the session ended: `chipbench: input fault`, status 3.",
         example: Example::Told("a folder as standard input."),
-        fix: "Look at where the standard input comes from.",
+        fix: "Check where standard input comes from.",
     },
     Page {
         code: "E2",
         title: "output fault",
-        meaning: "A write failed or took no byte, so that the session ended: `chipbench: output fault`, status 3.",
-        example: Example::Told("a full disk behind the standard output."),
-        fix: "Look at where the standard output goes.",
+        meaning: "A write failed or took no byte, so the session ended: `chipbench: output fault`, status 3.",
+        example: Example::Told("a full disk behind standard output."),
+        fix: "Check where standard output goes.",
     },
     Page {
         code: "E3",
         title: "out of memory",
-        meaning: "There was no memory, so that the session ended: `chipbench: out of memory`, status 4.",
+        meaning: "Memory ran out, so the session ended: `chipbench: out of memory`, status 4.",
         example: Example::Told("none can be shown: it depends on the system."),
-        fix: "Free memory, and run again. `--every 100000` needs the least.",
+        fix: "Free memory, and run it again. `--every 100000` needs the least memory.",
     },
     Page {
         code: "E4",
@@ -471,70 +471,70 @@ static END_PAGES: [Page; 14] = [
     Page {
         code: "O1",
         title: "line too long",
-        meaning: "A line of the source has over 200 bytes, so that it doesn't open.",
+        meaning: "A line of the source has over 200 bytes, so the source doesn't open.",
         example: Example::Told("a line of a semicolon and 200 bytes more."),
-        fix: "Split the line in two. A binary file has such lines too.",
+        fix: "Split the line in two. A binary file also has such lines.",
     },
     Page {
         code: "O2",
         title: "too many lines",
-        meaning: "The source has over 4,000 lines, so that it doesn't open.",
+        meaning: "The source has over 4,000 lines, so it doesn't open.",
         example: Example::Told("a file of 4,001 empty lines."),
         fix: "Make the source shorter.",
     },
     Page {
         code: "O3",
         title: "out of memory",
-        meaning: "There was no memory to open the source: `chipbench: out of memory`, status 4.",
+        meaning: "Memory ran out while the source was opened: `chipbench: out of memory`, status 4.",
         example: Example::Told("none can be shown: it depends on the system."),
         fix: "Free memory, and run again.",
     },
     Page {
         code: "S1",
         title: "the program ended",
-        meaning: "The machine carried out EXIT.",
+        meaning: "The machine executed EXIT.",
         example: Example::Stop("EXIT"),
-        fix: "Nothing is wrong. A game that is to go on jumps back before it.",
+        fix: "Nothing is wrong. A game that should go on jumps back before it.",
     },
     Page {
         code: "S2",
         title: "no instruction",
-        meaning: "The word at pc is not an instruction: data was run, or the profile lacks the instruction.",
+        meaning: "The word at pc is not an instruction. The machine executed data, or the profile lacks the instruction.",
         example: Example::Stop("DW 0"),
-        fix: "`dis S A N` shows the words around pc. A jump or a RET before the data is missing, or `--profile` is the wrong one.",
+        fix: "`dis S A N` shows the words around pc. Put a jump or a RET before the data, or correct `--profile`.",
     },
     Page {
         code: "S3",
         title: "pc past the memory",
-        meaning: "pc is above 4094, where no word stands.",
+        meaning: "pc is above 4094, and no word begins there.",
         example: Example::Stop("JP 4095"),
-        fix: "Look for the jump or the skip that leads there: `regs` at earlier steps.",
+        fix: "Find the jump or skip that leads there with `regs` at earlier steps.",
     },
     Page {
         code: "S4",
         title: "too many calls",
         meaning: "A seventeenth CALL without a RET.",
         example: Example::Stop("LOOP: CALL LOOP"),
-        fix: "Each CALL needs a RET that is reached; a JP goes on without coming back.",
+        fix: "Make sure that each CALL reaches a RET. A JP goes on without coming back.",
     },
     Page {
         code: "S5",
         title: "RET without CALL",
-        meaning: "No CALL stands open.",
+        meaning: "RET without an open CALL.",
         example: Example::Stop("RET"),
-        fix: "A subroutine was run into: put a JP before it.",
+        fix: "Execution ran into a subroutine: put a JP before it.",
     },
     Page {
         code: "S6",
         title: "past the memory's end",
         meaning: "An instruction would access a byte at or above address 4096.",
         example: Example::Stop("LD I, 4095\nLD V1, [I]"),
-        fix: "Look at I with `regs`, at the step before.",
+        fix: "Look at I with `regs` at the step before.",
     },
     Page {
         code: "S7",
         title: "no such flag register",
-        meaning: "LD R, Vx or LD Vx, R with x above 7: there are 8 flag registers.",
+        meaning: "LD R, Vx or LD Vx, R with x above 7. There are only 8 flag registers.",
         example: Example::Stop("LD R, V8"),
         fix: "Use V0 to V7.",
     },
@@ -544,8 +544,8 @@ static END_PAGES: [Page; 14] = [
 static WORD_PAGES: [Page; 14] = [
     Page {
         code: "ins",
-        title: "`ins N TEXT` puts a line before line N",
-        meaning: "N is from 1 to the number of lines and one more. TEXT is all that follows the one space after N.",
+        title: "`ins N TEXT` inserts a line before line N",
+        meaning: "N is 1 up to the number of lines plus 1. TEXT is everything after the one space behind N.",
         example: Example::Answer {
             source: "SPEED EQU 5\nSTART: LD V0, SPEED\nJP START",
             script: "ins 3 ADD V0, 1",
@@ -555,8 +555,8 @@ static WORD_PAGES: [Page; 14] = [
     },
     Page {
         code: "rep",
-        title: "`rep N TEXT` puts a line in the place of line N",
-        meaning: "TEXT is all that follows the one space after N; without that space the line is empty.",
+        title: "`rep N TEXT` replaces line N",
+        meaning: "TEXT is everything after the one space behind N. Without that space, the line becomes empty.",
         example: Example::Answer {
             source: "SPEED EQU 5\nSTART: LD V0, SPEED\nJP START",
             script: "rep 1 SPEED EQU 6",
@@ -566,8 +566,8 @@ static WORD_PAGES: [Page; 14] = [
     },
     Page {
         code: "del",
-        title: "`del N` takes line N out",
-        meaning: "The lines after it have a number that is one less.",
+        title: "`del N` deletes line N",
+        meaning: "The numbers of the lines after it become one less.",
         example: Example::Answer {
             source: "SPEED EQU 5\nSTART: LD V0, SPEED\nJP START",
             script: "del 3",
@@ -578,7 +578,7 @@ static WORD_PAGES: [Page; 14] = [
     Page {
         code: "kins",
         title: "`kins S K down` or `kins S K up` adds a key event",
-        meaning: "From step S on, key K is down, or up. K is from 0 to 15, or from #0 to #F.",
+        meaning: "Key K is down, or up, from step S on. K is 0 to 15, or #0 to #F.",
         example: Example::Answer {
             source: "SPEED EQU 5\nSTART: LD V0, SPEED\nJP START",
             script: "kins 20 5 down",
@@ -589,7 +589,7 @@ static WORD_PAGES: [Page; 14] = [
     Page {
         code: "krep",
         title: "`krep S K down` or `krep S K up` changes a key event",
-        meaning: "The event of step S and key K is there already.",
+        meaning: "The session must already have an event for step S and key K.",
         example: Example::Answer {
             source: "SPEED EQU 5\nSTART: LD V0, SPEED\nJP START",
             script: "kins 20 5 down\nkrep 20 5 up",
@@ -599,8 +599,8 @@ static WORD_PAGES: [Page; 14] = [
     },
     Page {
         code: "kdel",
-        title: "`kdel S K` takes a key event out",
-        meaning: "The event of step S and key K is there.",
+        title: "`kdel S K` deletes a key event",
+        meaning: "The session must have an event for step S and key K.",
         example: Example::Answer {
             source: "SPEED EQU 5\nSTART: LD V0, SPEED\nJP START",
             script: "kins 20 5 down\nkdel 20 5",
@@ -611,7 +611,7 @@ static WORD_PAGES: [Page; 14] = [
     Page {
         code: "image",
         title: "`image` shows the bytes that the source assembles to",
-        meaning: "They stand in hexadecimal on one line, from address #200 on.",
+        meaning: "The bytes are in hexadecimal on one line, from address #200 on.",
         example: Example::Answer {
             source: "SPEED EQU 5\nSTART: LD V0, SPEED\nJP START",
             script: "image",
@@ -622,7 +622,7 @@ static WORD_PAGES: [Page; 14] = [
     Page {
         code: "syms",
         title: "`syms` shows the names",
-        meaning: "Each has its value in decimal and its line. A point ends the answer.",
+        meaning: "Each name has its value in decimal and its line. A point ends the answer.",
         example: Example::Answer {
             source: "SPEED EQU 5\nSTART: LD V0, SPEED\nJP START",
             script: "syms",
@@ -633,7 +633,7 @@ static WORD_PAGES: [Page; 14] = [
     Page {
         code: "list",
         title: "`list` shows the lines with what they assemble to",
-        meaning: "A line has its number, its address, and its bytes, its fault as F9, or its value as =5. A point ends the answer.",
+        meaning: "Each line has its number, its address, and its bytes, its fault such as F9, or its value such as =5. A point ends the answer.",
         example: Example::Answer {
             source: "SPEED EQU 5\nSTART: LD V0, SPEED\nJP START",
             script: "list",
@@ -644,7 +644,7 @@ static WORD_PAGES: [Page; 14] = [
     Page {
         code: "faults",
         title: "`faults` shows the lines that have a fault",
-        meaning: "Each has its number and its code. A point ends the answer.",
+        meaning: "Each line has its number and its code. A point ends the answer.",
         example: Example::Answer {
             source: "START: LD V0, 5\nJP STRAT",
             script: "faults",
@@ -655,7 +655,7 @@ static WORD_PAGES: [Page; 14] = [
     Page {
         code: "regs",
         title: "`regs S` shows the registers at step S",
-        meaning: "The lines are V0 to VF; pc, I, the two timers, how many random bytes were used, the screen's size, and `run` or the stop; the flags and the call stack.",
+        meaning: "The first line has V0 to VF. The second has pc, I, the two timers, the number of random bytes used, the size of the screen, and `run` or the stop. The third has the flags and the call stack.",
         example: Example::Answer {
             source: "SPEED EQU 5\nSTART: LD V0, SPEED\nJP START",
             script: "regs 3",
@@ -665,8 +665,8 @@ static WORD_PAGES: [Page; 14] = [
     },
     Page {
         code: "mem",
-        title: "`mem S A N` shows N bytes of the memory at step S from address A",
-        meaning: "They stand in hexadecimal on one line.",
+        title: "`mem S A N` shows N bytes of memory at step S from address A",
+        meaning: "The bytes are in hexadecimal on one line.",
         example: Example::Answer {
             source: "SPEED EQU 5\nSTART: LD V0, SPEED\nJP START",
             script: "mem 0 #200 4",
@@ -677,7 +677,7 @@ static WORD_PAGES: [Page; 14] = [
     Page {
         code: "screen",
         title: "`screen S` shows the lit rows of the screen at step S",
-        meaning: "A row has its number and 128 pixels in hexadecimal. The first line is the size, `low` or `high`. A point ends the answer.",
+        meaning: "The first line is the size, `low` or `high`. Each other line has the number of a row and its 128 pixels in hexadecimal. A point ends the answer.",
         example: Example::Answer {
             source: "LD F, V0\nDRW V1, V1, 1",
             script: "screen 2",
@@ -687,8 +687,8 @@ static WORD_PAGES: [Page; 14] = [
     },
     Page {
         code: "dis",
-        title: "`dis S A N` shows N words of the memory at step S from address A",
-        meaning: "Each has its address, the word and its source text. A point ends the answer.",
+        title: "`dis S A N` shows N words of memory at step S from address A",
+        meaning: "Each line has an address, the word there and its source text. A point ends the answer.",
         example: Example::Answer {
             source: "SPEED EQU 5\nSTART: LD V0, SPEED\nJP START",
             script: "dis 0 #200 2",
