@@ -1,4 +1,5 @@
--- What `licences` prints (own): a constant, which is the text of the file THIRD-PARTY.
+-- The text that `licences` prints (chosen by this project): a constant with the text of the file
+-- THIRD-PARTY.
 use Rattle.std.specs.Prelude.{ℕ, List}
 use Rattle.chip_pages.specs.declared.licences.TheConstants.{LICENCES}
 

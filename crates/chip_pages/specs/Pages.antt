@@ -1,5 +1,5 @@
--- What `explain` prints (own).
---     page_of                    the page on a code or a word, in either case
+-- The texts that `explain` prints (chosen by this project).
+--     page_of                    the page on a code or a word, in upper or lower case
 --     page_text, contents_text   a page as it is printed, and all codes and words with their titles
 --     AreAllPages                pages on all codes and words
 --     IsExplained, IsContents    the texts that are printed for a code, and without one
@@ -10,15 +10,15 @@ use Rattle.chip_pages.specs.declared.pages.Page.{Page}
 use Rattle.chip_pages.specs.declared.pages.Example.{Example}
 use Rattle.chip_pages.specs.declared.pages.Example.TheVariants.{Source, Script, Stop, Told, Answer}
 
--- the page has that code, in upper or lower case
+-- whether a page has this code, in upper or lower case
 abbrev pub has_code : List ℕ → Page → Bool
 has_code code page = str_eq_ignore_ascii_case page.code.now code
 
--- the first of the pages that has it
+-- the first of the pages with this code, if there is one
 unfoldable pub page_of : List Page → List ℕ → Option Page
 page_of pages code = find (has_code code) pages
 
--- each line with four spaces before it
+-- a line with four spaces before it and a newline after it
 abbrev pub indented_line : List ℕ → List ℕ
 indented_line line = codes "    " ++ (line ++ codes "\n")
 
@@ -41,7 +41,7 @@ example_text (Answer source script answer) =
     ++ (codes "\nthe answer to this:\n\n"
     ++ (indented script.now ++ (codes "\nis this:\n\n" ++ indented answer.now))))
 
--- what stands before the last sentence of a page with such an example
+-- the label before the last sentence of a page with such an example
 abbrev pub last_label : Example → List ℕ
 last_label (Answer source script answer) = codes "\nSee also: "
 last_label _ = codes "\nThe fix: "
@@ -52,14 +52,14 @@ page_text page =
     ++ (codes ": " ++ (page.title.now ++ (codes "\n\n" ++ (page.meaning.now ++ (codes "\n\n"
     ++ (example_text page.example ++ (last_label page.example ++ (page.fix.now ++ codes "\n"))))))))
 
--- the line of a page among all
+-- the line of a page in the list of all pages
 abbrev pub title_line : Page → List ℕ
 title_line page = page.code.now ++ (codes "  " ++ (page.title.now ++ codes "\n"))
 
 unfoldable pub contents_text : List Page → List ℕ
 contents_text pages = flat_map title_line pages
 
--- the codes that some pages are on
+-- the codes and words of some pages
 abbrev pub codes_of : List Page → List (List ℕ)
 codes_of pages = map (λ page. page.code.now) pages
 
@@ -67,12 +67,12 @@ codes_of pages = map (λ page. page.code.now) pages
 abbrev pub line_codes : List (List ℕ)
 line_codes = codes "F1" ∷ codes "F2" ∷ codes "F3" ∷ codes "F4" ∷ codes "F5" ∷ codes "F6" ∷ codes "F7" ∷ codes "F8" ∷ codes "F9" ∷ codes "F10" ∷ codes "F11" ∷ codes "F12" ∷ codes "F13" ∷ codes "F14" ∷ codes "F15" ∷ codes "F16" ∷ codes "F17" ∷ codes "W1" ∷ codes "W2" ∷ codes "W3" ∷ codes "W4" ∷ codes "W5" ∷ codes "W6" ∷ codes "W7" ∷ codes "W8" ∷ codes "W9" ∷ codes "P1" ∷ codes "P2" ∷ codes "P3" ∷ codes "P4" ∷ codes "P5" ∷ codes "P6" ∷ []
 
--- those of refused commands: of edits N1 to N10, of questions Q1 to Q4, of lines C1 and C2
+-- the codes of refused commands: N1 to N10 for edits, Q1 to Q4 for questions, C1 and C2 for lines
 abbrev pub command_codes : List (List ℕ)
 command_codes = codes "N1" ∷ codes "N2" ∷ codes "N3" ∷ codes "N4" ∷ codes "N5" ∷ codes "N6" ∷ codes "N7" ∷ codes "N8" ∷ codes "N9" ∷ codes "N10" ∷ codes "Q1" ∷ codes "Q2" ∷ codes "Q3" ∷ codes "Q4" ∷ codes "C1" ∷ codes "C2" ∷ []
 
--- those of how something ends: a session E1 to E4, a source that doesn't open O1 to O3, a machine
--- S1 to S7
+-- the codes for the end of something: E1 to E4 for a session, O1 to O3 for a source that doesn't open,
+-- S1 to S7 for a machine
 abbrev pub end_codes : List (List ℕ)
 end_codes = codes "E1" ∷ codes "E2" ∷ codes "E3" ∷ codes "E4" ∷ codes "O1" ∷ codes "O2" ∷ codes "O3" ∷ codes "S1" ∷ codes "S2" ∷ codes "S3" ∷ codes "S4" ∷ codes "S5" ∷ codes "S6" ∷ codes "S7" ∷ []
 
@@ -80,24 +80,24 @@ end_codes = codes "E1" ∷ codes "E2" ∷ codes "E3" ∷ codes "E4" ∷ codes "O
 abbrev pub words : List (List ℕ)
 words = codes "ins" ∷ codes "rep" ∷ codes "del" ∷ codes "kins" ∷ codes "krep" ∷ codes "kdel" ∷ codes "image" ∷ codes "syms" ∷ codes "list" ∷ codes "faults" ∷ codes "regs" ∷ codes "mem" ∷ codes "screen" ∷ codes "dis" ∷ []
 
--- Pages on all codes and words, in the order of the documents. The pages themselves are statics, which no
--- clause can name.
+-- Some pages are on all codes and words, in the order of the documents. The pages of the program are
+-- statics, which no clause can name.
 abbrev pub AreAllPages : List Page → Type 0
 AreAllPages pages = codes_of pages ≡ line_codes ++ (command_codes ++ (end_codes ++ words))
 
--- the page on a code or a word, where there is one
+-- the page on a code or a word, if there is one
 pub record IsPageOn (code : List ℕ) (page : Option Page) : Type 0 where
   pub pages : List Page
   pub all : AreAllPages pages
   pub found : page ≡ page_of pages code
 
--- the text that is printed for a code or a word: that of its page, where there is one
+-- the text that is printed for a code or a word: the text of its page, if there is one
 pub record IsExplained (code : List ℕ) (text : Option (List ℕ)) : Type 0 where
   pub page : Option Page
   pub on_code : IsPageOn code page
   pub text_is : text ≡ option_map page_text page
 
--- what is printed without a code: all codes and words with their titles
+-- the text that is printed without a code: all codes and words with their titles
 pub record IsContents (text : List ℕ) : Type 0 where
   pub pages : List Page
   pub all : AreAllPages pages

@@ -1,5 +1,5 @@
-//! A page on each code that the workbench prints and on each word of a script, and how `explain`
-//! prints it; and the licences.
+//! A page on each code that the workbench prints and on each word of a script, as `explain` prints it;
+//! and the text of the licences.
 #![tactic(auto)]
 
 mod explain;

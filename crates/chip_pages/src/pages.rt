@@ -2,21 +2,21 @@
 ghost use Rattle.std.specs.Prelude.{◌≡◌};
 ghost use Rattle.chip_pages.specs.Pages.{codes_of, command_codes, end_codes, line_codes, words};
 
-/// What has a code, so that it can be seen.
+/// An example that shows a code or a word.
 #[derive(Clone, Copy)]
 pub enum Example {
-    /// A source: its last line has the fault or the warning.
+    /// A source whose last line has the fault or the warning.
     Source(&'static str),
-    /// A source, and a script on it: its last line is refused.
+    /// A source, and a script on it whose last line is refused.
     Script {
         source: &'static str,
         script: &'static str,
     },
-    /// A source: its program stops within 100 steps.
+    /// A source whose program stops within 100 steps.
     Stop(&'static str),
-    /// What is too large to write out, or depends on the system.
+    /// A description of an example that is too large to write out, or depends on the system.
     Told(&'static str),
-    /// A source, a script on it, and the answers.
+    /// A source, a script on it, and the answers to the script.
     Answer {
         source: &'static str,
         script: &'static str,
@@ -24,7 +24,7 @@ pub enum Example {
     },
 }
 
-/// What a code means, or a word of a script.
+/// The page on a code, or on a word of a script.
 #[derive(Clone, Copy)]
 pub struct Page {
     pub code: &'static str,
@@ -34,31 +34,32 @@ pub struct Page {
     pub fix: &'static str,
 }
 
-// Each table is read by one function alone, since the proof of a function reads the whole of each
-// static that it names.
+// Only one function reads each table, because the proof of a function reads the whole of each static
+// that the function names.
 
-/// The pages on the faults and the warnings of a source's lines.
+/// The pages on the faults and the warnings of a source's lines, and on the faults of its properties.
 pub(crate) fn line_pages() -> &'static [Page]
     ensures { codes_of result.now ≡ line_codes }
 {
     &LINE_PAGES
 }
 
-/// The pages on the refusals of commands.
+/// The pages on the refusals of edits and questions, and on the faults of commands.
 pub(crate) fn command_pages() -> &'static [Page]
     ensures { codes_of result.now ≡ command_codes }
 {
     &COMMAND_PAGES
 }
 
-/// The pages on how a session, a source or a program ends.
+/// The pages on why a session ends or doesn't open, and why a program stops.
 pub(crate) fn end_pages() -> &'static [Page]
     ensures { codes_of result.now ≡ end_codes }
 {
     &END_PAGES
 }
 
-/// The pages on the words that begin a script's commands. A title has the command's form.
+/// The pages on the words that begin the commands of a script. The title of a page has the form of the
+/// command.
 pub fn word_pages() -> &'static [Page]
     ensures { codes_of result.now ≡ words }
 {
