@@ -161,11 +161,13 @@ fn undefined(source: &Source, tokens: &[Lexeme], found: Found) -> Found {
 /// If a token is the word for a value that a property can't ask for, returns the reason.
 fn why_not_asked(token: &Lexeme) -> Option<&'static [u8]> {
     if is_the(b"ST", token) {
-        Some(b"states that differ in the sound alone are not told apart: ask DT or a register")
+        Some(b"the search ignores ST; use DT or a register")
     } else if is_the(b"K", token) {
         Some(b"KEYS is 1 where the next instruction asks for a key")
     } else if is_the(b"DRAWS", token) {
-        Some(b"how many random bytes were used is not kept: ask the register that RND sets")
+        Some(
+            b"the search doesn't record how many random bytes were used; use the register that RND sets",
+        )
     } else {
         None
     }
@@ -174,7 +176,7 @@ fn why_not_asked(token: &Lexeme) -> Option<&'static [u8]> {
 /// Returns the reason why a property can't ask for what a token means, or nothing.
 fn why_not(token: &Lexeme) -> &'static [u8] {
     if is_the(b"HERE", token) {
-        b"here is the address of a line of the source: write at, and a name or a number"
+        b"here needs a line of the source; write at and a name or a number"
     } else {
         why_not_asked(token).unwrap_or(b"")
     }
@@ -211,7 +213,7 @@ fn help_for(reader: &Reader<'_>, tokens: &[Lexeme], found: Found) -> Result<Vec<
         (FaultCode::UndefinedName, Some(Lexeme::Word(word)))
             if item_of_word(word.get()).is_some() => { NAMES_ALONE }
         (FaultCode::NothingStated, _) =>
-            b"write a condition, as V0 <= 8, or a place, as never at BUG",
+            b"write a condition, as in V0 <= 8, or a place, as in never at BUG",
         (FaultCode::NoComparison, Some(token)) => {
             help_on_phrase(token, before, rest).unwrap_or(help_at(token, before, rest))
         }
@@ -219,7 +221,7 @@ fn help_for(reader: &Reader<'_>, tokens: &[Lexeme], found: Found) -> Result<Vec<
             return near_help(reader, word.get());
         }
         (FaultCode::OutOfRange, _) => {
-            b"values go from 0 on, addresses to 4095, columns to 127, rows to 63"
+            b"a value is 0 or more, an address at most 4095, a column at most 127, a row at most 63"
         }
         (FaultCode::NotAsked, Some(token)) => why_not(token),
         (FaultCode::TooMany, _) => {
@@ -248,6 +250,13 @@ fn help_on_phrase(token: &Lexeme, before: &[Lexeme], rest: &[Lexeme]) -> Option<
         || is_arrow && has_relation(before)
     {
         Some(IMPLICATION)
+    } else if let [Lexeme::Word(first)] = before
+        && kind_of_word(first.get()).is_some()
+        && let Lexeme::Word(word) = token
+        && is_item_word(word.get())
+        && has_relation(rest)
+    {
+        Some(b"the option names the kind already; write only the condition, as in --never 'V0 = 3'")
     } else if is_unequal(token, before, rest) {
         Some(b"write <> or != for unequal")
     } else if !has_relation(before) && before.iter().any(|word| is_the(b"PIXEL", word)) {
@@ -279,7 +288,7 @@ fn second_is(sign: u8, tokens: &[Lexeme]) -> bool {
 
 /// Help with a register among names and numbers.
 const NAMES_ALONE: &[u8] =
-    b"parentheses and brackets take names and numbers alone, as in V0 <= (SIZE - 1)";
+    b"parentheses and brackets take only names and numbers, as in V0 <= (SIZE - 1)";
 
 /// Returns help with a token that can't come after those before it, or nothing. `rest` begins with the token.
 fn help_at(token: &Lexeme, before: &[Lexeme], rest: &[Lexeme]) -> &'static [u8] {
@@ -308,9 +317,9 @@ fn help_at(token: &Lexeme, before: &[Lexeme], rest: &[Lexeme]) -> &'static [u8] 
             b"write two comparisons, with and between them"
         }
         Lexeme::Sign(b'-') if ends_with_sign(before) => {
-            b"no value is negative: a register is 0 to 255, and -1 is 255 there"
+            b"no value is negative: a register is 0 to 255, and holds 255 for -1"
         }
-        Lexeme::Sign(b'-') => b"put what is subtracted on the other side",
+        Lexeme::Sign(b'-') => b"instead of subtracting, add on the other side of the relation",
         Lexeme::Sign(b'/') if second_is(b'/', rest) => b"a comment begins with ;",
         Lexeme::Sign(b'/' | b'&' | b'|' | b'^') if ends_with_item(before) => {
             b"registers are only added, and multiplied by numbers, as in 2 * V0 + V1"
@@ -319,7 +328,7 @@ fn help_at(token: &Lexeme, before: &[Lexeme], rest: &[Lexeme]) -> &'static [u8] 
             b"put a calculation with names and numbers into parentheses"
         }
         Lexeme::Number(_) | Lexeme::Word(_) if follows(b'*') || second_is(b'*', rest) => {
-            b"write the number before * and what is asked after it, as in 2 * V0"
+            b"write the number before the *, as in 2 * V0"
         }
         Lexeme::Word(word) => help_at_word(word.get(), before, rest),
         _ => b"",
@@ -346,7 +355,7 @@ fn help_at_word(word: &[u8], before: &[Lexeme], rest: &[Lexeme]) -> &'static [u8
     if is_stop_word(word) && !follows_at && !has_relation(before) && !has_relation(rest) {
         b"explore asks whether the game can crash or stop; a property asks for values"
     } else if word == b"AND".as_slice() || word == b"OR".as_slice() {
-        b"a condition has and alone, or or alone: write two properties"
+        b"a condition can't mix and with or; write two properties"
     } else if word == b"HERE".as_slice() && follows_at {
         b"write here without at"
     } else if word == b"HERE".as_slice() || word == b"AT".as_slice() {
@@ -358,7 +367,7 @@ fn help_at_word(word: &[u8], before: &[Lexeme], rest: &[Lexeme]) -> &'static [u8
     } else if is_item_word(word) && !follows_at && !has_relation(before) && !has_relation(rest) {
         b"a comparison has two sides, as in V0 <= 8"
     } else if is_property_word(word) {
-        b"put a name that is spelled so into parentheses"
+        b"put a name with this spelling in parentheses"
     } else if rest.len() == 1 && !is_item_word(word) {
         b"write at before a place, as in never at BUG"
     } else {
@@ -400,10 +409,10 @@ fn ends_with_sign(tokens: &[Lexeme]) -> bool {
 /// Returns help with a word for a kind that doesn't come first.
 fn help_at_kind(kind: Kind) -> &'static [u8] {
     match kind {
-        Kind::Always => b"always stands first, as in ;! always V0 < 3",
-        Kind::Never => b"never stands first, as in ;! never V0 = 3",
-        Kind::Ever => b"ever stands first, as in ;! ever V0 = 3",
-        Kind::Can => b"can stands first, as in ;! can V0 = 3",
+        Kind::Always => b"put always first, as in ;! always V0 < 3",
+        Kind::Never => b"put never first, as in ;! never V0 = 3",
+        Kind::Ever => b"put ever first, as in ;! ever V0 = 3",
+        Kind::Can => b"put can first, as in ;! can V0 = 3",
     }
 }
 
