@@ -14,7 +14,7 @@ use Rattle.std.specs.Prelude.{codes, nat_eq, is_none, not, slice_index, ◌&&◌
 use Rattle.std.specs.Str.{str_to_ascii_lowercase}
 use Rattle.hex.specs.Hex.{lower_digits}
 use Rattle.chip_trace.specs.Columns.{column_name, header_line, register_columns}
-use Rattle.chip_trace.specs.Header.{column_of, columns_named, has_text, header_fault, is_named, is_space, is_text, other_columns}
+use Rattle.chip_trace.specs.Header.{column_of, columns_named, first_unknown, has_text, header_fault, is_named, is_space, is_text, other_columns}
 use Rattle.chip_trace.specs.declared.header.HeaderError.{HeaderError}
 use Rattle.chip_trace.specs.declared.header.HeaderError.TheVariants.{NotAHeader, UnknownColumn, TextNotLast}
 use Rattle.chip_trace.specs.declared.column.Column.{Column}
@@ -113,26 +113,32 @@ header_is line columns e named =
 -- ---- faults
 
 -- the fault by the three tests
-abbrev fault_by : (is_header has_unknown has_early_text : Bool) → Option HeaderError
-fault_by is_header has_unknown has_early_text =
-    cond (not is_header) (Some NotAHeader) (cond has_unknown (Some UnknownColumn) (cond has_early_text (Some TextNotLast) None))
+abbrev fault_by : (unknown : ℕ) (is_header has_unknown has_early_text : Bool) → Option HeaderError
+fault_by unknown is_header has_unknown has_early_text =
+    cond (not is_header) (Some NotAHeader) (cond has_unknown (Some (UnknownColumn unknown)) (cond has_early_text (Some TextNotLast) None))
 
-fault_is : (line : List ℕ) → header_fault line ≡ fault_by (begins line) (list_any is_none (columns_named line)) (has_text (columns_named line))
+fault_is : (line : List ℕ) → header_fault line ≡ fault_by (first_unknown (columns_named line)) (begins line) (list_any is_none (columns_named line)) (has_text (columns_named line))
 unfolding header_fault
 fault_is line = refl
 
 pub not_a_header : (line : List ℕ) → begins line ≡ false → header_fault line ≡ Some NotAHeader
-not_a_header line e = fault_is line ∙ ap (λ b. fault_by b (list_any is_none (columns_named line)) (has_text (columns_named line))) e
+not_a_header line e = fault_is line ∙ ap (λ b. fault_by (first_unknown (columns_named line)) b (list_any is_none (columns_named line)) (has_text (columns_named line))) e
 
 none_there : (columns : List Column) (rest : List (Option Column)) → list_any is_none (map Some columns ++ (None ∷ rest)) ≡ true
 none_there [] rest = refl
 none_there (column ∷ columns) rest = none_there columns rest
 
+unknown_at : (columns : List Column) (rest : List (Option Column)) → position_or_len is_none (map Some columns ++ (None ∷ rest)) ≡ length columns
+unknown_at [] rest = refl
+unknown_at (column ∷ columns) rest = ap (λ n. 1 + n) (unknown_at columns rest)
+
 pub unknown_name : (line : List ℕ) (columns : List Column) (rest : List (Option Column)) → begins line ≡ true → map Some columns ++ (None ∷ rest) ≡ columns_named line
-    → header_fault line ≡ Some UnknownColumn
+    → header_fault line ≡ Some (UnknownColumn (length columns + 1))
 unknown_name line columns rest e named =
     let unknown : list_any is_none (columns_named line) ≡ true = ap (list_any is_none) (sym named) ∙ none_there columns rest in
-    fault_is line ∙ ap₂ (λ b u. fault_by b u (has_text (columns_named line))) e unknown
+    let place : first_unknown (columns_named line) ≡ length columns + 1 = ap first_unknown (sym named) ∙ ap (λ n. n + 1) (unknown_at columns rest) in
+    fault_is line ∙ ap₂ (λ b u. fault_by (first_unknown (columns_named line)) b u (has_text (columns_named line))) e unknown
+    ∙ ap (λ n. Some (UnknownColumn n)) place
 
 some_there : (columns : List Column) → list_any is_none (map Some columns) ≡ false
 some_there [] = refl
@@ -155,4 +161,5 @@ pub late_fault : (line : List ℕ) (columns : List Column) (early : Bool) → be
 late_fault line columns early e named is =
     let known : list_any is_none (columns_named line) ≡ false = ap (list_any is_none) (sym named) ∙ some_there columns in
     let text : has_text (columns_named line) ≡ early = ap has_text (sym named) ∙ text_there columns ∙ sym is in
-    fault_is line ∙ ap₂ (λ b u. fault_by b u (has_text (columns_named line))) e known ∙ ap (fault_by true false) text
+    fault_is line ∙ ap₂ (λ b u. fault_by (first_unknown (columns_named line)) b u (has_text (columns_named line))) e known
+    ∙ ap (fault_by (first_unknown (columns_named line)) true false) text

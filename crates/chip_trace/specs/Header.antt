@@ -1,6 +1,6 @@
 -- The line that names the columns of a trace, read (own).
-use Rattle.std.specs.Prelude.{ℕ, ◌-◌, ◌==◌, nat_eq, Bool, true, false, not, List, [], ◌∷◌, ◌++◌, drop, take, length, map, codes, Option, Some, None, is_none, if◌then◌else◌}
-use Rattle.std.specs.List.{find, list_any, slice_split, starts_with}
+use Rattle.std.specs.Prelude.{ℕ, ◌+◌, ◌-◌, ◌==◌, nat_eq, Bool, true, false, not, List, [], ◌∷◌, ◌++◌, drop, take, length, map, codes, Option, Some, None, is_none, if◌then◌else◌}
+use Rattle.std.specs.List.{find, list_any, position_or_len, slice_split, starts_with}
 use Rattle.std.specs.Str.{str_eq_ignore_ascii_case}
 use Rattle.chip_trace.specs.Columns.{column_name, register_columns}
 use Rattle.chip_trace.specs.declared.column.Column.{Column}
@@ -36,9 +36,13 @@ is_text _ = false
 abbrev pub has_text : List (Option Column) → Bool
 has_text columns = list_any is_text (take (length columns - 1) columns)
 
+-- the number, from 1, of the first name that is no column's
+abbrev pub first_unknown : List (Option Column) → ℕ
+first_unknown columns = position_or_len is_none columns + 1
+
 -- the first reason, in the order of the tests, for which a line does not name columns
 unfoldable pub header_fault : List ℕ → Option HeaderError
 header_fault line =
     if not (starts_with nat_eq line (codes "# ")) then Some NotAHeader
-    else if list_any is_none (columns_named line) then Some UnknownColumn
+    else if list_any is_none (columns_named line) then Some (UnknownColumn (first_unknown (columns_named line)))
     else if has_text (columns_named line) then Some TextNotLast else None

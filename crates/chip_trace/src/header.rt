@@ -15,14 +15,14 @@ use thiserror::Error;
 /// Why a line does not name the columns of a trace.
 #[derive(Clone, Copy, Debug, PartialEq, Eq, Error)]
 pub enum HeaderError {
-    /// There is no line, or it does not begin with a `#` and a space.
-    #[error("it is empty, or the first line does not begin with `# `")]
+    /// The line is missing, or doesn't begin with a `#` and a space.
+    #[error("its first line has to name its columns, as `# step pc v0 text` does")]
     NotAHeader,
-    /// No column has one of the names.
-    #[error("a column has an unknown name")]
-    UnknownColumn,
-    /// `text` stands before another column.
-    #[error("the column `text` is not the last one")]
+    /// The name at this position, counted from 1, is no column's.
+    #[error("column {0} has an unknown name; expected step, pc, word, v0 to vf, i, dt, st, depth, draws, screen, memory or text")]
+    UnknownColumn(usize),
+    /// Another column follows `text`.
+    #[error("the column `text` has to be the last one")]
     TextNotLast,
     /// Memory ran out.
     #[error("out of memory")]
@@ -61,7 +61,7 @@ pub(crate) fn read_header(alloc: Global, line: &[u8]) -> Result<Vec<Column>, Hea
     while let Some(names) = left {
         let (name, others) = first_name(names);
         let Some(column) = column_of(name) else {
-            return Err(HeaderError::UnknownColumn);
+            return Err(HeaderError::UnknownColumn(columns.len() + 1));
         };
         if columns.push(column).is_err() {
             return Err(HeaderError::OutOfMemory);

@@ -65,8 +65,21 @@ fn push_changed_names(
             text.extend_from_slice(column.name())?;
         }
     }
+    if matches!(columns.last(), Some(Column::Text)) {
+        text.extend_from_slice(early_end(ours, theirs))?;
+    }
     text.push(b'\n')?;
     Ok(())
+}
+
+/// Says which of two traces ends at these lines while the other one goes on: the last line of a trace whose machine runs
+/// has the text `run`.
+fn early_end(ours: &[u8], theirs: &[u8]) -> &'static [u8] {
+    match (ours.ends_with(b"run"), theirs.ends_with(b"run")) {
+        (false, true) => b" (the file ends here)",
+        (true, false) => b" (the run ends here)",
+        (true, true) | (false, false) => b"",
+    }
 }
 
 fn is_same_field(ours: Option<&[u8]>, theirs: Option<&[u8]>) -> bool {
