@@ -8,7 +8,7 @@ _chipbench() {
     case $before in
         --profile) COMPREPLY=($(compgen -W "schip vip chip48 schip10 schip-modern octo" -- "$word")); return ;;
         --color) COMPREPLY=($(compgen -W "auto always never" -- "$word")); return ;;
-        --rate | --tape | --seed | --quirks | --every | --steps | --from | --scale | --allow | --seconds | --states | --keys-allowed | --want | --reach | --never | --always | --only) return ;;
+        --rate | --tape | --seed | --quirks | --every | --steps | --from | --scale | --allow | --seconds | --states | --memory | --keys-allowed | --want | --reach | --never | --always | --only) return ;;
         explain) COMPREPLY=($(compgen -W "$(chipbench explain 2>/dev/null | cut -d ' ' -f 1)" -- "$word")); return ;;
     esac
     case ${COMP_WORDS[1]} in
@@ -22,8 +22,8 @@ _chipbench() {
         picture) options="--steps --rate --tape --seed --profile --quirks --keys --image --ascii --pbm --png --scale --help" ;;
         check) options="--json --allow --cover --seconds --color --tape --seed --profile --quirks --help" ;;
         test) options="--update --tap --help" ;;
-        explore) options="--steps --states --seconds --deep --any-speed --keys-allowed --keys-to --progress --no-facts --rate --tape --seed --profile --quirks --image --want --reach --never --always --cover --help" ;;
-        prove) options="--steps --states --seconds --deep --any-speed --keys-allowed --keys-to --progress --no-facts --rate --tape --seed --profile --quirks --only --json --help" ;;
+        explore) options="--steps --states --memory --seconds --deep --any-speed --keys-allowed --keys-to --progress --no-facts --rate --tape --seed --profile --quirks --image --want --reach --never --always --cover --help" ;;
+        prove) options="--steps --states --memory --seconds --deep --any-speed --keys-allowed --keys-to --progress --no-facts --rate --tape --seed --profile --quirks --only --json --help" ;;
         explain) options=" --help" ;;
         licences) options=" --help" ;;
     esac

@@ -111,7 +111,7 @@ class Words:
         functions = dict(re.findall(r"\n(?:pub\(crate\) )?fn (\w+)<'a>\(\s*alloc: Global(.*?)\n}", text, re.S))
         helps = {name: re.sub(r"\\\n\s*", "", help)
                  for name, help in re.findall(r'Argument::(\w+) =>\s*"((?:[^"\\]|\\.|\\\n)*)"', text)}
-        made = re.findall(r'Argument::(\w+) => (\w+)\(alloc, "([\w-]+)", (?:"([A-Z]+)", )?help\b', text)
+        made = re.findall(r'Argument::(\w+) =>(?: \{)?\s+(\w+)\(alloc, "([\w-]+)", (?:"([A-Z]+)", )?help\b', text)
         arguments = {name: Argument(kind, long, value, helps[name]) for name, kind, long, value in made}
 
         rows = re.findall(

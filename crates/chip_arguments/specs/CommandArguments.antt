@@ -12,7 +12,7 @@ use Rattle.chip_machine.specs.declared.quirks.Quirks.{Quirks}
 use Rattle.chip_replay.specs.declared.limits.TheConstants.{LEAST_SPACING}
 use Rattle.chip_arguments.specs.CommandLine.{chipbench}
 use Rattle.chip_arguments.specs.SettingArguments.{default_arguments}
-use Rattle.chip_arguments.specs.declared.limits.TheConstants.{USUAL_STATES}
+use Rattle.chip_arguments.specs.declared.limits.TheConstants.{USUAL_MEMORY, USUAL_STATES}
 use Rattle.chip_arguments.specs.declared.command_line.CommandLine.{CommandLine}
 use Rattle.chip_arguments.specs.declared.command_line.CommandLine.TheVariants as line
 use Rattle.chip_arguments.specs.declared.command_line.CheckArguments.{CheckArguments}
@@ -30,8 +30,8 @@ use Rattle.chip_arguments.specs.declared.command_line.TraceArguments.{TraceArgum
 -- the arguments that are numbers
 abbrev pub numbers : List (List ℕ)
 numbers =
-    codes "steps" ∷ codes "states" ∷ codes "from" ∷ codes "rate" ∷ codes "seed" ∷ codes "every"
-    ∷ codes "only" ∷ codes "seconds" ∷ codes "scale" ∷ []
+    codes "steps" ∷ codes "states" ∷ codes "memory" ∷ codes "from" ∷ codes "rate" ∷ codes "seed"
+    ∷ codes "every" ∷ codes "only" ∷ codes "seconds" ∷ codes "scale" ∷ []
 
 -- a number with anything but decimal digits, such as a sign
 abbrev pub number_fault : Option (List ℕ) → Kinds
@@ -205,6 +205,7 @@ pub record AsksSearch (rows : List Row) (arguments : SearchArguments) : Type 0 w
   pub source : arguments.source.now ≡ needed (codes "source") rows
   pub steps : ReadsNumber 32 (first_of (codes "steps") rows) arguments.steps
   pub states : ReadsOr 32 (first_of (codes "states") rows) USUAL_STATES arguments.states
+  pub memory : ReadsOr 32 (first_of (codes "memory") rows) USUAL_MEMORY arguments.memory
   pub seconds : ReadsNumber 32 (first_of (codes "seconds") rows) arguments.seconds
   pub is_deep : AsksFlag (one_of (codes "deep") rows) arguments.is_deep
   pub is_any_speed : AsksFlag (one_of (codes "any-speed") rows) arguments.is_any_speed

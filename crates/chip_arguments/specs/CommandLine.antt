@@ -3,7 +3,7 @@
 use Rattle.std.specs.Prelude.{ℕ, List, [], ◌∷◌, Some, codes, true, pos}
 use Rattle.clap.specs.Words.{App, Rule, new_app, new_rule, with_rule, with_subcommand}
 use Rattle.chip_replay.specs.declared.limits.TheConstants.{LAST_STEP, LEAST_SPACING, MOST_RATE, MOST_SPACING}
-use Rattle.chip_arguments.specs.declared.limits.TheConstants.{MOST_LINE, MOST_SCALE, MOST_SECONDS, MOST_STATES}
+use Rattle.chip_arguments.specs.declared.limits.TheConstants.{MOST_LINE, MOST_MEMORY, MOST_SCALE, MOST_SECONDS, MOST_STATES}
 use Rattle.clap.specs.declared.builder.action.ArgAction.TheVariants.{Append, Set, SetTrue}
 use Rattle.clap.specs.declared.builder.value_parser.ValueParser.TheVariants as vp
 
@@ -188,6 +188,10 @@ search_steps = number (codes "steps") 0 LAST_STEP
 unfoldable pub states : Rule
 states = record (number (codes "states") 1 MOST_STATES) { defaults = codes "1000000" ∷ [] }
 
+-- how many megabytes a search holds at most
+unfoldable pub memory : Rule
+memory = record (number (codes "memory") 1 MOST_MEMORY) { defaults = codes "1000" ∷ [] }
+
 unfoldable pub want : Rule
 want = option (codes "want")
 
@@ -230,8 +234,8 @@ progress = flag (codes "progress")
 -- the arguments that say how a search goes
 unfoldable pub with_search : App → App
 with_search app =
-    with_rule (with_rule (with_rule (with_rule (with_rule (with_rule (with_rule (with_rule (with_rule (with_rule app
-    needed_source) search_steps) states) seconds) deep) any_speed) allowed_keys) keys_to) progress) no_facts
+    with_rule (with_rule (with_rule (with_rule (with_rule (with_rule (with_rule (with_rule (with_rule (with_rule (with_rule app
+    needed_source) search_steps) states) memory) seconds) deep) any_speed) allowed_keys) keys_to) progress) no_facts
 
 unfoldable pub explore : App
 explore =

@@ -4,7 +4,7 @@ ghost use Rattle.clap.specs.Words.{rule_of};
 ghost use Rattle.chip_arguments.specs.CommandLine as line;
 ghost use Rattle.chip_arguments.specs.inner.Built.{rule_by};
 
-use crate::limits::{MOST_LINE, MOST_SCALE, MOST_SECONDS, MOST_STATES};
+use crate::limits::{MOST_LINE, MOST_MEMORY, MOST_SCALE, MOST_SECONDS, MOST_STATES};
 use chip_replay::{LAST_STEP, LEAST_SPACING, MOST_RATE, MOST_SPACING};
 use clap::builder::ValueParser;
 use clap::{Arg, ArgAction, value_parser};
@@ -39,6 +39,7 @@ pub(crate) enum Argument {
     AsImage,
     SearchSteps,
     States,
+    Memory,
     Deep,
     AnySpeed,
     Want,
@@ -101,6 +102,9 @@ impl Argument {
             Argument::States => number(alloc, "states", "M", help, 1, MOST_STATES).default_value(
                 "1000000",
             ),
+            Argument::Memory => {
+                number(alloc, "memory", "MB", help, 1, MOST_MEMORY).default_value("1000")
+            }
             Argument::Deep => flag(alloc, "deep", help),
             Argument::AnySpeed => flag(alloc, "any-speed", help),
             Argument::Want => option(alloc, "want", "CAUSES", help),
@@ -136,93 +140,93 @@ impl Argument {
             Argument::Image => "The image, a file of at most 3584 bytes",
             Argument::Steps => "How many steps to run, 0 to 1000000",
             Argument::Keys =>
-                "The key events, a file of lines `S K down` and `S K up` [default: none]",
-            Argument::From => "The first step that is printed",
+                "A file of key events, with lines such as `10 4 down` and `12 4 up` [default: none]",
+            Argument::From => "The first step to print",
             Argument::Hash => "Also prints sums of the screen and of the memory",
             Argument::Against =>
-                "Compares with the trace in this file, and prints the first difference",
+                "Compares with the trace in this file and prints the first difference",
             Argument::Ascii => "Prints ASCII instead of half blocks",
-            Argument::Pbm => "Writes a portable bitmap to a file, and prints nothing",
-            Argument::Png => "Writes a PNG picture to a file, and prints nothing",
+            Argument::Pbm => "Writes a portable bitmap to a file and prints nothing",
+            Argument::Png => "Writes a PNG picture to a file and prints nothing",
             Argument::Scale =>
-                "Makes each pixel a square of K by K in the files of --pbm and --png, 1 to 16 \
+                "Draws each pixel as a square of K by K in the files of --pbm and --png, 1 to 16 \
                  [default: 1]",
             Argument::Code =>
                 "F1 to F17, W1 to W9, P1 to P6, N1 to N10, Q1 to Q4, C1, C2, E1 to E4, O1 to O3, \
                  S1 to S7, or a command of `debug` such as regs [default: all, a line each]",
             Argument::Files => "The files of cases, one or more",
-            Argument::Update => "Also writes the answers that are given into the files, atomically",
-            Argument::Tap =>
-                "Prints the outcome of each case in the form of the Test Anything Protocol",
+            Argument::Update => "Also writes the actual answers into the files, atomically",
+            Argument::Tap => "Prints the outcome of each case in the Test Anything Protocol",
             Argument::Rate =>
-                "How many steps lie between two ticks of the timers, 1 to 1000: a tick is 1/60 of a \
-                 second, so 10 is 600 steps a second; the machine sounds while ST is above 0",
+                "How many steps there are between two ticks of the timers, 1 to 1000. A tick is 1/60 of a \
+                 second, so 10 means 600 steps per second. The machine sounds while ST is above 0",
             Argument::Tape =>
-                "The random bytes, 1 to 4096 of them in hexadecimal, used over and over [default: 00]",
+                "The random bytes, 1 to 4096 in hexadecimal, used over and over [default: 00]",
             Argument::Seed =>
-                "Makes 256 random bytes from a number, 0 to 18446744073709551615, in the place of --tape",
+                "Makes 256 random bytes from a number, 0 to 18446744073709551615, instead of --tape",
             Argument::Profile =>
-                "Which machine: `schip` is SUPER-CHIP 1.1, `vip` the COSMAC VIP, without the \
-                 instructions that SUPER-CHIP added, and with other results of shifts, of FX55 and \
-                 FX65, of BNNN, of OR, AND and XOR, and of the height 0; `chip48`, `schip10`, \
-                 `schip-modern` and `octo` are machines between and after them [default: schip]",
+                "The machine: `schip` is SUPER-CHIP 1.1. `vip` is the COSMAC VIP, which lacks the \
+                 instructions that SUPER-CHIP added and has other results for shifts, FX55 and FX65, \
+                 BNNN, OR, AND and XOR, and the height 0. `chip48`, `schip10`, `schip-modern` and \
+                 `octo` are machines between and after them [default: schip]",
             Argument::Quirks =>
-                "What differs from the profile, choices with commas between them, each of another \
-                 quirk: shift=vx|vy, memory=keep|x|x+1, jump=vx|v0, logic=keep|clear, \
+                "Differences from the profile: choices separated by commas, at most one for each quirk: \
+                 shift=vx|vy, memory=keep|x|x+1, jump=vx|v0, logic=keep|clear, \
                  edges=clip|wrap, dxy0=none|8x16|16x16, scroll=stored|whole, size=keep|clear, \
                  fx1e=keep|flag, instructions=super|base",
             Argument::Every =>
-                "How many steps lie between two checkpoints of the run, 1000 to 100000: more take \
-                 less memory, fewer make edits and questions faster; no answer depends on it \
-                 [default: 1000]",
-            Argument::AsImage => "SOURCE is an image: what `dis` prints of it is the source",
+                "How many steps there are between two checkpoints of the run, 1000 to 100000. More steps \
+                 take less memory, and fewer steps make edits and questions faster. No answer depends on \
+                 it [default: 1000]",
+            Argument::AsImage => "SOURCE is an image. The source is what `dis` prints for it",
             Argument::SearchSteps =>
-                "Searches no further than to this step, 0 to 1000000 [default: until no state is new]",
+                "Searches up to this step, 0 to 1000000 [default: until no state is new]",
             Argument::States => "How many states the search keeps at most, 1 to 100000000",
+            Argument::Memory =>
+                "How much memory the search takes at most, in megabytes, 1 to 1000000",
             Argument::Deep =>
-                "Where it keeps that many, searches once more, the deepest states first: the \
-                 script needn't be a shortest one",
+                "If a bound of states or memory ends the search, searches once more, the deepest states \
+                 first. The script that it finds may not be a shortest one",
             Argument::AnySpeed =>
-                "Looks first for `never at any speed`, whenever the timers tick, and only then at the rate",
-            Argument::Want =>
-                "The stop causes that are looked for, S1 to S7 with commas between them [default: \
+                "First tries to answer for every speed, whenever the timers tick, and then for the rate alone",
+            Argument::Want => "The stop causes to look for, S1 to S7 separated by commas [default: \
                  S2,S3,S4,S5,S6,S7, or none with --reach, --never or --always]",
             Argument::Never =>
                 "Also looks for a step before which this holds, such as 'V3 > 63 at LOOP'",
             Argument::Always =>
-                "Also looks for a step before which this doesn't hold, such as '[LIVES] <= 3'",
+                "Also looks for a step before which this does not hold, such as '[LIVES] <= 3'",
             Argument::AllowedKeys =>
-                "The keys that a player has, 0 to 15 or A to F, with commas between them [default: all]",
+                "The keys that a player has, 0 to 15 or A to F, separated by commas [default: all]",
             Argument::KeysTo =>
-                "Writes the key events of the script that was found to a file, as `run --keys` takes them",
+                "Writes the key events of the script that it finds to a file for `run --keys`",
             Argument::KeysToPath =>
-                "Writes the key events of the first script that was found to a file, as `run \
-                 --keys` takes them; where PATH ends with `/`, those of each script to a file in \
-                 that folder, 4.keys for line 4",
-            Argument::Only => "Answers the property of this line alone",
+                "Writes the key events of the first script that it finds to a file for `run --keys`. If \
+                 PATH ends with `/`, writes the events of each script to a file in that folder, such as \
+                 4.keys for line 4",
+            Argument::Only => "Answers only the property in this line",
             Argument::Seconds =>
-                "Ends the search after so many seconds, 1 to 1000000, and tells what it has covered",
+                "Ends the search after this many seconds, 1 to 1000000, and prints what it has covered",
             Argument::Sources => "The sources, files of text, one or more",
             Argument::Color =>
-                "When the text has colours, `auto`, `always` or `never`: with `auto` where \
-                 standard output is a terminal and NO_COLOR is unset or empty [default: auto]",
-            Argument::Json => "Prints a JSON object a line",
+                "When to print colours: `auto`, `always` or `never`. `auto` prints them if standard \
+                 output is a terminal and NO_COLOR is unset or empty [default: auto]",
+            Argument::Json => "Prints one JSON object per line",
             Argument::Allow =>
-                "The warnings that are not printed, W1 to W9 and P1 to P6 with commas between them \
+                "The warnings to leave out, W1 to W9 and P1 to P6 separated by commas \
                  [default: none]",
             Argument::Reach =>
-                "Also looks for a step at this label of the source, or at an address such as '#2A0'",
+                "Also looks for a step at this label, or at an address such as '#2A0'",
             Argument::Cover =>
                 "Also prints the listing, with a mark at each line that some key script executes",
             Argument::CheckCover =>
-                "Also searches all key scripts, and warns of each instruction that none executes",
+                "Also searches all key scripts, and warns about each instruction that none of them executes",
             Argument::NoFacts =>
-                "Searches at once, without asking first what holds for any keys, random bytes and speed",
+                "Searches at once, without first trying to prove an answer for any keys, random bytes and speed",
             Argument::Progress =>
-                "Says on standard error how far the search is, also where that is no terminal",
+                "Reports the progress of the search on standard error, even if that is no terminal",
             Argument::Hex => "Prints the values of names in hexadecimal, as a source writes them",
             Argument::Quiet =>
-                "At a terminal, shows the answers alone: no prompt, and no sentence for a refusal",
+                "At a terminal, prints only the answers: no prompt, and no explanation of a refusal",
         }
     }
 }

@@ -8,7 +8,7 @@ ghost use Rattle.chip_arguments.specs.CommandArguments.{Asks, AsksFlag, AsksFor,
 ghost use Rattle.chip_arguments.specs.inner.Built.{IsOneOf, command_names, rows_in};
 
 use crate::commands::{chipbench, chipbench_for};
-use crate::limits::USUAL_STATES;
+use crate::limits::{USUAL_MEMORY, USUAL_STATES};
 use chip_machine::profile::PROFILES;
 use chip_machine::quirks::QUIRKS;
 use chip_machine::{Profile, Quirks};
@@ -21,9 +21,10 @@ use std::convert::AsStr;
 const DEFAULT_RATE: u32 = 10;
 
 // The arguments that are numbers, each as `clap` shows it in a fault.
-const NUMBERS: [(&str, &str); 9] = [
+const NUMBERS: [(&str, &str); 10] = [
     ("steps", "--steps <N>"),
     ("states", "--states <M>"),
+    ("memory", "--memory <MB>"),
     ("from", "--from <M>"),
     ("rate", "--rate <N>"),
     ("seed", "--seed <N>"),
@@ -105,7 +106,7 @@ pub struct CheckArguments<'a> {
     pub sources: Vec<&'a str>,
     /// Whether JSON objects are printed, and not text.
     pub is_json: bool,
-    /// The warnings that are not printed, with commas between them.
+    /// The warnings to leave out, separated by commas.
     pub allowed: Option<&'a str>,
     /// When the text has colours.
     pub color: ColorChoice,
@@ -187,13 +188,15 @@ pub struct SearchArguments<'a> {
     pub steps: Option<u32>,
     /// How many states it keeps at most.
     pub states: u32,
+    /// How many megabytes it holds at most.
+    pub memory: u32,
     /// After how many seconds it ends, 1 to 1000000.
     pub seconds: Option<u32>,
     /// Whether a search of the deepest states first follows where it keeps that many.
     pub is_deep: bool,
     /// Whether it is told where the answer is `never` at any speed, for which all states serve.
     pub is_any_speed: bool,
-    /// The keys that a player has, with commas between them.
+    /// The keys that a player has, separated by commas.
     pub allowed_keys: Option<&'a str>,
     /// The file for the key events of a script that was found.
     pub keys_to: Option<&'a str>,
@@ -210,7 +213,7 @@ pub struct ExploreArguments<'a> {
     pub search: SearchArguments<'a>,
     /// Whether the source is given as an image.
     pub is_image: bool,
-    /// The stop causes that are looked for, with commas between them.
+    /// The stop causes to look for, separated by commas.
     pub causes: Option<&'a str>,
     /// The place that is looked for: a name of the source, or an address after `#`.
     pub place: Option<&'a str>,
@@ -687,6 +690,7 @@ fn search_arguments<'a>(found: &ArgMatches<'a>, quirks: Quirks) -> SearchArgumen
         source: required_text(found, "source"),
         steps: number_of(found, "steps"),
         states: number_or(found, "states", USUAL_STATES),
+        memory: number_or(found, "memory", USUAL_MEMORY),
         seconds: number_of(found, "seconds"),
         is_deep: is_set(found, "deep"),
         is_any_speed: is_set(found, "any-speed"),

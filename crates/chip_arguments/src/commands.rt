@@ -13,102 +13,102 @@ use std::alloc::{AllocError, Global};
 pub const VERSION: &str = "1.0 (logic dac8208d650f15bf)";
 
 const PROGRAM_NOTES: &str = "\
-Without a command the program is `debug` with an empty source.
+Without a command, the program runs `debug` with an empty source.
 
 Example: chipbench run game.asm --steps 1000";
 
 const DEBUG_NOTES: &str = "\
-Commands, with an example each; N is a line's number, S a step, K a key, A an address:
-  ins N TEXT    puts a line before line N          ins 3 LD V0, 5
-  rep N TEXT    puts a line in the place of N      rep 3 LD V0, 6
-  del N         takes line N out                   del 3
+Commands and examples; N is the number of a line, S a step, K a key, A an address:
+  ins N TEXT    inserts a line before line N       ins 3 LD V0, 5
+  rep N TEXT    replaces line N                    rep 3 LD V0, 6
+  del N         deletes line N                     del 3
   kins S K down|up  adds a key event               kins 20 5 down
   krep S K down|up  changes a key event            krep 20 5 up
-  kdel S K      takes a key event out              kdel 20 5
+  kdel S K      deletes a key event                kdel 20 5
   image         the image in hexadecimal           image
   syms          the names and their values         syms
   list          the listing                        list
   faults        the faults, `LINE CODE`            faults
   regs S        the registers at step S            regs 100
-  mem S A N     N bytes of the memory from A       mem 100 #200 16
+  mem S A N     N bytes of memory from A           mem 100 #200 16
   screen S      the lit rows of the screen         screen 100
-  dis S A N     N words of the memory from A       dis 100 #200 8
+  dis S A N     N words of memory from A           dis 100 #200 8
 Numbers are decimal, or hexadecimal after `#`: key A is 10 or #A. An answer is `ok`, `no CODE`, or lines.
-`chipbench explain CODE` says what a code means, `chipbench explain regs` what a command does.
+`chipbench explain CODE` explains a code, and `chipbench explain regs` a command.
 At a terminal, standard error says why a command is refused. All commands: docs/FORMATS.md;
 the language of sources: docs/LANGUAGE.md; the machine: docs/MACHINE.md; a guide: docs/GUIDE.md.
 
 Example: chipbench debug game.asm --rate 15 --seed 7";
 
 const CHECK_NOTES: &str = "\
-With --cover each instruction that no key script executes has W8, with that tape and the rate 10. The search for
-them may take some seconds, and keeps up to 1000000 states: where it ends there, or by --seconds, W8 names the
-step up to which.
-Without --tape and --seed, the first RND has W9, because each of its random bytes is 0.
+With --cover, W8 marks each instruction that no key script executes, for that tape and the rate 10. The search may
+take some seconds, and keeps up to 1000000 states and 1000 MB. If it ends there, or by --seconds, W8 names the step
+that it has covered.
+Without --tape and --seed, W9 marks the first RND, because each random byte is then 0.
 
 Example: chipbench check game.asm --allow W2";
 
 const TEST_NOTES: &str = "\
 A file of cases, line by line:
   case NAME            begins a case; a file without it is one case
-  source .. end        the source's lines, between these two
+  source .. end        the lines of the source, between these two
   source NAME          the source is a file, named from the test's folder
-  image NAME           the source is what `dis` prints of that file
+  image NAME           the source is what `dis` prints for that file
   keys NAME            the key events, a file of lines `S K down` and `S K up`
   profile, quirks, rate, tape, seed, every  the settings, as `run` and `debug` take them
   > COMMAND            a command of `debug`; the lines below it are its answer
   ! COMMAND            a command that is refused; the line below it is `no CODE`
-  ...                  in an answer: any lines, also none
+  ...                  in an answer: any number of lines
   # ..                 a comment
-Status: 0 where all cases pass, 1 where one fails, 3 for a file that can't be read.
+Status: 0 if all cases pass, 1 if one fails, 3 if a file can't be read.
 
 Example: chipbench test game.test";
 
 const EXPLORE_NOTES: &str = "\
-First it tries to exclude what it looks for with any keys, random bytes and speed. Where it can, it prints
-`never`, `with any keys, random bytes and speed`, and `facts N`, the number of facts behind that.
-Otherwise it searches all key scripts, and answers one of these:
-  Sk T                 some key script makes the machine stop for Sk at step T, and none does so earlier;
-                       below it, `keys N`: how many key events that script has
-  reached T            the same of the place that --reach names
-                       a third line `within M`, with --deep alone: some script may do so earlier, but none
+First, `explore` tries to prove that nothing it looks for ever happens, for any keys, random bytes and speed. If it
+can, it prints `never`, `for any keys, random bytes and speed`, and `facts N`, the number of facts in the proof.
+Otherwise it searches all key scripts, and prints one of these:
+  Sk T                 some key script makes the machine stop for Sk at step T, and none does earlier;
+                       the next line, `keys N`, counts the key events of that script
+  reached T            the same for the place that --reach names
+                       a third line `within M`, only with --deep: some script may do it earlier, but none
                        up to step M
-  within N             no key script makes it stop for a wanted cause, or reach the place, at a step up to N
+  within N             no key script makes it stop for a wanted cause, or reach the place, up to step N
   never                no key script does at any step below 2^64 - 1
-  broken T             of the property that --never or --always states: some script breaks it at step T
-  never at any speed   with --any-speed alone: nor at any rate, nor whenever else the timers tick
-Then a line `Sj T` for each other cause that was met, with the least step that was, and `states N`.
-  left Sk ADDRESS      a stop that could not be excluded: the machine may stop at this address for Sk. With any
-                       keys, random bytes and speed, it stops for no wanted cause that has no such line
-With --cover the listing follows, with `+ ` before each line at whose address some script makes a step:
-a line of code without it is executed under no key script, up to the step that is printed, or ever.
-A key script is any choice of the allowed keys at each step. Tape and profile are fixed, and so is the
-rate, but for the answer `never at any speed`.
-Status: 0 for `within` and `never`, 1 for a script that was found or a source with faults, 4 where memory
-ran out: what was covered until then is printed.
+  broken T             some script breaks the property of --never or --always at step T
+  never at any speed   only with --any-speed: nor at any rate, nor whenever else the timers tick
+Then it prints a line `Sj T` for each other cause that it met, with the least such step, and `states N`.
+  left Sk ADDRESS      a stop that it could not exclude: the machine may stop at this address for Sk. For any
+                       keys, random bytes and speed, each stop for a wanted cause has such a line
+With --cover, the listing follows, with `+ ` before each line at whose address some script makes a step.
+A line of code without it is executed under no key script, up to the step that is printed, or ever.
+A key script is any choice of the allowed keys at each step. Tape, profile and rate are fixed, except that
+`never at any speed` covers every rate.
+Status: 0 for `within` and `never`, 1 if a script is found or the source has faults, 4 if memory runs out; what was
+covered until then is printed.
 
 Example: chipbench explore game.asm --keys-to crash.keys";
 
 const PROVE_NOTES: &str = "\
-A property is a line that begins with `;!`, which other assemblers take for a comment:
+A property is a line that begins with `;!`, which other assemblers read as a comment:
   ;! V0 + V4 <= 8 here         holds whenever pc is at the address of the next statement
   ;! always [LIVES] <= 3       holds before each step
   ;! never VF = 1 at ADDED     never holds at this label
-  ;! ever at WIN               some player comes there
-First it tries to prove each property, except `can`, for any keys, random bytes and speed. Then it searches all
-key scripts for the others. Answers, each after the line's place and before its text:
-  never broken with any keys, random bytes and speed
-  broken at step T             some key script breaks it at step T, and none does so earlier
-  broken at step T, unbroken up to step M    with --deep alone: some may do so earlier, but none up to M
-  unbroken up to step N        no key script breaks it at a step up to N
-  never broken                 no key script does at any step below 2^64 - 1, with this tape and rate
-  never broken at any speed    with --any-speed alone: nor whenever else the timers tick
-  reached at step T, not reached up to step N, never reached    the same of `ever`
-Then `facts N`, the number of facts behind the first kind of answer, and `states N`. A key script is any choice of
-the allowed keys at each step. A search has one tape and one profile, and one rate except for the answers at any
-speed. The language of properties: docs/LANGUAGE.md.
-Status: 0 where nothing is broken and each `ever` is reached, 1 where not, for a property that can't be
-read, and for a source with faults, 4 where memory ran out: what was covered until then is printed.
+  ;! ever at WIN               some player gets there
+First, `prove` tries to prove each property, except `can`, for any keys, random bytes and speed. Then it searches
+all key scripts for the others. Each answer follows the place of the line, and precedes its text:
+  proved for any keys, random bytes and speed
+  broken at step T             some key script breaks it at step T, and none does earlier
+  broken at step T, unbroken up to step M    only with --deep: some may do so earlier, but none up to M
+  unbroken up to step N        no key script breaks it up to step N
+  proved                       no key script breaks it at any step below 2^64 - 1, with this tape and rate
+  proved at any speed          only with --any-speed: nor whenever else the timers tick
+  reached at step T, not reached up to step N, never reached    the same for `ever`
+Then it prints `facts N`, the number of facts in the proofs of the first kind, and `states N`. A key script is any
+choice of the allowed keys at each step. A search has one tape, one profile and, except for answers at any speed, one
+rate. The language of properties: docs/LANGUAGE.md.
+Status: 0 if nothing is broken and each `ever` is reached, 1 otherwise, or if a property can't be read or the source
+has faults, 4 if memory runs out; what was covered until then is printed.
 
 Example: chipbench prove game.asm --keys-to break.keys";
 
@@ -126,7 +126,7 @@ pub(crate) struct CommandRow {
 const COMMANDS: [CommandRow; 14] = [
     CommandRow {
         name: "debug",
-        about: "Answers the edits and questions on standard input, one a line",
+        about: "Answers the edits and questions on standard input, one per line",
         notes: DEBUG_NOTES,
         arguments: &[
             Argument::Source,
@@ -154,13 +154,13 @@ const COMMANDS: [CommandRow; 14] = [
     },
     CommandRow {
         name: "syms",
-        about: "Prints the names of a source, each with its value and its line",
+        about: "Prints the names in a source, each with its value and its line",
         notes: "Example: chipbench syms game.asm --hex",
         arguments: &[Argument::NeededSource, Argument::Hex],
     },
     CommandRow {
         name: "dis",
-        about: "Prints a source whose image is that of a file",
+        about: "Prints a source that assembles to an image",
         notes: "Example: chipbench dis game.ch8",
         arguments: &[Argument::Image],
     },
@@ -202,7 +202,7 @@ const COMMANDS: [CommandRow; 14] = [
     },
     CommandRow {
         name: "picture",
-        about: "Prints the screen after a number of steps, two pixels to a character",
+        about: "Prints the screen after a number of steps, two pixels per character",
         notes: "Example: chipbench picture game.asm --steps 1000 --keys game.keys",
         arguments: &[
             Argument::NeededSource,
@@ -222,7 +222,7 @@ const COMMANDS: [CommandRow; 14] = [
     },
     CommandRow {
         name: "check",
-        about: "Prints each fault of a source with its place and a sentence, and warnings",
+        about: "Prints each fault of a source with its place and an explanation, and warnings",
         notes: CHECK_NOTES,
         arguments: &[
             Argument::Sources,
@@ -239,18 +239,19 @@ const COMMANDS: [CommandRow; 14] = [
     },
     CommandRow {
         name: "test",
-        about: "Compares the answers of sessions with those that files expect",
+        about: "Compares the answers of sessions with the answers that files expect",
         notes: TEST_NOTES,
         arguments: &[Argument::Files, Argument::Update, Argument::Tap],
     },
     CommandRow {
         name: "explore",
-        about: "Searches all key scripts for one under which the machine stops",
+        about: "Searches all key scripts for one that stops the machine",
         notes: EXPLORE_NOTES,
         arguments: &[
             Argument::NeededSource,
             Argument::SearchSteps,
             Argument::States,
+            Argument::Memory,
             Argument::Seconds,
             Argument::Deep,
             Argument::AnySpeed,
@@ -273,12 +274,13 @@ const COMMANDS: [CommandRow; 14] = [
     },
     CommandRow {
         name: "prove",
-        about: "Answers each property that a source states of its game, `;! always V3 <= 9`",
+        about: "Proves or refutes each property that a source states, as in `;! always V3 <= 9`",
         notes: PROVE_NOTES,
         arguments: &[
             Argument::NeededSource,
             Argument::SearchSteps,
             Argument::States,
+            Argument::Memory,
             Argument::Seconds,
             Argument::Deep,
             Argument::AnySpeed,
@@ -297,13 +299,13 @@ const COMMANDS: [CommandRow; 14] = [
     },
     CommandRow {
         name: "explain",
-        about: "Prints what a code or a command of `debug` means, with an example",
+        about: "Explains a code or a command of `debug`, with an example",
         notes: "Example: chipbench explain F9",
         arguments: &[Argument::Code],
     },
     CommandRow {
         name: "licences",
-        about: "Prints the licences of the program and of what is linked into it",
+        about: "Prints the licences of the program and of the libraries in it",
         notes: "Example: chipbench licences",
         arguments: &[],
     },

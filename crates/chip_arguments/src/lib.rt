@@ -12,4 +12,4 @@ pub use command_line::{
     number, parse_arguments, seed,
 };
 pub use commands::{VERSION, commands_with};
-pub use limits::USUAL_STATES;
+pub use limits::{USUAL_MEMORY, USUAL_STATES};

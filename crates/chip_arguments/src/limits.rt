@@ -6,6 +6,12 @@ pub const USUAL_STATES: u32 = 1_000_000;
 /// The most states that a search may be asked to keep.
 pub const MOST_STATES: u32 = 100_000_000;
 
+/// How many megabytes (1,000,000 bytes) a search may hold where the arguments don't say.
+pub const USUAL_MEMORY: u32 = 1_000;
+
+/// The most megabytes that a search may be asked to hold.
+pub const MOST_MEMORY: u32 = 1_000_000;
+
 /// The greatest number of a line that the arguments may name: no source has so many.
 pub const MOST_LINE: u32 = 1_000_000;
 

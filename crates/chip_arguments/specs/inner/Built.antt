@@ -59,6 +59,7 @@ rule_by argument.Every = line.every
 rule_by argument.AsImage = line.as_image
 rule_by argument.SearchSteps = line.search_steps
 rule_by argument.States = line.states
+rule_by argument.Memory = line.memory
 rule_by argument.Deep = line.deep
 rule_by argument.AnySpeed = line.any_speed
 rule_by argument.Want = line.want
