@@ -1,4 +1,4 @@
--- The types of the walks: a session's box, and what stands for it.
+-- The types of the walks: the box of a session, the raw box, the owner and the allocator.
 use mathlib.Core.List.{[]}
 use mathlib.Core.Path.{◌≡◌, refl, sym, subst}
 use lib.Dec.{T}
@@ -31,7 +31,7 @@ owner = plain (λ _. Owner.the_row)
 abbrev pub allocator : Slot 0
 allocator = plain (λ _. Heap.the_row)
 
--- the value of an option that has one
+-- An option that has a value is `Some` of it.
 pub there : {A : Type 0} (option : Option A) → is_some option ≡ true → (value : A) × (option ≡ Some value)
 there None e = absurd (subst T (sym e) tt)
 there (Some value) e = (value, refl)

@@ -1,6 +1,6 @@
--- What the exports of a session are (own).
---     Answering  what `session_answer` and `session_read` do
---     Opening    the settings that are asked for, and the number by which `session_open` answers
+-- The definitions behind the exports of a session (chosen by this project).
+--     Answering  the effects and the results of `session_answer` and `session_read`
+--     Opening    the settings that are asked for, and the number that `session_open` returns
 --     Owned      what an owner of a session owns
 --     inner      definitions of private contracts
 pub mod Answering

@@ -1,4 +1,4 @@
--- What an owner owns (own).
+-- What an owner of a session owns (chosen by this project).
 use base.Fml.{Fml, ftrue}
 use base.Stored.{Coded}
 use denote.RawPtr.{Ptr}
@@ -10,13 +10,13 @@ use Rattle.std.specs.Global.{Global}
 use Rattle.std_heap.specs.contracts.GlobalAllocator.TheImpl.{ghosts}
 use Rattle.chip_web.specs.contracts.opened.Opened.{the_row}
 
--- with a session what a box of it owns, and nothing without one
+-- An owner with a session owns what a box of the session owns, and an owner without one owns nothing.
 abbrev pub owns_session : Global → Ptr → Option the_row.Denot → Fml
 owns_session allocator pointer session = elim session [
   | None ↦ ftrue
   | Some opened ↦ box_owns (ghosts.dealloc_token allocator) the_row pointer opened
 ]
 
--- how the logic stores a session, or none
+-- how the logic stores an optional session
 abbrev pub opened_code : Coded (Option the_row.Denot)
 opened_code = coded_option the_row.coded

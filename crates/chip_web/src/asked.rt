@@ -9,8 +9,8 @@ use chip_machine::{Profile, Quirks};
 use chip_session::Settings;
 use std::alloc::Global;
 
-/// How many steps there are to a tick, the number of the profile, how many steps lie between one
-/// checkpoint and the next, and the seed of which names are hashed.
+/// The settings of a host: the number of steps to a tick, the number of the profile, the number of
+/// steps between two checkpoints, and the seed for the hashes of names.
 #[repr(C)]
 #[derive(Clone, Copy)]
 pub struct AskedSettings {
@@ -21,12 +21,12 @@ pub struct AskedSettings {
 }
 
 impl AskedSettings {
-    /// The settings with a tape, and with a list of the quirks in which the machine differs from the
-    /// profile.
+    /// Returns these settings with a tape, and with a list of the quirks in which the machine differs
+    /// from the profile.
     ///
     /// # Errors
     ///
-    /// The number of the first fault, or that of memory that ran out.
+    /// The number of the first fault, or `NO_MEMORY` if memory runs out.
     pub fn with_tape(&self, alloc: Global, tape: &[u8], list: &[u8]) -> Result<Settings, u32>
         ensures ok { IfOk result (λ settings. (asked_status self.now tape.now list.now ≡ DONE)
             × (settings ≡ asked_settings self.now tape.now list.now)) }
@@ -44,7 +44,8 @@ impl AskedSettings {
         }
     }
 
-    /// The quirks of the profile but for the choices of a list.
+    /// Returns the quirks of the profile, except for the choices of a list. Fails with the number of the
+    /// fault if there is no such profile or the list is wrong.
     fn quirks(&self, list: &[u8]) -> Result<Quirks, u32>
         ensures ok { IfOk result (λ quirks. (quirks_status self.now list.now ≡ DONE)
             × (asked_quirks self.now list.now ≡ Some quirks)) }
@@ -61,7 +62,8 @@ impl AskedSettings {
     }
 }
 
-/// Quirks but for the choices of a list, which has none where it is empty.
+/// Returns quirks, except for the choices of a list, or `None` if the list is wrong. An empty list has
+/// no choices.
 fn listed(quirks: Quirks, list: &[u8]) -> Option<Quirks>
     ensures { result ≡ quirks_listed list.now quirks }
 {

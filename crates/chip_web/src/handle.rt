@@ -1,4 +1,4 @@
-// What a host keeps of a session.
+// The handle by which a host keeps a session.
 ghost use Rattle.std.specs.Prelude.{◌≡◌, None, Some, is_some, true, option_map};
 
 use crate::opened::Opened;
@@ -7,7 +7,7 @@ use crate::raw_box::RawBox;
 use std::alloc::Global;
 use std::mem::replace;
 
-/// A session, or none. It has 16 bytes, which are all zero where there is none.
+/// A session, or none. A handle has 16 bytes, which are all zero if there is no session.
 #[repr(C)]
 #[derive(Drop)]
 pub struct Handle {
@@ -35,7 +35,7 @@ impl Handle {
         }
     }
 
-    // Hands over the session, and leaves none.
+    // Returns the session, if there is one, and leaves the handle without a session.
     pub fn take(&mut self, alloc: Global) -> Option<Box<Opened>>
         ensures taken { option_map (λ opened. opened.value) result ≡ self.old.owner.session }
         ensures none { self.new.owner.session ≡ None }

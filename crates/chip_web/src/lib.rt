@@ -21,9 +21,9 @@ use handle::Handle;
 use opened::Opened;
 use status::{DONE, NO_MEMORY, NO_SESSION};
 
-/// Opens a session on a source, in the place of the one that the handle has. `list` has the quirks
-/// in which the machine differs from the profile, as `--quirks` takes them, or is empty. Answers
-/// `DONE`, or the number of why not, and the handle then has none.
+/// Opens a session on a source, in place of any session that the handle has. `list` has the quirks in
+/// which the machine differs from the profile, as `--quirks` takes them, or is empty. Returns `DONE`,
+/// or the number of the fault, and then the handle has no session.
 #[unsafe(no_mangle)]
 pub extern "C" fn session_open(
     alloc: Global,
@@ -50,7 +50,7 @@ pub extern "C" fn session_open(
     }
 }
 
-// The session that is asked for, on the heap.
+// Returns the session that is asked for, on the heap, or the number of the fault.
 fn boxed(
     alloc: Global,
     source: &[u8],
@@ -76,9 +76,9 @@ fn boxed(
     }
 }
 
-/// Carries out one line of a script, given without its newline. Answers `DONE`, and `session_read`
-/// then has the answer; `NO_SESSION`; or `NO_MEMORY`, and the session is then as after the line, or
-/// as before it.
+/// Carries out one line of a script, given without its newline. Returns `DONE`, and `session_read` then
+/// has the answer; `NO_SESSION` if the handle has none; or `NO_MEMORY` if memory ran out, and then the
+/// session is either as after the line or as before it.
 #[unsafe(no_mangle)]
 pub extern "C" fn session_answer(alloc: Global, handle: &mut Handle, line: &[u8]) -> u32
     ensures { Answers result handle.old.owner.session line.now handle.new.owner.session }
@@ -94,8 +94,8 @@ pub extern "C" fn session_answer(alloc: Global, handle: &mut Handle, line: &[u8]
     status
 }
 
-/// Copies the bytes of the last answer from a place on, as many as there is room for, and answers
-/// how many of the answer's bytes there are from that place on.
+/// Copies the bytes of the last answer from a place on, as many as there is room for. Returns how many
+/// bytes the answer has from that place on, or 0 without a session.
 #[unsafe(no_mangle)]
 pub extern "C" fn session_read(
     alloc: Global,
@@ -131,7 +131,7 @@ fn copy_from(bytes: &[u8], from: usize, room: &mut [u8]) -> usize
     rest.len()
 }
 
-/// Lets the session go.
+/// Closes the session of the handle, if there is one, and leaves the handle without a session.
 #[unsafe(no_mangle)]
 pub extern "C" fn session_close(alloc: Global, handle: &mut Handle)
     ensures { handle.new.owner.session ≡ None }

@@ -1,4 +1,4 @@
-//! A session that is open.
+//! An open session.
 ghost use Rattle.std.specs.Prelude.{◌≡◌, ◌⊎◌, None, Some, Ok, IfOk, IfErr, OnOk, OnErr};
 ghost use Rattle.chip_asm.specs.Lines.{open_fault};
 ghost use Rattle.chip_session.specs.Session.{session_of};
@@ -15,11 +15,11 @@ pub struct Opened {
 }
 
 impl Opened {
-    /// The session on a source, with no answer yet.
+    /// Opens a session on a source, with no answer yet.
     ///
     /// # Errors
     ///
-    /// The first line that is one too many or too long, or that memory ran out.
+    /// The first line that is one too many or too long, or out of memory.
     pub fn open(alloc: Global, source: &[u8], settings: Settings) -> Result<Opened, OpenError>
         ensures ok { IfOk result (λ opened. (open_fault source.now ≡ None)
             × (opened.bench.session ≡ session_of settings source.now)) }
@@ -36,7 +36,7 @@ impl Opened {
     ///
     /// # Errors
     ///
-    /// Out of memory; the session is then as after the line, or as before it.
+    /// Out of memory; the session is then either as after the line or as before it.
     pub fn carry_out(&mut self, alloc: Global, line: &[u8]) -> Result<(), AllocError>
         ensures answer { OnOk result (self.new.answer.items
             ≡ reply self.old.bench.session line.now) }

@@ -1,4 +1,4 @@
-//! The numbers by which the exports answer.
+//! The numbers that the exports return as their status.
 ghost use Rattle.std.specs.Prelude.{◌≡◌, ◌≢◌};
 ghost use Rattle.chip_web.specs.Opening.{settings_status, source_status};
 ghost use Rattle.chip_web.specs.inner.Bounds.{IsNumbered};
@@ -29,13 +29,13 @@ pub const UNKNOWN_PROFILE: u32 = 6;
 /// The source has too many lines.
 pub const TOO_MANY_LINES: u32 = 7;
 
-/// The list of quirks isn't one, or names a quirk twice.
+/// The list of quirks can't be read, or names a quirk twice.
 pub const UNKNOWN_QUIRKS: u32 = 8;
 
-/// A line of the source is too long: its number, from 1 on, is added.
+/// A line of the source is too long. The number of the line, from 1, is added to this number.
 pub const LINE_TOO_LONG: u32 = 1000;
 
-/// The number of why there are no such settings.
+/// Returns the number for a fault of settings.
 pub fn of_settings(error: SetError) -> u32
     ensures status { result ≡ settings_status error }
     ensures fault { result ≢ DONE }
@@ -48,7 +48,7 @@ pub fn of_settings(error: SetError) -> u32
     }
 }
 
-/// The number of why a source doesn't open.
+/// Returns the number for the reason why a source doesn't open.
 pub fn of_source(error: OpenError) -> u32
     requires { IsNumbered error }
     ensures status { result ≡ source_status error }

@@ -1,4 +1,4 @@
--- `put_together` hands std what the raw box owns, and answers the box that std makes.
+-- `put_together` hands std what the raw box owns, and returns the box that std makes.
 use Rattle.chip_web.proofs.Steps.{[], ◌∷◌, ◌++◌, ◌≡◌, List, refl, sym, subst, ap, T, Ura, Fn, Body, place, copy, assign, rv_opd, seq, return, inst_fn, Val, vptr, has_ty, WT, SProp, ent, id⊢, ftrue, fsep, flft, ◌⊑◌, Fun, fact, tables, tables_of, Memory, Routine, WpFn, Tables, fm_of, WpFn-mono, Logic, ⋆, Item, at_ret, ‵, raw, ◌⊛◌, some, later, ◌$◌, ◌∵◌, !, qed, by, move, drop, use1, join, split, split3, pick, rewrite, fsplit, fjoin, feq_i, suffices, await, done, whole, sub, stop, fld, no_more, and_then, of_opd, returns, enter, first, blocks, exec, alloc_all, pass_all, free_all, look_at, get, get_in, sets, lands_last, env, RattleType, no, block_ptr, plain, heard, nothing, only, calls_at_last, Ended, Clauses, triple_of, Triple, Contract, entered, says, Stays, stay_dropped, walk_of, ends_at, walk_Meets, token, Goes-blank, box_owns, Bx, D, R, P, B, args, box_ty, word, box_typed, box_out, box_in}
 use Rattle.std_alloc.specs.contracts.boxed.Box.from_raw as Closing
 use Rattle.std_alloc.proofs.boxed.Box.from_raw.Symbol as closing_symbol

@@ -9,7 +9,7 @@ use Rattle.chip_web.specs.contracts.raw_box.RawBox.take_apart.Key.{name}
 use Rattle.chip_web.proofs.raw_box.RawBox.take_apart.Statement.{statement}
 use Rattle.chip_web.proofs.raw_box.RawBox.take_apart.Code as code
 
--- at a box, and the drop of what is in it
+-- for a box, and the drop of its contents
 module _ (E : Bx) (drops : Dict) where
   abbrev given : Args
   given = bounded (a_type ∷ a_type ∷ []) (E.row, (E.al.row, tt)) (dcons E.al.d (dcons E.al.drops (dcons drops dnil)))
