@@ -9,8 +9,8 @@ use std::random::RandomSource;
 use std::rt::Env;
 use std::{env, io};
 
-/// How many bytes of the stack are taken at the start: those that a search needs, which are the most, and
-/// some more.
+/// The number of bytes of stack that the program takes at the start: as many as a search needs, which
+/// needs the most, and some more.
 const STACK_BYTES: usize = 393_216;
 
 fn main(rt: HostRuntime) -> ExitCode {
@@ -44,9 +44,10 @@ fn main(rt: HostRuntime) -> ExitCode {
     ExitCode::from(status)
 }
 
-// Takes stack from the system while the program can still say that it is out of memory. Where the stack can't
-// grow, as under a limit of the address space, a signal ends the program. As much memory is allocated and
-// freed first, so there is room for the stack. The system writes to both, so neither is optimized away.
+// Takes stack from the system while the program can still report that it is out of memory. If the stack can't
+// grow, as under a limit of the address space, a signal ends the program. The function therefore allocates and
+// frees as much memory first, so that there is room for the stack. The system writes to both, so neither is
+// optimized away.
 fn reserve_stack(rt: &(impl RandomSource + AllocGlobal)) -> io::Result<()> {
     let mut room = Vec::with_capacity(rt.alloc(), STACK_BYTES)?;
     room.push(0)?;
@@ -62,8 +63,8 @@ fn touch_stack(rt: &impl RandomSource) {
     let _ = rt.fill_bytes(&mut stack[..1]);
 }
 
-// How many bytes of the output may be held back. None, where someone may wait for an answer before
-// giving the next command, as at a terminal or over a pipe: a file waits for nothing.
+// The number of bytes of output that may be held back. The number is 0 if someone may wait for an answer
+// before giving the next command, as at a terminal or over a pipe. Nobody waits if the input is a file.
 fn held_bytes(rt: &impl Files) -> usize {
     match rt.metadata("/dev/stdin") {
         Ok(input) if input.is_file() => 65536,
@@ -71,7 +72,7 @@ fn held_bytes(rt: &impl Files) -> usize {
     }
 }
 
-// A seed that nobody knows, or 0 where the system gives none: no answer depends on it.
+// Returns a seed that nobody knows, or 0 if the system gives none. No answer depends on the seed.
 fn name_seed(rt: &impl RandomSource) -> u64 {
     let mut bytes = [0; 8];
     match rt.fill_bytes(&mut bytes) {
@@ -80,7 +81,7 @@ fn name_seed(rt: &impl RandomSource) -> u64 {
     }
 }
 
-// Whether the user hasn't asked for no colours, by a variable NO_COLOR that isn't empty.
+// Whether the user wants colours: a variable NO_COLOR that isn't empty asks for none.
 fn wants_color(rt: &impl Env) -> bool {
     let mut first = [0];
     match rt.var("NO_COLOR", &mut first) {
@@ -90,7 +91,7 @@ fn wants_color(rt: &impl Env) -> bool {
     }
 }
 
-// The arguments after the program's name.
+// Returns the arguments after the program's name.
 fn arguments(rt: &(impl Env + AllocGlobal)) -> io::Result<Vec<String>> {
     let arguments = env::args(rt)?.skip(1).collect(rt.alloc())?;
     Ok(arguments)
