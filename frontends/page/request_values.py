@@ -24,7 +24,7 @@ OPTION_FORMS = {
     "tape": "two hexadecimal digits for each byte, without 0x or #, as in --tape 2a07",
     "seed": "a number, as in --seed 7",
     "profile": "a name, as in --profile vip",
-    "quirks": "choices with commas between them, as in --quirks shift=vy,edges=wrap",
+    "quirks": "choices separated by commas, as in --quirks shift=vy,edges=wrap",
     "every": "a number, as in --every 1000",
 }
 

@@ -19,10 +19,10 @@ RUNS = [
     (["test", NAME], 3, f"chipbench: {SHOWN}:1: "),
     (["test", "cases" + NAME], 3, f"chipbench: cases{SHOWN}:2: cannot read the file that this line names, from the folder of cases{SHOWN}\n"),
     (["explain", NAME], 2, f"chipbench: no page on {SHOWN}; "),
-    (["explore", "game.asm", "--want", NAME], 2, f"chipbench: --want takes S1 to S7 with commas between them, not {SHOWN}\n"),
-    (["explore", "game.asm", "--keys-allowed", NAME], 2, f"chipbench: --keys-allowed takes 0 to 15, or A to F for 10 to 15, with commas between them, not {SHOWN}\n"),
+    (["explore", "game.asm", "--want", NAME], 2, f"chipbench: --want takes S1 to S7 separated by commas, not {SHOWN}\n"),
+    (["explore", "game.asm", "--keys-allowed", NAME], 2, f"chipbench: --keys-allowed takes 0 to 15, or A to F for 10 to 15, separated by commas, not {SHOWN}\n"),
     (["explore", "game.asm", "--reach", NAME], 2, f"chipbench: --reach takes a label of the source, or an address in quotes such as '#2A0', not {SHOWN}\n"),
-    (["check", "game.asm", "--allow", NAME], 2, f"chipbench: --allow takes W1 to W9 and P1 to P6 with commas between them, not {SHOWN}\n"),
+    (["check", "game.asm", "--allow", NAME], 2, f"chipbench: --allow takes W1 to W9 and P1 to P6 separated by commas, not {SHOWN}\n"),
     (["explore", "game.asm", "--never", "V0 = \x1b[31m"], 2, "--never:1:6: "),
     # beside the messages of status 2 and 3
     (["explore", "game.asm", "--keys-to", "made" + NAME], 1, f"chipbench: wrote made{SHOWN}\n"),

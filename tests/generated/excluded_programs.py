@@ -22,7 +22,7 @@ EXHAUSTED_PROGRAMS = 90
 MOST_STATES = 150
 EXHAUSTED_STEPS = 60
 ALL_CAUSES = "S1,S2,S3,S4,S5,S6,S7"
-FOR_ALL = ["never", "with any keys, random bytes and speed"]
+FOR_ALL = ["never", "for any keys, random bytes and speed"]
 LEFT = re.compile(r"left S(\d) ([0-9a-f]{4})(: \S.*)?")
 
 

@@ -2,7 +2,7 @@
 or `--always`, and by trying each set of allowed keys at each step that reads keys.
 
 The properties, and the search over whole states that answers them, are those of proved_programs.py. Each script that is found is replayed:
-it breaks the property at that step and at no earlier one. Each third program is asked with `--any-speed`: what is never broken so is broken
+it breaks the property at that step and at no earlier one. Each third program is asked with `--any-speed`: what is proved so is broken
 by no choice of keys and ticks.
 
 Ten programs of each kind are tried with the quick cases, and 50 with the slow ones.

@@ -1,5 +1,6 @@
 """Commands on a source that has faults, or doesn't open, tell them on standard error where that is a terminal, and why a tape is bad.
-They also tell there which lines and places of a source say less than they seem to.
+They also tell there which lines and places of a source say less than they seem to, where a machine has stopped, and which bound ended a
+search.
 
 Standard output has the same bytes as over a pipe, where nothing is told. The sentences are written by hand.
 """
@@ -20,6 +21,9 @@ FILES = {
     "notes.asm": b"LOOP: LD V0, 1 ;! V0 <= 5\nJP LOOP\n;! V0 <= 5 at 3\nEND\nnext game\n",
     "quiet.asm": b"LOOP: LD V0, 1\nJP LOOP ; never ;!\n;! V0 <= 5 at LOOP\nEND\n\n; the end\n",
     "behind.asm": b"LOOP: JP LOOP\nEND\n; the end\n;! V0 <= 5\n",
+    "stops.asm": b"LD V0, 5\nRET\n",
+    # a search meets more than one state: each frame asks for a key
+    "keys.asm": b"LOOP: LD V0, K\nADD V1, V0\nJP LOOP\n",
     "broken.asm": b";! V0 < 1\nLOOP: LD V0, 1\nJP LOOP\n",
 }
 ONE = (
@@ -51,27 +55,43 @@ TAPES = {
 HIDDEN = "chipbench: notes.asm:1: `;!` behind a statement or a label states nothing; put it on a line of its own\n"
 BEHIND_END = "chipbench: notes.asm:4: END ends the source here, so the lines below it are ignored\n"
 NOT_CHECKED = "chipbench: behind.asm:2: END ends the source here, so the lines below it are ignored; `;!` lines there state nothing\n"
-DECIMAL = "chipbench: {}: an address in hexadecimal begins with #: #{}\n"
+DECIMAL = "chipbench: {}: write an address in hexadecimal with a #, as in #{}\n"
 # the one word of the image is at 512, #200; 0206 is #CE
-NO_WORD = "chipbench: game.ch8: no word of the image begins at address 206, which is #CE; its words have the addresses #200 to #200\n"
-NO_LINE = "chipbench: notes.asm{}: no line begins at address {}; the nearest, line 1, begins at 512\n"
+NO_WORD = "chipbench: game.ch8: no word of the image begins at address 206 (#CE); the addresses of its words are #200 to #200\n"
+NO_LINE = "chipbench: notes.asm{}: {} is an address, not a line number, and no line begins there; the nearest, line 1, begins at 512\n"
+# the second step is that of RET, without a call
+STOPPED = "chipbench: stops.asm: the machine stopped at step 2, line 2: RET; `chipbench explain S5` says why\n"
+STATES = "chipbench: a search ended because it kept 3 states; raise that with --states\n"
 TEXT = (
     "chipbench: {} looks like a source, and is taken as an image; `asm` makes an image of a source, and other commands take one "
     "without --image\n"
 )
 # The words of runs, the first part of what standard error has over a pipe, and what it has more at a terminal.
 NOTES = [
-    (["check", "notes.asm"], "", HIDDEN + BEHIND_END),
+    (["check", "notes.asm"], "", NO_LINE.format(":3", 3) + HIDDEN + BEHIND_END),
     (["check", "quiet.asm"], "", ""),
     (["prove", "notes.asm"], "", NO_LINE.format(":3", 3) + HIDDEN + BEHIND_END),
     (["prove", "quiet.asm"], "", ""),
     (["check", "behind.asm"], "", NOT_CHECKED),
-    (["explore", "notes.asm", "--reach", "2"], "", NO_LINE.format("", 2) + DECIMAL.format("notes.asm", "2")),
-    (["explore", "notes.asm", "--reach", "#2"], "", NO_LINE.format("", 2)),
+    (["explore", "notes.asm", "--reach", "2"], "", NO_LINE.format("", 2) + DECIMAL.format("notes.asm", "2") + BEHIND_END),
+    (["explore", "notes.asm", "--reach", "#2"], "", NO_LINE.format("", 2) + BEHIND_END),
     (["explore", "--image", "game.ch8", "--reach", "0206"], "", NO_WORD + DECIMAL.format("game.ch8", "0206")),
     (["explore", "--image", "game.ch8", "--reach", "#200"], "", ""),
-    (["explore", "notes.asm", "--reach", "LOOP"], "", ""),
-    (["explore", "notes.asm", "--never", "V0 = 6 at 2"], "", NO_LINE.format("", 2)),
+    (["explore", "notes.asm", "--reach", "LOOP"], "", BEHIND_END),
+    (["explore", "notes.asm", "--never", "V0 = 6 at 2"], "", NO_LINE.format("", 2) + BEHIND_END),
+    (["asm", "behind.asm", "out.ch8"], "", NOT_CHECKED),
+    (["list", "behind.asm"], "", NOT_CHECKED),
+    (["syms", "behind.asm"], "", NOT_CHECKED),
+    (["run", "behind.asm", "--steps", "3"], "", NOT_CHECKED),
+    (["trace", "behind.asm", "--steps", "3"], "", NOT_CHECKED),
+    (["picture", "behind.asm", "--steps", "3"], "", NOT_CHECKED),
+    (["run", "stops.asm", "--steps", "1"], "", ""),
+    (["run", "stops.asm", "--steps", "2"], "", STOPPED),
+    (["run", "stops.asm", "--steps", "1000000"], "", STOPPED),
+    (["picture", "stops.asm", "--steps", "9"], "", STOPPED),
+    (["picture", "stops.asm", "--steps", "9", "--png", "a.png"], "", STOPPED),
+    (["explore", "keys.asm", "--states", "3", "--no-facts"], "", STATES),
+    (["prove", "keys.asm", "--states", "3", "--no-facts"], "", "chipbench: keys.asm states no property: a line such as `;! always V0 <= 9` does\n"),
     (["dis", "quiet.asm"], "", TEXT.format("quiet.asm")),
     (["run", "--image", "quiet.asm", "--steps", "1"], "", TEXT.format("quiet.asm")),
     (["prove", "broken.asm", "--keys-to", "none/"], "chipbench: cannot write none/\nreason: ", "help: make the folder of this file first, as by mkdir\n"),

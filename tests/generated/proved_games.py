@@ -4,7 +4,7 @@ properties, and so does a search over all states of the machine of tests/trace/e
 never meets is never met.
 
 A property is text for the program and a test of such a machine here. Each script is replayed by that machine, and by `run --keys`: the
-property is broken at its step and at no earlier one. What is put right in a game is never broken. Those of `can` are left to
+property is broken at its step and at no earlier one. What is put right in a game is proved. Those of `can` are left to
 proved_prospects.py.
 """
 import importlib.util
@@ -16,7 +16,7 @@ PROGRAMS = pathlib.Path(__file__).with_name("proved_programs.py")
 EXAMPLE = pathlib.Path(__file__).parents[2] / "examples" / "road.asm"
 RATE = 10
 TAPE = "3b5a91c7042fe866"
-GOOD_ANSWERS = (": never broken: ", ": never broken with any keys, ", ": unbroken up to step ", ": reached at step ", ": always: ")
+GOOD_ANSWERS = (": proved: ", ": proved for any keys, ", ": unbroken up to step ", ": reached at step ", ": always: ")
 
 # name, keys, source with a line ;! for each test, and the tests, in the order of these lines: what breaks the property, or reaches it
 GAMES = {}
@@ -301,7 +301,7 @@ def replayed(code, lines, test, last):
 
 def expected(kind, first):
     if first is None:
-        return "never reached" if kind == "ever" else "never broken"
+        return "never reached" if kind == "ever" else "proved"
     return "reached" if kind == "ever" else "broken"
 
 

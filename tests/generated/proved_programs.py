@@ -179,8 +179,8 @@ def proved(program, folder, *options):
 def words_of(kind, name):
     """The words for a property that is met, one that isn't up to a step, and one that never is."""
     met, unmet = ("reached", "not reached") if kind == "ever" else ("broken", "unbroken")
-    never = f"never {met}"
-    facts = f"{never} with any keys, random bytes and speed"
+    never = "never reached" if kind == "ever" else "proved"
+    facts = f"{never} for any keys, random bytes and speed"
     return {"met": met, "unmet": unmet, "never": never, "speed": f"{never} at any speed", "facts": facts}[name]
 
 

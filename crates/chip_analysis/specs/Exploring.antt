@@ -225,7 +225,7 @@ covering_text is_covering executed lines =
 abbrev pub excluded_lines : (is_any_speed : Bool) → (rows : ℕ) → List ℕ
 excluded_lines is_any_speed rows =
     (if is_any_speed then codes "never at any speed\n" else codes "never\n")
-    ++ codes "with any keys, random bytes and speed\n" ++ number_line (codes "facts ") rows
+    ++ codes "for any keys, random bytes and speed\n" ++ number_line (codes "facts ") rows
 
 pub record IsExclusionPrinted (is_any_speed : Bool) (wanted : Printed) : Type 0 where
   pub rows : ℕ

@@ -10,7 +10,7 @@ ghost use Rattle.chip_host.specs.Printing.{printed_by, printed};
 
 use crate::covering::Covered;
 use crate::excluding::{CHECK_FACT_STEPS, executed_in, facts_within};
-use crate::noting::tell_lines;
+use crate::noting::tell_notes;
 use crate::progress::{Progress, Teller};
 use crate::sets::warnings_of;
 use chip_arguments::{CheckArguments, ColorChoice, SettingArguments};
@@ -23,7 +23,6 @@ use chip_session::{Counted, Settings};
 use chip_warnings::{Asked, Warning, warnings};
 use std::alloc::{AllocError, Global};
 use std::io::{Read, Write};
-use std::str;
 use std::time::Clock;
 
 /// How sources are checked, and how what is found in them is printed.
@@ -151,7 +150,7 @@ impl<'p> Checker<'p> {
             Ok(source) => source,
             Err(error) => return self.unopened(alloc, name, error),
         };
-        tell_lines(alloc, str::from_utf8(name).unwrap_or(""), &source, teller);
+        tell_notes(alloc, name, &source, teller);
         let covered = self.covered(alloc, &source, teller)?;
         let coverage = covered.as_ref().map(|covered| covered.coverage());
         let facts = self.facts_about(alloc, &source);

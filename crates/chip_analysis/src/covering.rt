@@ -4,9 +4,9 @@ ghost use Rattle.chip_machine.specs.Start.{start_of};
 ghost use Rattle.chip_analysis.specs.Exploring.{usual_keys};
 ghost use Rattle.chip_analysis.specs.inner.Covering.{IsCoverage, covered_step};
 
-use crate::exploring::machine_of;
+use crate::exploring::{bytes_of, machine_of};
 use crate::sets::ALL_KEYS;
-use chip_arguments::USUAL_STATES;
+use chip_arguments::{USUAL_MEMORY, USUAL_STATES};
 use chip_explore::{
     Bounds, Causes, END, Executed, Explored, Outcome, Question, Target, Ticks, Watcher, explore,
 };
@@ -63,6 +63,7 @@ impl Covered {
         let bounds = Bounds {
             steps: END,
             states: USUAL_STATES as usize,
+            memory: bytes_of(USUAL_MEMORY),
             is_deep: false,
             ticks: Ticks::AtRate,
         };

@@ -99,7 +99,7 @@ pub(crate) fn excluded_text(
     } else {
         text.extend_from_slice(b"never\n")?;
     }
-    text.extend_from_slice(b"with any keys, random bytes and speed\n")?;
+    text.extend_from_slice(b"for any keys, random bytes and speed\n")?;
     push_line(&mut text, b"facts ", rows as u64)?;
     Ok(text)
 }

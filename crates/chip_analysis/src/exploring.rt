@@ -8,7 +8,7 @@ ghost use Rattle.chip_analysis.specs.Exploring.{AsksProperty, StatesOne, address
 
 use crate::excluding::{Searched, excluded_text, fact_steps, facts_within, left_of};
 use crate::noting::tell_target;
-use crate::progress::{News, Progress, Teller};
+use crate::progress::{Bound, News, Progress, Teller};
 use crate::sets::{Sets, sets_of};
 use crate::stop_place::{place_text, word_text};
 use crate::telling::{tell_faults, tell_unopened};
@@ -313,8 +313,8 @@ impl<'p, 'a> Search<'p, 'a> {
         };
         let text = search_text(system.alloc, arguments, source, &explored, &place, &stops)?;
         write_script(system, arguments, &explored.outcome, teller)?;
-        if explored.is_stopped {
-            teller.tell(News::OutOfTime);
+        if let Some(bound) = Bound::of(&explored, &arguments.search) {
+            teller.tell(bound.news(&arguments.search));
         }
         print(&text, search_ending(&explored), output)
     }
@@ -328,9 +328,15 @@ pub(crate) fn bounds_of(arguments: &SearchArguments<'_>, ticks: Ticks) -> Bounds
             None => END,
         },
         states: arguments.states as usize,
+        memory: bytes_of(arguments.memory),
         is_deep: arguments.is_deep,
         ticks,
     }
+}
+
+/// The number of bytes in so many megabytes.
+pub(crate) fn bytes_of(megabytes: u32) -> u64 {
+    u64::from(megabytes) * 1_000_000
 }
 
 // Writes the key events of the script that was found, where there is a file for them.
@@ -353,7 +359,7 @@ fn write_script<'a, F: FileAccess, T: Teller>(
     let text = script_text(system.alloc, events)?;
     let taken = [Some(file_name(arguments.search.source))];
     let ending = system.write(&taken, name, &text)?;
-    teller.tell(News::Written(name));
+    teller.tell(News::of_keys(name, events));
     Ok(ending)
 }
 

@@ -17,4 +17,5 @@ mod telling;
 pub use checking::check;
 pub use exploring::explore;
 pub use proving::prove;
-pub use telling::{tell_faults, tell_unopened};
+pub use stop_place::line_text;
+pub use telling::{tell_end, tell_faults, tell_unopened};

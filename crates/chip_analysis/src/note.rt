@@ -1,18 +1,33 @@
-//! What the notes on properties and places say.
+//! Notes on properties, places and lines, and their texts.
 
 use crate::ranges::Fixed;
+use chip_host::Shown;
 use std::io::{self, Write};
 
-/// Why a property or a place says less than it seems to.
+/// Writes a note on a line of a source, or with the number 0 on the whole source.
+pub(crate) fn write_note<E: Write>(
+    errors: &mut E,
+    name: &str,
+    line: usize,
+    note: Note<'_>,
+) -> io::Result<()> {
+    match line {
+        0 => write!(errors, "chipbench: {}: ", Shown(name))?,
+        _ => write!(errors, "chipbench: {}:{line}: ", Shown(name))?,
+    }
+    note.write(errors)
+}
+
+/// The reason why a property, a place or a line says less than it seems to.
 #[derive(Clone, Copy)]
 pub(crate) enum Note<'n> {
-    /// No line begins at `address`. The nearest line has this number, and begins at `begin`.
+    /// No line begins at `address`. The nearest line has this number and begins at `begin`.
     NoLineAt {
         address: u16,
         number: usize,
         begin: usize,
     },
-    /// No word of the image begins at `address`. Its words have the addresses from `first` to `last`.
+    /// No word of the image begins at `address`. The addresses of its words are `first` to `last`.
     NoWordAt {
         address: u16,
         first: usize,
@@ -20,27 +35,27 @@ pub(crate) enum Note<'n> {
     },
     /// An address was written with these decimal digits.
     Decimal(&'n str),
-    /// A comparison has numbers alone, and this label is one of them.
+    /// A comparison has only numbers, and this label is one of them.
     Label {
         label: &'n str,
         value: i32,
     },
-    /// A comparison has numbers alone.
+    /// A comparison has only numbers.
     Constant,
     /// A comparison always has the same answer.
     Fixed(Fixed),
     /// This word means something in a property, and is also a name of the source.
     Word(&'n str),
-    /// `;!` stands behind a statement.
+    /// `;!` follows a statement.
     Hidden,
-    /// Lines that aren't empty stand behind END.
+    /// Lines that aren't empty follow END.
     BehindEnd,
-    /// Lines stand behind END that begin with `;!`.
+    /// Lines that begin with `;!` follow END.
     PropertiesBehindEnd,
 }
 
 impl<'n> Note<'n> {
-    /// Writes what it says, and the end of the line.
+    /// Writes the text of the note, and the end of the line.
     pub(crate) fn write<E: Write>(self, errors: &mut E) -> io::Result<()> {
         match self {
             Note::NoLineAt {
@@ -49,7 +64,7 @@ impl<'n> Note<'n> {
                 begin,
             } => writeln!(
                 errors,
-                "no line begins at address {address}; the nearest, line {number}, begins at {begin}"
+                "{address} is an address, not a line number, and no line begins there; the nearest, line {number}, begins at {begin}"
             ),
             Note::NoWordAt {
                 address,
@@ -57,43 +72,43 @@ impl<'n> Note<'n> {
                 last,
             } => writeln!(
                 errors,
-                "no word of the image begins at address {address}, which is #{address:X}; its words have the addresses #{first:X} to #{last:X}"
+                "no word of the image begins at address {address} (#{address:X}); the addresses of its words are #{first:X} to #{last:X}"
             ),
             Note::Decimal(digits) => writeln!(
                 errors,
-                "an address in hexadecimal begins with #: #{digits}"
+                "write an address in hexadecimal with a #, as in #{digits}"
             ),
             other => other.write_on_line(errors),
         }
     }
 
-    /// The same of a comparison or a line.
+    /// Writes the text of a note on a comparison or a line.
     fn write_on_line<E: Write>(self, errors: &mut E) -> io::Result<()> {
         match self {
             Note::Label { label, value } => writeln!(
                 errors,
-                "a comparison has constants alone: {label} is the address {value}; [{label}] is the byte there"
+                "a comparison has only constants: {label} is the address {value}; write [{label}] for the byte there"
             ),
             Note::Fixed(fixed) => {
                 let (low, high) = fixed.sides();
                 let Fixed { most, least, .. } = fixed;
                 writeln!(
                     errors,
-                    "a comparison always has the same answer: its {low} side is at most {most}, its {high} side at least {least}"
+                    "a comparison always has the same answer: its {low} side is at most {most}, and its {high} side is at least {least}"
                 )
             }
             Note::Word(word) => writeln!(
                 errors,
-                "{word} is a word of properties here; the name of the source is written ({word}), and the byte at it [{word}]"
+                "{word} is a word of properties here; write ({word}) for the name of the source, and [{word}] for the byte there"
             ),
             other => writeln!(errors, "{}", other.sentence()),
         }
     }
 
-    /// What it says whatever it is about.
+    /// The text of a note that names nothing.
     fn sentence(self) -> &'static str {
         match self {
-            Note::Constant => "a comparison has constants alone, so no step changes it",
+            Note::Constant => "a comparison has only constants, so no step changes its answer",
             Note::BehindEnd => "END ends the source here, so the lines below it are ignored",
             Note::PropertiesBehindEnd => {
                 "END ends the source here, so the lines below it are ignored; `;!` lines there state nothing"

@@ -1,4 +1,4 @@
-//! What is told, where somebody reads it, of properties and places that say less than they seem to.
+//! Notes, for a reader at a terminal, on properties, places and lines that say less than they seem to.
 
 use crate::note::Note;
 use crate::progress::{News, Teller};
@@ -7,47 +7,68 @@ use chip_arguments::ExploreArguments;
 use chip_asm::{LineView, Source};
 use chip_explore::{Item, Property, Sum, Target};
 use chip_lang::{Body, Line};
-use chip_properties::{Stated, names_used, property_text};
+use chip_properties::{Stated, names_used, properties_of, property_text};
 use std::alloc::Global;
 use std::str;
 
-/// Tells which lines of a source have `;!` behind a statement, and whether lines stand behind its END. Where
-/// memory runs out, that is left out.
+/// Tells the notes on the properties and lines of a source. Nothing is told where memory runs out.
+pub(crate) fn tell_notes<T: Teller>(alloc: Global, name: &[u8], source: &Source, teller: &mut T) {
+    let name = str::from_utf8(name).unwrap_or("");
+    if let Ok(properties) = properties_of(alloc, source) {
+        tell_properties(alloc, name, source, &properties.stated, teller);
+    }
+    tell_lines(alloc, name, source, teller);
+}
+
+/// Tells which lines of a source have `;!` behind a statement, and whether END hides lines. Nothing is told where
+/// memory runs out.
 pub(crate) fn tell_lines<T: Teller>(alloc: Global, name: &str, source: &Source, teller: &mut T) {
     for number in 1..=source.lines() {
-        if let Some(line) = source.line(number) {
-            if line.is_active() && is_end(&line) {
-                tell_behind_end(name, number, source, teller);
-                return;
-            }
-            if hides_property(alloc, &line) {
-                tell_of(name, number, Note::Hidden, teller);
-            }
+        if let Some(line) = source.line(number)
+            && hides_property(alloc, &line)
+        {
+            tell_of(name, number, Note::Hidden, teller);
         }
+    }
+    if let Some((number, note)) = note_on_end(source) {
+        tell_of(name, number, note, teller);
     }
 }
 
-/// Tells whether lines stand behind the END in the line of a number, and whether properties are among them.
-fn tell_behind_end<T: Teller>(name: &str, end: usize, source: &Source, teller: &mut T) {
+/// The number of the line with END, and a note on it, if lines that END hides aren't all empty or comments.
+pub(crate) fn note_on_end<'n>(source: &Source) -> Option<(usize, Note<'n>)> {
+    for number in 1..=source.lines() {
+        if let Some(line) = source.line(number)
+            && line.is_active()
+            && is_end(&line)
+        {
+            return match note_on_hidden(source, number) {
+                Some(note) => Some((number, note)),
+                None => None,
+            };
+        }
+    }
+    None
+}
+
+/// The note on the lines below the line with END, if they aren't all empty or comments.
+fn note_on_hidden<'n>(source: &Source, end: usize) -> Option<Note<'n>> {
     let mut note = None;
     for number in end.saturating_add(1)..=source.lines() {
         if let Some(line) = source.line(number) {
             if property_text(line.text()).is_some() {
-                note = Some(Note::PropertiesBehindEnd);
-                break;
+                return Some(Note::PropertiesBehindEnd);
             }
             if !is_comment(line.text()) {
                 note = Some(Note::BehindEnd);
             }
         }
     }
-    if let Some(note) = note {
-        tell_of(name, end, note, teller);
-    }
+    note
 }
 
-/// Tells which properties of a source have a place at which no line begins, or a comparison without
-/// anything that changes, or that always has the same answer. Where memory runs out, that is left out.
+/// Tells which properties of a source have a place at which no line begins, or a comparison that always has the
+/// same answer. Nothing is told where memory runs out.
 pub(crate) fn tell_properties<T: Teller>(
     alloc: Global,
     name: &str,
@@ -69,8 +90,8 @@ pub(crate) fn tell_properties<T: Teller>(
     }
 }
 
-/// Tells which places that the arguments of a search ask for are no line's address, or no word's of the image,
-/// and which comparisons always have the same answer.
+/// Tells which places in the arguments of a search are the address of no line, or of no word of the image, and which
+/// comparisons always have the same answer.
 pub(crate) fn tell_target<T: Teller>(
     arguments: &ExploreArguments<'_>,
     source: &Source,
@@ -101,7 +122,7 @@ pub(crate) fn tell_target<T: Teller>(
     }
 }
 
-/// What is told of an address at which no line begins, or in an image no word; nothing of another one.
+/// The note on an address at which no line begins, or no word of an image. None for any other address.
 fn note_on_place<'n>(is_image: bool, source: &Source, address: u16) -> Option<Note<'n>> {
     let wanted = usize::from(address);
     let mut nearest: Option<(usize, usize)> = None;
@@ -139,15 +160,15 @@ fn note_on_place<'n>(is_image: bool, source: &Source, address: u16) -> Option<No
     }
 }
 
-/// Whether a property has a comparison of numbers alone.
+/// Whether a property has a comparison with only numbers.
 fn has_constant(property: &Property) -> bool {
     property.condition.comparisons.iter().any(|comparison| {
         comparison.left.terms.is_empty() && comparison.right.terms.is_empty()
     })
 }
 
-/// Tells of the first comparison of a property that always has the same answer why it does, and which of its
-/// words is also a name of the source. `number` is that of the property's line, or 0 for an argument.
+/// Tells why the first comparison of a property that always has the same answer does so, and which of its words is
+/// also a name of the source. `number` is the number of the property's line, or 0 for an argument.
 fn tell_fixed<T: Teller>(
     name: &str,
     number: usize,
@@ -186,8 +207,7 @@ fn word_of(item: Item) -> Option<&'static str> {
     }
 }
 
-/// Tells that the property of a line compares numbers alone, with the address of its first label if it names
-/// one.
+/// Tells that the property of a line compares only numbers, with the address of its first label if it names one.
 fn tell_constant<T: Teller>(
     alloc: Global,
     name: &str,
@@ -214,7 +234,7 @@ fn tell_constant<T: Teller>(
     tell_of(name, number, Note::Constant, teller);
 }
 
-/// Whether the name that a line gives is a label.
+/// Whether the name that a line defines is a label.
 fn is_label(source: &Source, number: usize) -> bool {
     match source.line(number) {
         Some(line) => !matches!(
@@ -244,7 +264,7 @@ fn is_end(line: &LineView<'_>) -> bool {
     )
 }
 
-/// Whether a line has `;!` behind its statement or its label, where it states nothing.
+/// Whether `;!` follows the statement or the label of a line, where it states nothing.
 fn hides_property(alloc: Global, line: &LineView<'_>) -> bool {
     let Ok(tokens) = line.tokens(alloc) else {
         return false;

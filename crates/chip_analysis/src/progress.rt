@@ -1,23 +1,31 @@
-//! What is said on standard error while a search runs and after it, and when one ends.
+//! The messages on standard error during and after a search, and the time at which a search ends.
 
-use crate::note::Note;
-use chip_explore::Watcher;
+use crate::note::{Note, write_note};
+use chip_arguments::SearchArguments;
+use chip_explore::{Explored, KeyEvent, Outcome, Watcher};
 use chip_host::Shown;
+use chip_replay::{LAST_STEP, MOST_EVENTS};
 use std::io;
 use std::io::Write;
 use std::time::{Clock, Duration, Instant};
 
-/// What a command tells beside its answers.
+/// A message of a command beside its answers.
 #[derive(Clone, Copy)]
 pub(crate) enum News<'n> {
     /// A file of this name was written.
     Written(&'n str),
+    /// The key file of this name was written, and other commands don't take it because it is too long.
+    WrittenLong(&'n str),
     /// A file of this name couldn't be written.
     Unwritten(&'n str, &'n io::Error),
     /// The source of this name states no property.
     NothingStated(&'n str),
-    /// The time is over.
+    /// The time of a search is over.
     OutOfTime,
+    /// A search ended because it kept this many states. Only a reader is told.
+    OutOfStates(u32),
+    /// A search ended because it took this many megabytes.
+    OutOfMemory(u32),
     /// A note on a line of the source of this name, or with the number 0 on the whole source. Only a reader
     /// is told.
     Noted {
@@ -27,29 +35,82 @@ pub(crate) enum News<'n> {
     },
 }
 
-/// A watcher that also tells what a command did.
+impl<'n> News<'n> {
+    /// The message about a key file that was written with these events, in the order of their steps.
+    pub(crate) fn of_keys(name: &'n str, events: &[KeyEvent]) -> News<'n> {
+        let is_late = events.last().is_some_and(|event| event.step > LAST_STEP);
+        if is_late || events.len() > MOST_EVENTS {
+            News::WrittenLong(name)
+        } else {
+            News::Written(name)
+        }
+    }
+}
+
+/// The bound at which a search ended before it had an answer.
+#[derive(Clone, Copy, PartialEq, Eq)]
+pub(crate) enum Bound {
+    Seconds,
+    Memory,
+    States,
+}
+
+impl Bound {
+    /// The bound at which a search with these arguments ended, if it ended early.
+    pub(crate) fn of(explored: &Explored, arguments: &SearchArguments<'_>) -> Option<Bound> {
+        let is_open = matches!(explored.outcome, Outcome::Within(_) | Outcome::Later { .. });
+        if explored.is_stopped {
+            Some(Bound::Seconds)
+        } else if is_open && explored.is_at_memory {
+            Some(Bound::Memory)
+        } else if is_open && explored.states > arguments.states as usize {
+            Some(Bound::States)
+        } else {
+            None
+        }
+    }
+
+    /// The message about a search with these arguments that ended at the bound.
+    pub(crate) fn news<'n>(self, arguments: &SearchArguments<'_>) -> News<'n> {
+        match self {
+            Bound::Seconds => News::OutOfTime,
+            Bound::Memory => News::OutOfMemory(arguments.memory),
+            Bound::States => News::OutOfStates(arguments.states),
+        }
+    }
+
+    /// The name of the bound in JSON.
+    pub(crate) fn word(self) -> &'static [u8] {
+        match self {
+            Bound::Seconds => b"seconds",
+            Bound::Memory => b"memory",
+            Bound::States => b"states",
+        }
+    }
+}
+
+/// A watcher of searches that also writes messages.
 pub(crate) trait Teller: Watcher {
     fn tell(&mut self, news: News<'_>);
 
-    /// A search begins, and with it so many are left: it ends when its share of the time is over.
+    /// A search begins, and this many are left with it. The search ends when its share of the time is over.
     fn begin(&mut self, searches: usize);
 }
 
-/// How far a search is, said on standard error, and when it ends. Where standard error fails there is
-/// nobody to tell.
+/// Messages on standard error, and the time at which searches end. Failures of standard error are ignored.
 #[derive(Drop)]
 pub(crate) struct Progress<'e, E, C> {
     errors: &'e mut E,
     is_shown: bool,
     clock: &'e C,
-    /// When searches end, if they have a time.
+    /// The time at which all searches end, if there is one.
     end: Option<Instant>,
-    /// When the search that has begun ends, if it has a share of that time.
+    /// The time at which the present search ends, if there is one.
     end_of_share: Option<Instant>,
 }
 
 impl<'e, E: Write, C: Clock> Progress<'e, E, C> {
-    /// With the end after so many seconds. Where the clock can't be read there is none.
+    /// Messages, and an end of searches after this many seconds. Searches have no end if the clock can't be read.
     pub(crate) fn new(
         errors: &'e mut E,
         is_shown: bool,
@@ -72,7 +133,7 @@ impl<'e, E: Write, C: Clock> Progress<'e, E, C> {
         }
     }
 
-    /// When the share of a search is over, where so many are left. Where the clock can't be read it has all the time.
+    /// The time at which a search ends, if this many are left. If the clock can't be read, it has all the time.
     fn share_of(&self, searches: usize) -> Option<Instant> {
         let end = self.end?;
         let Ok(now) = Instant::now(self.clock) else {
@@ -107,31 +168,29 @@ impl<'e, E: Write, C: Clock> Watcher for Progress<'e, E, C> {
     }
 }
 
-impl<'e, E: Write, C: Clock> Progress<'e, E, C> {
-    /// Tells a note on a line of a source.
-    fn tell_note(&mut self, name: &str, line: usize, note: Note<'_>) {
-        let _ = match line {
-            0 => write!(self.errors, "chipbench: {}: ", Shown(name)),
-            _ => write!(self.errors, "chipbench: {}:{line}: ", Shown(name)),
-        };
-        let _ = note.write(self.errors);
-    }
-}
-
 impl<'e, E: Write, C: Clock> Teller for Progress<'e, E, C> {
     fn begin(&mut self, searches: usize) {
         self.end_of_share = self.share_of(searches);
     }
 
     fn tell(&mut self, news: News<'_>) {
-        if let News::Noted { name, line, note } = news {
-            if self.is_shown {
-                self.tell_note(name, line, note);
-            }
-            return;
-        }
         let _ = match news {
+            News::Noted { .. } | News::OutOfStates(_) if !self.is_shown => Ok(()),
+            News::Noted { name, line, note } => write_note(self.errors, name, line, note),
+            News::OutOfStates(states) => writeln!(
+                self.errors,
+                "chipbench: a search ended because it kept {states} states; raise that with --states"
+            ),
+            News::OutOfMemory(megabytes) => writeln!(
+                self.errors,
+                "chipbench: a search ended because it took {megabytes} MB; raise that with --memory"
+            ),
             News::Written(name) => writeln!(self.errors, "chipbench: wrote {}", Shown(name)),
+            News::WrittenLong(name) => writeln!(
+                self.errors,
+                "chipbench: wrote {}, which other commands don't take: they take at most {MOST_EVENTS} key events, up to step {LAST_STEP}",
+                Shown(name)
+            ),
             News::Unwritten(name, error) => writeln!(
                 self.errors,
                 "chipbench: cannot write {}\nreason: {error}",
@@ -143,7 +202,6 @@ impl<'e, E: Write, C: Clock> Teller for Progress<'e, E, C> {
                 Shown(name)
             ),
             News::OutOfTime => writeln!(self.errors, "chipbench: out of time"),
-            News::Noted { .. } => Ok(()),
         };
     }
 }

@@ -22,9 +22,9 @@ use crate::checking::Checker;
 use crate::excluding::{bytes_are_small, excludes_property, fact_steps, facts_within};
 use crate::exploring::{bounds_of, machine_of, push_line, script_text};
 use crate::noting::{tell_lines, tell_properties};
-use crate::progress::{News, Progress, Teller};
+use crate::progress::{Bound, News, Progress, Teller};
 use crate::sets::keys_of;
-use chip_arguments::ProveArguments;
+use chip_arguments::{ProveArguments, SearchArguments};
 use chip_asm::Source;
 use chip_check::{PropertyAnswer, PropertyPlace, Scope, is_bad, push_property_fault, push_quoted};
 use chip_explore::laws::one_of_several;
@@ -154,8 +154,8 @@ pub(crate) struct Verdict {
     states: usize,
     /// Memory ran out.
     is_short: bool,
-    /// The time was over.
-    is_late: bool,
+    /// The bound at which a search ended early.
+    bound: Option<Bound>,
 }
 
 /// What is answered next: the property at the place, or, with no place, all that are left.
@@ -176,8 +176,8 @@ pub(crate) struct Told {
     is_bad: bool,
     /// Memory ran out in a search.
     is_short: bool,
-    /// A search ended since its time was over.
-    is_late: bool,
+    /// The bound at which the first search that ended early did so.
+    bound: Option<Bound>,
     /// How many of the properties that are left, from the first one on, facts don't exclude.
     tried: usize,
     /// Which script was written.
@@ -371,8 +371,8 @@ impl<'p, 'a, F: FileAccess> Prover<'p, 'a, F> {
         print(reports, Ending::Done, output)?;
         let is_empty = left.heads.is_empty();
         let told = self.answer(left, Told::NOTHING, output, teller)?;
-        if told.is_late {
-            teller.tell(News::OutOfTime);
+        if let Some(bound) = told.bound {
+            teller.tell(bound.news(&self.arguments.search));
         }
         let text = self.end_text(&told, is_empty)?;
         let ending = print(&text, told.ending(is_faulty), output)?;
@@ -454,7 +454,7 @@ impl<'p, 'a, F: FileAccess> Prover<'p, 'a, F> {
         let told = Told {
             states: told.states.max(next.verdict.states),
             is_short: told.is_short || next.verdict.is_short,
-            is_late: told.is_late || next.verdict.is_late,
+            bound: told.bound.or(next.verdict.bound),
             tried: next.tried,
             ..told
         };
@@ -507,7 +507,7 @@ impl<'p, 'a, F: FileAccess> Prover<'p, 'a, F> {
             let explored = self.foresee(&left.properties[place], teller);
             return Next {
                 place: Some(place),
-                verdict: Verdict::of(explored, false),
+                verdict: Verdict::of(explored, &self.arguments.search, false),
                 tried: usize::MAX,
             };
         }
@@ -515,7 +515,11 @@ impl<'p, 'a, F: FileAccess> Prover<'p, 'a, F> {
         let place = met_property(&explored.outcome, left.heads.len());
         Next {
             place,
-            verdict: Verdict::of(explored, self.arguments.search.is_any_speed),
+            verdict: Verdict::of(
+                explored,
+                &self.arguments.search,
+                self.arguments.search.is_any_speed,
+            ),
             tried: usize::MAX,
         }
     }
@@ -645,7 +649,8 @@ impl<'p, 'a, F: FileAccess> Prover<'p, 'a, F> {
         if is_folder(path) {
             let line = head.line;
             let name = format!(in self.system.alloc; "{path}{line}.keys")?;
-            return Ok(self.write_in_folder(name.as_str(), &text, written, teller)?);
+            let news = News::of_keys(name.as_str(), events);
+            return Ok(self.write_in_folder(name.as_str(), &text, news, written, teller)?);
         }
         let written = match (head.kind, written) {
             (Kind::Ever, Written::Nothing) => Written::Reached,
@@ -655,7 +660,7 @@ impl<'p, 'a, F: FileAccess> Prover<'p, 'a, F> {
             _ => return Ok(written),
         };
         self.system.write(&self.taken(), path, &text)?;
-        teller.tell(News::Written(path));
+        teller.tell(News::of_keys(path, events));
         Ok(written)
     }
 
@@ -665,13 +670,14 @@ impl<'p, 'a, F: FileAccess> Prover<'p, 'a, F> {
         &self,
         name: &str,
         bytes: &[u8],
+        news: News<'_>,
         written: Written,
         teller: &mut T,
     ) -> Result<Written, AllocError> {
         let system = self.system;
         match system.files.write(system.alloc, &self.taken(), name, bytes) {
             Ok(()) => {
-                teller.tell(News::Written(name));
+                teller.tell(news);
                 Ok(written)
             }
             Err(error) if error.kind() == io::ErrorKind::OutOfMemory => Err(AllocError),
@@ -716,8 +722,10 @@ impl<'p, 'a, F: FileAccess> Prover<'p, 'a, F> {
         if told.is_short {
             text.extend_from_slice(b",\"out_of_memory\":true")?;
         }
-        if told.is_late {
-            text.extend_from_slice(b",\"out_of_time\":true")?;
+        if let Some(bound) = told.bound {
+            text.extend_from_slice(b",\"ended_by\":\"")?;
+            text.extend_from_slice(bound.word())?;
+            text.extend_from_slice(b"\"")?;
         }
         text.extend_from_slice(b",\"file\":")?;
         push_quoted(
@@ -741,15 +749,16 @@ impl Verdict {
             scope: Scope::Anything,
             states: 0,
             is_short: false,
-            is_late: false,
+            bound: None,
         }
     }
 
-    /// The verdict of a search, where an answer at any speed may be asked for.
-    fn of(explored: Explored, is_any_speed: bool) -> Verdict
+    /// The verdict of a search with these arguments, where an answer at any speed may be asked for.
+    fn of(explored: Explored, arguments: &SearchArguments<'_>, is_any_speed: bool) -> Verdict
         ensures outcome { result.outcome ≡ explored.outcome }
         ensures scope { result.scope ≡ searched_scope (is_any_speed && explored.is_at_any_speed) }
     {
+        let bound = Bound::of(&explored, arguments);
         let scope = if is_any_speed && explored.is_at_any_speed {
             Scope::AtAnySpeed
         } else {
@@ -759,7 +768,7 @@ impl Verdict {
             scope,
             states: explored.states,
             is_short: explored.is_short,
-            is_late: explored.is_stopped,
+            bound,
             outcome: explored.outcome,
         }
     }
@@ -771,7 +780,7 @@ impl Told {
         states: 0,
         is_bad: false,
         is_short: false,
-        is_late: false,
+        bound: None,
         tried: 0,
         written: Written::Nothing,
     };

@@ -4,8 +4,8 @@ ghost use Rattle.std.specs.Prelude.{◌<◌};
 use chip_asm::{LineView, Source};
 use chip_explore::{KeyEvent, Met, Outcome};
 use chip_lang::{Kind, push_shown};
-use chip_machine::Machine;
-use chip_replay::{AtError, KeyFault, LEAST_SPACING, Replay};
+use chip_machine::{Machine, Touch};
+use chip_replay::KEYS;
 use chip_trace::{push_decimal, word_digits};
 use std::alloc::{AllocError, Global};
 
@@ -21,7 +21,7 @@ pub(crate) fn place_text(
 ) -> Result<Vec<u8>, AllocError>
     requires rate { 0 < rate }
 {
-    let Some(met) = place_met(alloc, start, rate, outcome)? else {
+    let Some(met) = place_met(start, rate, outcome)? else {
         return Ok(Vec::new(alloc));
     };
     let line = line_text(alloc, source, met.address)?;
@@ -31,12 +31,13 @@ pub(crate) fn place_text(
     Ok(line)
 }
 
-/// A comma, and the line of the source at an address, with its text. Nothing where there is no such line.
-pub(crate) fn line_text(
-    alloc: Global,
-    source: &Source,
-    address: u16,
-) -> Result<Vec<u8>, AllocError> {
+/// A comma, and the number and the statement of the source's line at an address. The text is empty if there is no such
+/// line.
+///
+/// # Errors
+///
+/// Out of memory.
+pub fn line_text(alloc: Global, source: &Source, address: u16) -> Result<Vec<u8>, AllocError> {
     let mut text = Vec::new(alloc);
     for number in 1..=source.lines() {
         if let Some(line) = source.line(number)
@@ -64,7 +65,7 @@ pub(crate) fn word_text(
 ) -> Result<Vec<u8>, AllocError>
     requires rate { 0 < rate }
 {
-    match place_met(alloc, start, rate, outcome)? {
+    match place_met(start, rate, outcome)? {
         Some(met) => met.text(alloc),
         None => Ok(Vec::new(alloc)),
     }
@@ -110,12 +111,7 @@ impl Place {
 }
 
 // Where a machine stopped or broke a property. An address that was looked for is no news.
-fn place_met(
-    alloc: Global,
-    start: &Machine,
-    rate: u32,
-    outcome: &Outcome,
-) -> Result<Option<Place>, AllocError>
+fn place_met(start: &Machine, rate: u32, outcome: &Outcome) -> Result<Option<Place>, AllocError>
     requires rate { 0 < rate }
 {
     match outcome {
@@ -128,38 +124,45 @@ fn place_met(
             ..
         } => Ok(None),
         Outcome::Found { events, step, .. } | Outcome::Later { events, step, .. } => {
-            place_at(alloc, start, rate, events, *step)
+            Ok(Some(place_at(start, rate, events, *step)?))
         }
         Outcome::Within(_) | Outcome::Never => Ok(None),
     }
 }
 
-// Where a machine is at a step under some events, if there is such a step.
-fn place_at(
-    alloc: Global,
-    start: &Machine,
-    rate: u32,
-    events: &[KeyEvent],
-    step: u32,
-) -> Result<Option<Place>, AllocError>
+// The place of a machine at a step, under key events in the order of their steps. A replay takes fewer events than a
+// search may find.
+fn place_at(start: &Machine, rate: u32, events: &[KeyEvent], step: u32) -> Result<Place, AllocError>
     requires rate { 0 < rate }
 {
-    let mut replay = Replay::new(alloc, start.copy_of()?, rate, LEAST_SPACING)?;
-    for event in events {
-        match replay.insert_key(event.step, event.key, event.down) {
-            Ok(()) => {}
-            Err(KeyFault::OutOfMemory) => return Err(AllocError),
-            Err(_) => return Ok(None),
+    let mut machine = start.copy_of()?;
+    let mut touch = Touch::new();
+    let mut down = 0;
+    let mut next = 0;
+    for made in 0..step {
+        for _event in next..events.len() {
+            let Some(event) = events.get(next) else {
+                break;
+            };
+            if event.step > made {
+                break;
+            }
+            down = down_after(down, event);
+            next = next.saturating_add(1);
         }
+        let number = u64::from(made) + 1;
+        machine.step(down, number % u64::from(rate) == 0, &mut touch);
     }
-    match replay.at(step) {
-        Ok(machine) => Ok(Some(Place {
-            address: machine.pc(),
-            word: word_at(machine.memory(), machine.pc()),
-        })),
-        Err(AtError::OutOfMemory) => Err(AllocError),
-        Err(AtError::StepTooLarge) => Ok(None),
-    }
+    Ok(Place {
+        address: machine.pc(),
+        word: word_at(machine.memory(), machine.pc()),
+    })
+}
+
+// The keys that are down after an event, key k at bit k.
+fn down_after(down: u16, event: &KeyEvent) -> u16 {
+    let key = if event.key < KEYS { 1 << event.key } else { 0 };
+    if event.down { down | key } else { down & !key }
 }
 
 // The word at an address, if both its bytes are in the memory.

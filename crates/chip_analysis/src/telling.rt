@@ -1,12 +1,14 @@
-//! What is said on standard error, where somebody reads it, of a source that has no image.
+//! Messages on standard error, for a reader at a terminal, about the source of a command.
 
+use crate::note::write_note;
+use crate::noting::note_on_end;
 use chip_asm::{OpenError, Source};
 use chip_check::{fault_text, unopened_report};
 use chip_host::{Shown, System};
 use std::io::Write;
 
-/// Tells the first fault of a source, as `check` prints it, and how many faults there are; nothing of a
-/// source without faults. Where standard error fails, or memory runs out, it is left out.
+/// Tells the first fault of a source, as `check` prints it, and how many faults there are. Without faults, tells
+/// whether END hides lines. Nothing is told where standard error fails or memory runs out.
 pub fn tell_faults<F, E: Write>(
     system: &System<'_, F>,
     name: &str,
@@ -18,6 +20,7 @@ pub fn tell_faults<F, E: Write>(
     }
     let (first, count) = faulty_lines(source);
     let Some(number) = first else {
+        tell_end(name, source, errors);
         return;
     };
     let Ok(report) = fault_text(system.alloc, name.as_bytes(), source, number) else {
@@ -38,7 +41,14 @@ pub fn tell_faults<F, E: Write>(
     };
 }
 
-// The first line with a fault, and how many have one.
+/// Tells a reader whether END hides lines of a source. Nothing is told where standard error fails.
+pub fn tell_end<E: Write>(name: &str, source: &Source, errors: &mut E) {
+    if let Some((line, note)) = note_on_end(source) {
+        let _ = write_note(errors, name, line, note);
+    }
+}
+
+// The first line with a fault, and how many lines have one.
 fn faulty_lines(source: &Source) -> (Option<usize>, usize) {
     let mut first = None;
     let mut count = 0_usize;
@@ -51,8 +61,8 @@ fn faulty_lines(source: &Source) -> (Option<usize>, usize) {
     (first, count)
 }
 
-/// Tells why a source doesn't open, as `check` prints it. Where standard error fails, or memory runs
-/// out, it is left out.
+/// Tells why a source doesn't open, as `check` prints it. Nothing is told where standard error fails or memory runs
+/// out.
 pub fn tell_unopened<F, E: Write>(
     system: &System<'_, F>,
     name: &str,

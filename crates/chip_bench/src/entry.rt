@@ -16,6 +16,7 @@ ghost use Rattle.std.specs.IoError.{error_kind};
 use crate::opening::open_under;
 use crate::output::{Table, explain, run_at, tabulate, version};
 use crate::picturing::picture;
+use crate::stopping::tell_stop;
 use crate::terminal::{Begun, answer_begun};
 use crate::testing::test_files;
 use crate::tracing::trace;
@@ -464,6 +465,7 @@ fn run<'a, F: FileAccess, I: Read, O: Write, E: Write>(
             let answer = run_at(system.alloc, &mut bench, arguments.steps);
             let ended = deliver(answer, output);
             tell_faults(system, arguments.source, bench.source(), errors);
+            tell_stop(system, arguments, &mut bench, errors);
             // The program ends here, and its memory goes back at once.
             mem::forget(bench);
             ended

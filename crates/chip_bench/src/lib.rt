@@ -9,6 +9,7 @@ mod held_writer;
 mod opening;
 mod output;
 mod picturing;
+mod stopping;
 mod terminal;
 mod testing;
 mod tracing;

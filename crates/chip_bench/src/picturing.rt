@@ -7,6 +7,7 @@ ghost use Rattle.chip_host.specs.Endings.{IsSomeWritten};
 
 use crate::opening::open_under;
 use crate::output::picture_at;
+use crate::stopping::tell_stop;
 use chip_analysis::{tell_faults, tell_unopened};
 use chip_arguments::PictureArguments;
 use chip_host::{
@@ -39,6 +40,7 @@ pub(crate) fn picture<'a, F: FileAccess, I: Read, O: Write, E: Write>(
         Ok(mut bench) => {
             let ended = show(system, arguments, &mut bench, output);
             tell_faults(system, arguments.run.source, bench.source(), errors);
+            tell_stop(system, &arguments.run, &mut bench, errors);
             // The program ends here, and its memory goes back at once.
             mem::forget(bench);
             ended

@@ -3,6 +3,7 @@ ghost use Rattle.std.specs.Prelude.{◌≡◌, false};
 ghost use Rattle.chip_bench.specs.Running.{AnswersScript};
 
 use crate::output::answer_script;
+use chip_analysis::tell_end;
 use chip_asm::Source;
 use chip_check::unopened_report;
 use chip_host::{Ending, Failure, Shown};
@@ -80,7 +81,9 @@ impl<'e, E: Write> Observer for Terminal<'e, E> {
         self.say_lines(bench.source());
         self.say(", ");
         self.say_fault(bench.source());
-        self.say("\ncommands: ");
+        self.say("\n");
+        tell_end(self.name.unwrap_or(""), bench.source(), self.errors);
+        self.say("commands: ");
         self.say_words();
         self.say("\n`chipbench explain regs` explains one; Ctrl+D ends\n");
     }

@@ -66,9 +66,9 @@ const OTHER_ARGUMENTS: &[(&str, &str, &str)] = &[
     (
         "--speed",
         "",
-        "--rate sets how many steps there are to a tick of the timers, 10 without it",
+        "--rate N makes N steps per tick of the timers, 10 by default",
     ),
-    ("-n", "", "--steps sets how many steps are made"),
+    ("-n", "", "--steps N makes N steps"),
     (
         "--until",
         "explore",
@@ -88,7 +88,7 @@ const OTHER_ARGUMENTS: &[(&str, &str, &str)] = &[
     (
         "--label",
         "",
-        "`explore --reach LABEL` finds the first step at a label; a property names one by at LABEL",
+        "`explore --reach LABEL` finds the first step at a label; a property names a place as in `at LABEL`",
     ),
     (
         "--property",
@@ -108,7 +108,7 @@ const OTHER_ARGUMENTS: &[(&str, &str, &str)] = &[
     (
         "--frames",
         "",
-        "a frame of 1/60 of a second is as many steps as --rate sets, 10 without it; --steps N counts steps",
+        "--steps N counts steps; a frame of 1/60 second has as many steps as --rate sets, 10 by default",
     ),
     (
         "--depth",
@@ -128,12 +128,12 @@ const OTHER_ARGUMENTS: &[(&str, &str, &str)] = &[
     (
         "--time",
         "explore",
-        "--steps N and --states M bound the search; `prove` takes --seconds N",
+        "--seconds N ends the search after N seconds",
     ),
     (
         "--time",
         "",
-        "`run`, `trace` and `picture` take --steps N, and --rate R: R steps are 1/60 of a second",
+        "`run`, `trace` and `picture` take --steps N and --rate R; R steps are 1/60 of a second",
     ),
     (
         "--line",
@@ -153,7 +153,7 @@ const OTHER_ARGUMENTS: &[(&str, &str, &str)] = &[
     (
         "--to",
         "trace",
-        "--from M is the first step that is printed, and --steps N the last one",
+        "--from M is the first step to print, and --steps N the last",
     ),
     (
         "--to",

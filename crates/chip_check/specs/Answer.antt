@@ -1,10 +1,11 @@
--- The answer to a property of a source, as it is printed (own).
---     met_words, unmet_words, never_words   what is said of a property that a script breaks, of an
---                        `ever` that one reaches, or of a `can` of which one leads to a dead end; of one
---                        that none does up to a step; of one that none ever does
---     scope_words        behind it, for which machines that is so
---     answer_words       what was found, in words
---     answer_line, answer_object, answer_text    the line of an answer, or its JSON object
+-- The answer to a property of a source, as `prove` prints it (chosen by this project).
+--     met_words          the words where a script breaks the property, reaches an `ever`, or leads a `can` to a dead
+--                        end
+--     unmet_words        the words where no script does up to a step
+--     never_words        the words where no script ever does
+--     scope_words        the words that follow a proof and say which machines it covers
+--     answer_words       the outcome in words
+--     answer_line, answer_object, answer_text    the answer as a line, as a JSON object, and in the form asked for
 --     is_bad             whether a property is broken, an `ever` isn't reached, or a `can` has a dead end
 use Rattle.std.specs.Prelude.{ℕ, Bool, true, false, List, [], ◌∷◌, ◌++◌, codes, if◌then◌else◌}
 use Rattle.std.specs.Fmt.{decimal}
@@ -28,26 +29,26 @@ unmet_words kind.Ever = codes "not reached"
 unmet_words kind.Can = codes "undecided"
 unmet_words other = codes "unbroken"
 
--- for the rate and the random bytes of the settings; for these random bytes at any speed; for all keys,
--- random bytes and speeds
+-- the rate and the random bytes of the settings; these random bytes at any speed; all keys, random bytes and speeds
 abbrev pub scope_words : Scope → List ℕ
 scope_words scope.AtRate = []
 scope_words scope.AtAnySpeed = codes " at any speed"
-scope_words scope.Anything = codes " with any keys, random bytes and speed"
+scope_words scope.Anything = codes " for any keys, random bytes and speed"
 
 abbrev pub never_words : Kind → Scope → List ℕ
 never_words kind.Can scope = codes "always"
-never_words kind scope = codes "never " ++ met_words kind ++ scope_words scope
+never_words kind.Ever scope = codes "never reached" ++ scope_words scope
+never_words kind scope = codes "proved" ++ scope_words scope
 
 -- broken, reached, or a dead end, at a step
 abbrev pub met_at : Kind → ℕ → List ℕ
 met_at kind step = met_words kind ++ codes " at step " ++ decimal step
 
--- neither at a step up to one
+-- not broken, not reached, or undecided, up to a step
 abbrev pub unmet_up_to : Kind → ℕ → List ℕ
 unmet_up_to kind step = unmet_words kind ++ codes " up to step " ++ decimal step
 
--- what was found at the rate
+-- the outcome at the rate of the settings
 abbrev pub words_at_rate : Kind → Outcome → List ℕ
 words_at_rate kind (Found events step met) = met_at kind step
 words_at_rate kind (Later events step met covered) =
@@ -55,7 +56,7 @@ words_at_rate kind (Later events step met covered) =
 words_at_rate kind (Within step) = unmet_up_to kind step
 words_at_rate kind Never = never_words kind scope.AtRate
 
--- the same, where more is known than what was found at the rate
+-- the outcome, where a proof may cover more machines than those at the rate
 abbrev pub answer_words : Kind → Scope → Outcome → List ℕ
 answer_words kind scope.AtRate outcome = words_at_rate kind outcome
 answer_words kind scope outcome = never_words kind scope

@@ -10,14 +10,14 @@ use chip_properties::Kind;
 use chip_trace::push_decimal;
 use std::alloc::{AllocError, Global};
 
-/// The machines that an answer `never` covers.
+/// The machines that a proof covers.
 #[derive(Clone, Copy, PartialEq, Eq)]
 pub enum Scope {
-    /// Those with the rate and the random bytes of the settings.
+    /// Machines with the rate and the random bytes of the settings.
     AtRate,
-    /// Those with the random bytes of the settings, at any speed.
+    /// Machines with the random bytes of the settings, whenever the timers tick.
     AtAnySpeed,
-    /// All, with any keys, random bytes and speed.
+    /// All machines, with any keys, random bytes and speed.
     Anything,
 }
 
@@ -26,11 +26,11 @@ pub enum Scope {
 pub struct PropertyAnswer<'a> {
     pub kind: Kind,
     pub outcome: &'a Outcome,
-    /// The machines that the answer covers. Beyond `AtRate` the answer is `never`, whatever the outcome says.
+    /// The machines that the answer covers. A scope beyond `AtRate` means a proof, whatever the outcome says.
     pub scope: Scope,
 }
 
-/// Where a property stands: the name of the source, its line's number, and its text.
+/// The place of a property: the name of the source, the number of its line, and its text.
 #[derive(Clone, Copy)]
 pub struct PropertyPlace<'a> {
     pub name: &'a [u8],
@@ -39,7 +39,7 @@ pub struct PropertyPlace<'a> {
 }
 
 impl PropertyAnswer<'_> {
-    /// Adds what is printed of the answer: a line, or a JSON object.
+    /// Appends the answer as a line of text, or as a JSON object.
     ///
     /// # Errors
     ///
@@ -91,7 +91,7 @@ impl PropertyAnswer<'_> {
         text.extend_from_slice(b"}\n")
     }
 
-    /// Adds what was found, in words.
+    /// Appends the outcome in words.
     fn push_words(&self, text: &mut Vec<u8>) -> Result<(), AllocError>
         ensures { OnOk result (text.new.items ≡ text.old.items
             ++ answer_words self.now.kind self.now.scope self.now.outcome.now) }
@@ -111,7 +111,7 @@ impl PropertyAnswer<'_> {
         }
     }
 
-    /// Adds what was found, without its steps.
+    /// Appends the outcome in words, without its steps.
     fn push_word(&self, text: &mut Vec<u8>) -> Result<(), AllocError>
         ensures { OnOk result (text.new.items ≡ text.old.items
             ++ answer_word self.now.kind self.now.scope self.now.outcome.now) }
@@ -141,7 +141,7 @@ pub fn is_bad(kind: Kind, outcome: &Outcome) -> bool
     }
 }
 
-/// The words for a property that a script breaks or reaches.
+/// The words for a property that some script breaks or reaches.
 fn met_words(kind: Kind) -> &'static [u8]
     ensures { result.now ≡ met_words kind }
 {
@@ -152,7 +152,7 @@ fn met_words(kind: Kind) -> &'static [u8]
     }
 }
 
-/// The words for one that no script does up to a step.
+/// The words for a property that no script breaks or reaches up to a step.
 fn unmet_words(kind: Kind) -> &'static [u8]
     ensures { result.now ≡ unmet_words kind }
 {
@@ -179,29 +179,30 @@ fn push_unmet(text: &mut Vec<u8>, kind: Kind, step: u64) -> Result<(), AllocErro
     push_decimal(text, step)
 }
 
-/// The words behind an answer for the machines that it covers.
+/// The words that follow a proof and say which machines it covers.
 fn scope_words(scope: Scope) -> &'static [u8]
     ensures { result.now ≡ scope_words scope }
 {
     match scope {
         Scope::AtRate => b"",
         Scope::AtAnySpeed => b" at any speed",
-        Scope::Anything => b" with any keys, random bytes and speed",
+        Scope::Anything => b" for any keys, random bytes and speed",
     }
 }
 
 fn push_never(text: &mut Vec<u8>, kind: Kind, scope: Scope) -> Result<(), AllocError>
     ensures { OnOk result (text.new.items ≡ text.old.items ++ never_words kind scope) }
 {
-    if kind == Kind::Can {
-        return text.extend_from_slice(b"always");
-    }
-    text.extend_from_slice(b"never ")?;
-    text.extend_from_slice(met_words(kind))?;
+    let words: &[u8] = match kind {
+        Kind::Can => return text.extend_from_slice(b"always"),
+        Kind::Ever => b"never reached",
+        Kind::Always | Kind::Never => b"proved",
+    };
+    text.extend_from_slice(words)?;
     text.extend_from_slice(scope_words(scope))
 }
 
-/// Adds the members of an object for the steps and the key events of what was found.
+/// Appends the members of the JSON object that hold the steps and the key events.
 fn push_members(text: &mut Vec<u8>, outcome: &Outcome) -> Result<(), AllocError>
     ensures { OnOk result (text.new.items ≡ text.old.items ++ answer_members outcome.now) }
 {

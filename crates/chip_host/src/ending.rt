@@ -14,17 +14,17 @@ use std::alloc::AllocError;
 use std::{fmt, io, str};
 use thiserror::Error;
 
-/// How the program ends where nothing hinders it.
+/// The ending of a command that nothing hindered.
 #[derive(Clone, Copy)]
 pub enum Ending {
     Done,
-    /// The source's faults, or why it doesn't open, are printed.
+    /// The faults of the source, or the reason why it doesn't open, are printed.
     Faulty,
-    /// Memory ran out, and what was found until then is printed.
+    /// Memory ran out, and the findings until then are printed.
     Short,
 }
 
-/// The code of why a line of a file of key events is refused. As text, what was expected of the line.
+/// The code of the reason why a line of a key file is refused. Its text says what was expected of the line.
 #[derive(Clone, Copy, Debug)]
 pub struct Code(pub &'static [u8]);
 
@@ -56,8 +56,8 @@ impl fmt::Display for Code {
     }
 }
 
-/// A text of an argument or of a file's name, as messages show it: a control byte other than the tab, which a
-/// terminal may take for a command, as `\x` and two digits.
+/// The text of an argument or of a file's name, as messages show it. Control bytes other than the tab are shown as
+/// `\x` and two digits, since a terminal might take them for a command.
 #[derive(Clone, Copy, Debug)]
 pub struct Shown<'a>(pub &'a str);
 
@@ -74,7 +74,7 @@ impl<'a> fmt::Display for Shown<'a> {
     }
 }
 
-/// Why a text states no property.
+/// The reason why a text states no property.
 #[derive(Debug, Drop)]
 pub struct Report(pub Vec<u8>);
 
@@ -84,7 +84,7 @@ impl fmt::Display for Report {
     }
 }
 
-/// Why a line of a file of cases can't be taken.
+/// The reason why a line of a file of cases is refused.
 #[derive(Clone, Copy, Debug, Error)]
 pub enum TestFault {
     #[error("{0}")]
@@ -95,13 +95,13 @@ pub enum TestFault {
     Number,
     #[error("there is no such profile; `chipbench run --help` lists them")]
     Profile,
-    #[error("expected quirks with commas between them, each at most once; `chipbench run --help` lists them")]
+    #[error("expected quirks separated by commas, each at most once; `chipbench run --help` lists them")]
     Quirks,
     #[error("a tape has 1 to 4096 bytes in hexadecimal, and goes without a seed")]
     Tape,
 }
 
-/// Why a tape is bad.
+/// The reason why a tape is refused.
 #[derive(Clone, Copy, Debug, Error)]
 pub enum TapeFault {
     #[error("expected hexadecimal digits without 0x or #, as in --tape 2a07")]
@@ -114,21 +114,21 @@ pub enum TapeFault {
     WithSeed,
 }
 
-/// What hinders the program. The text is for the standard error.
+/// The reason why a command fails. Its text goes to standard error.
 #[derive(Debug, Drop, Error)]
 pub enum Failure<'a> {
     #[error("{0}")]
     Usage(clap::Error),
     #[error("chipbench: bad tape\n")]
     BadTape(TapeFault),
-    /// These are no stop causes.
-    #[error("chipbench: --want takes S1 to S7 with commas between them, not {text}\n", text = Shown(.0))]
+    /// The text names no stop causes.
+    #[error("chipbench: --want takes S1 to S7 separated by commas, not {text}\n", text = Shown(.0))]
     BadCauses(&'a str),
-    /// These are no keys.
-    #[error("chipbench: --keys-allowed takes 0 to 15, or A to F for 10 to 15, with commas between them, not {text}\n", text = Shown(.0))]
+    /// The text names no keys.
+    #[error("chipbench: --keys-allowed takes 0 to 15, or A to F for 10 to 15, separated by commas, not {text}\n", text = Shown(.0))]
     BadPlayerKeys(&'a str),
-    /// These are no warnings.
-    #[error("chipbench: --allow takes W1 to W9 and P1 to P6 with commas between them, not {text}\n", text = Shown(.0))]
+    /// The text names no warnings.
+    #[error("chipbench: --allow takes W1 to W9 and P1 to P6 separated by commas, not {text}\n", text = Shown(.0))]
     BadWarnings(&'a str),
     /// The source has no such place.
     #[error("chipbench: --reach takes a label of the source, or an address in quotes such as '#2A0', not {text}\n", text = Shown(.0))]
@@ -136,26 +136,26 @@ pub enum Failure<'a> {
     /// The text states no property.
     #[error("{0}")]
     BadProperty(Report),
-    /// The line of that number states no property.
+    /// The line with this number states no property.
     #[error("chipbench: no property in line {0}\n")]
     NoProperty(u32),
-    /// The line of that number of a key file is refused.
+    /// The line with this number of a key file is refused.
     #[error("chipbench: {name}:{1}: {2}\n", name = Shown(.0))]
     BadKeys(&'a str, usize, Code),
     /// The first line of a trace doesn't name columns.
     #[error("chipbench: {name} is not a trace: {1}\n", name = Shown(.0))]
     BadTrace(&'a str, HeaderError),
-    /// The line of that number of a file of cases can't be taken.
+    /// The line with this number of a file of cases is refused.
     #[error("chipbench: {name}:{1}: {2}\n", name = Shown(.0))]
     BadTest(&'a str, usize, TestFault),
-    /// The file that the line of that number names can't be read.
+    /// The file that the line with this number names can't be read.
     #[error("chipbench: {name}:{1}: cannot read the file that this line names, from the folder of {place}\nreason: {2}\n", name = Shown(.0), place = Shown(.0))]
     UnreadInTest(&'a str, usize, io::Error),
     #[error("chipbench: no page on {code}; `chipbench explain` lists the codes, and docs/MACHINE.md the instructions\n", code = Shown(.0))]
     NoPage(&'a str),
     #[error("chipbench: cannot read {name}\nreason: {1}\n", name = Shown(.0))]
     CannotRead(&'a str, io::Error),
-    /// The file has over so many bytes.
+    /// The file has more than this many bytes.
     #[error("chipbench: cannot read {name}\nreason: it has over {1} bytes\n", name = Shown(.0))]
     TooLong(&'a str, u32),
     #[error("chipbench: cannot write {name}\nreason: {1}\n", name = Shown(.0))]
@@ -221,8 +221,7 @@ impl<'a> From<AllocError> for Failure<'a> {
     }
 }
 
-// The command line has numbers in their ranges alone, so the tape is all that settings can find
-// bad.
+// Numbers of the command line are in their ranges, so only the tape can be bad.
 impl<'a> From<SetError> for Failure<'a> {
     ghost from_gives = { λ error failure. failure ≡ settings_failure error };
 

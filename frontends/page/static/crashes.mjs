@@ -9,7 +9,7 @@ const STOP = /^(S\d) (\d+)(?:, line (\d+): .*)?$/;
 const LEFT = /^left (S\d) ([0-9a-f]{4})(?:, line (\d+): .*)?$/;
 
 /** The line below `never` where it holds for more than the keys. */
-const FOR_ALL = 'with any keys, random bytes and speed';
+const FOR_ALL = 'for any keys, random bytes and speed';
 
 /**
  * What `explore` prints: the cause and the step of a stop, up to which step there is none, or that there never is one, and whether

@@ -235,9 +235,9 @@ class PlayTests(PageTests):
             browser.wait("!document.getElementById('properties-badge').hidden && document.getElementById('properties-badge').textContent === '1'", 60.0)
             self.tab("properties")
             rows = "[...document.querySelectorAll('#properties-rows li')].map((row) => [...row.querySelectorAll('.line, code, p')].map((part) => part.textContent))"
-            browser.wait(f"JSON.stringify({rows}).includes('never broken')", 60.0)
+            browser.wait(f"JSON.stringify({rows}).includes('proved')", 60.0)
             shown = browser.value(rows)
-            assert shown[:3] == [["1", "never V0 = 3 at DONE", "broken at step 2"], ["2", "V1 = 0 here", "never broken with any keys, random bytes and speed"], ["7", "ever at LOOP", "reached at step 0"]], shown
+            assert shown[:3] == [["1", "never V0 = 3 at DONE", "broken at step 2"], ["2", "V1 = 0 here", "proved for any keys, random bytes and speed"], ["7", "ever at LOOP", "reached at step 0"]], shown
             assert shown[3][:2] == ["8", "V0 <= NOWHERE"] and shown[3][2].startswith("P3: undefined name"), shown
             browser.click("#properties-rows li:first-child .bordered")
             browser.wait("document.querySelector('#properties-rows .values')?.textContent === 'At step 2: V0 = 3'")
@@ -252,7 +252,7 @@ class PlayTests(PageTests):
             assert browser.value(keys) == mine
             # the search goes along with the source
             self.put_line(4, "SE V0, 4")
-            browser.wait(f"{rows}[0][2].startsWith('never broken with any keys')", 60.0)
+            browser.wait(f"{rows}[0][2].startsWith('proved for any keys')", 60.0)
             assert browser.value("document.getElementById('properties-badge').hidden")
             browser.click("#properties-rows li:nth-child(2) .line")
             assert browser.value("chipbenchPage.editor.line") == 2

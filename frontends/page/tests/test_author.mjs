@@ -417,7 +417,7 @@ test('crashes: what `explore` prints', () => {
   assert.deepEqual(readExplored('S6 40\nkeys 2\nS2 77\nstates 91\n').others, [{ cause: 'S2', step: 77 }]);
   assert.deepEqual(readExplored('within 2349\nstates 200001\n'), { crash: null, within: 2349, isForAll: false, left: [], others: [] });
   assert.deepEqual(readExplored('never\nstates 7\n'), { crash: null, within: null, isForAll: false, left: [], others: [] });
-  assert.equal(readExplored('never\nwith any keys, random bytes and speed\nfacts 5\n').isForAll, true);
+  assert.equal(readExplored('never\nfor any keys, random bytes and speed\nfacts 5\n').isForAll, true);
   const some = readExplored('S2 3, line 4: DW #0000\nkeys 2\nstates 1\nleft S2 0206, line 4: DW #0000\nleft S6 020a\n');
   assert.deepEqual(some.left, [{ cause: 'S2', address: '0206', line: 4 }, { cause: 'S6', address: '020a', line: null }]);
   assert.deepEqual(furtherTexts(some).map((text) => text.slice(0, 24)), ['Not excluded: S6 at 020a']);
@@ -570,7 +570,7 @@ test('properties: what `prove --json` prints', () => {
   const lines = [
     '{"line":12,"column":12,"end":17,"code":"P3","message":"undefined name","help":["did you mean LIVES?"],"file":"game.asm"}',
     '{"line":4,"property":"always V1 <= 27","answer":"broken","step":3384,"keys":[{"step":20,"key":5,"down":true},{"step":31,"key":5,"down":false}],"file":"game.asm"}',
-    '{"line":5,"property":"V0 <= 63 here","answer":"never broken","file":"game.asm"}',
+    '{"line":5,"property":"V0 <= 63 here","answer":"proved","file":"game.asm"}',
     '{"line":6,"property":"never VF = 1 at ADDED","answer":"unbroken","covered":16291,"file":"game.asm"}',
     '{"line":7,"property":"ever at OVER","answer":"not reached","covered":9,"file":"game.asm"}',
     '{"line":8,"property":"can at WIN","answer":"dead end","step":18,"keys":[{"step":2,"key":4,"down":true}],"file":"game.asm"}',
@@ -585,7 +585,7 @@ test('properties: what `prove --json` prints', () => {
   const texts = [...answers.values()].map((answer) => [answerText(answer, String), isBad(answer)]);
   assert.deepEqual(texts, [
     ['broken at step 3384', true],
-    ['never broken', false],
+    ['proved', false],
     ['unbroken up to step 16291', false],
     ['not reached up to step 9', true],
     ['dead end at step 18', true],

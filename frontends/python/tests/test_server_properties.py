@@ -108,7 +108,7 @@ class Properties(Served, NeedsWords):
     def test_the_token_of_a_client(self) -> None:
         client = self.opened(GAME)
         command = {"command": "chipbench.prove", "arguments": [URI, 1], "workDoneToken": 7}
-        self.assertEqual(client.ask("workspace/executeCommand", command)["text"], "never broken with any keys, random bytes and speed")
+        self.assertEqual(client.ask("workspace/executeCommand", command)["text"], "proved for any keys, random bytes and speed")
         values = [self.told(client, "$/progress") for _ in range(2)]
         self.assertEqual([(one["token"], one["value"]["kind"]) for one in values], [(7, "begin"), (7, "end")])
         self.assertEqual(values[0]["value"]["title"], "prove always V0 <= STEP + 17")

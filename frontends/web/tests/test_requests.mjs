@@ -102,7 +102,7 @@ test('what prove prints is told as it comes', { skip }, (context) => {
   const source = ';! never V0 = 3 at DONE\n;! V1 = 0 here\nLOOP: LD V0, K\nSE V0, 3\nJP LOOP\nDONE: JP DONE\n';
   const found = requests.prove({ source, options: { rate: '10', every: '1000' } }, ({ output }) => output && told.push(output));
   const answers = found.output.trimEnd().split('\n').map((line) => JSON.parse(line));
-  assert.deepEqual(answers.slice(0, 2).map(({ line, answer }) => [line, answer]), [[2, 'never broken with any keys, random bytes and speed'], [1, 'broken']]);
+  assert.deepEqual(answers.slice(0, 2).map(({ line, answer }) => [line, answer]), [[2, 'proved for any keys, random bytes and speed'], [1, 'broken']]);
   assert.ok(told.length > 0 && told.every((output) => found.output.startsWith(output)));
 });
 

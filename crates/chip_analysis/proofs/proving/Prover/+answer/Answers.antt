@@ -56,9 +56,9 @@ returns-in-Some g t c = λ asked is.
     let within = is_within c.next-next.result.place c.in-Some.place (length c.args.left.heads.items) (sym c.in-Some.is) c.next-next.ensures.within in
     let took = c.take-head.ensures in
     let bad = c.in_ok-is_bad-in-Some.is_bad in
-    let now : c.if-told-3.told ≡ (c.args.told.is_bad || bad) = elim c.if-told-3.branch [
-      | then-told-3 w ↦ w.told-is ∙ w.if-told-3.true ∙ sym (ap (λ b. b || bad) w.if-told-3.true)
-      | else-told-3 w ↦ w.told-is ∙ sym (ap (λ b. b || bad) w.if-told-3.false)
+    let now : c.if-told-2.told ≡ (c.args.told.is_bad || bad) = elim c.if-told-2.branch [
+      | then-told-3 w ↦ w.told-is ∙ w.if-told-2.true ∙ sym (ap (λ b. b || bad) w.if-told-2.true)
+      | else-told-3 w ↦ w.told-is ∙ sym (ap (λ b. b || bad) w.if-told-2.false)
     ] in
     let short : c.if-told.told ≡ (c.args.told.is_short || next.verdict.is_short) = elim c.if-told.branch [
       | then-told w ↦ w.told-is ∙ w.if-told.true ∙ sym (ap (λ b. b || next.verdict.is_short) w.if-told.true)
@@ -66,7 +66,7 @@ returns-in-Some g t c = λ asked is.
     ] in
     comes_on p.arguments.now p.source.now.lines p.rate p.keys p.start.now g.O.Write.contents asked c.args.left c.take-head.new.self next.verdict c.in-Some.place
     c.take-head.result is says took.head within took.heads took.properties c.args.output.now c.tell.new.output
-    c.in_ok-is_bad-in-Some.ensures.written c.answer.new.output c.args.told.is_bad c.args.told.is_short c.if-told-3.told c.if-told.told bad c.answer.result c.in_ok-is_bad-in-Some.ensures.bad
+    c.in_ok-is_bad-in-Some.ensures.written c.answer.new.output c.args.told.is_bad c.args.told.is_short c.if-told-2.told c.if-told.told bad c.answer.result c.in_ok-is_bad-in-Some.ensures.bad
     now short
     (c.answer.ensures (remove asked c.in-Some.place)
     (others_left p.arguments.now p.source.now.lines p.rate p.keys p.start.now g.O.Write.contents asked c.args.left c.take-head.new.self next.verdict c.in-Some.place
