@@ -47,7 +47,7 @@ module _ (is_json is_painted : Bool) (name bytes : List ℕ) where
       IsCheckText is_json is_painted name lines wanted.text × (wanted.ending ≡ ending_with (image_of lines)) → IsPrintedCheckOf is_json is_painted name (open_fault bytes) (lines_of bytes) wanted
   found_opened lines wanted opens are is = rw (opens, sym are) is
 
-  -- or why it doesn't
+  -- the reason why a source doesn't open
   pub found_unopened : {E : Type 0} (error : OpenError) (answer : Result Answer E) → (error ≡ unopened.OutOfMemory) ⊎ (open_fault bytes ≡ Some error) →
       IfOk answer (λ given. printed_by given ≡ printed (unopened_check is_json is_painted name error) Faulty) → (error ≡ unopened.OutOfMemory → IsErr answer) →
       IfOk answer (λ given. IsPrintedCheckOf is_json is_painted name (open_fault bytes) (lines_of bytes) (printed_by given))
@@ -72,7 +72,7 @@ module _ {R W : Type 0} (remaining : R → Option (List ℕ)) (contents : W → 
       subst (λ (t : List ℕ). PrintsSuch contents out_old out_new (IsPrintedCheckOf is_json is_painted name.now (open_fault t) (lines_of t)) ended) same such,
     )
 
-    -- what is found in it is printed; what reading it came to gives its name
+    -- what is found in a source is printed; the result of reading gives the source's name
     pub one_found : {T E : Type 0} (read : Result T Failure) (shown : List ℕ) (answer : Result Answer E) → IfErr read (IsSourceUnread in_old in_new name) → shown ≡ name.now →
         IfOk answer (λ given. IsPrintedCheckOf is_json is_painted shown (open_fault text) (lines_of text) (printed_by given)) →
         ((wanted : Printed) → IfOk answer (λ given. printed_by given ≡ wanted) → Prints contents out_old out_new wanted ended) →
@@ -114,7 +114,7 @@ module _ {R W : Type 0} (remaining : R → Option (List ℕ)) (contents : W → 
           (subst (λ these. Each these in_mid in_new out_mid out_new (with_ending one later)) (sym (next_left place name nothing within is))
           (in_next, out_next, Ok one, did, (later, left, refl))))
 
-      -- one of them ends it
+      -- one of the sources ends the check
       pub checks_stop : (why : Failure) → One name in_mid in_next out_mid out_next (Err why) → Each names in_old in_next out_old out_next (Err why)
       checks_stop why did =
           so_far in_next out_next (Err why)
@@ -147,7 +147,7 @@ module _ {R W : Type 0} (remaining : R → Option (List ℕ)) (contents : W → 
     with_allowed did =
         subst (λ (o : Option SessionSettings). IfSettled remaining in_old in_new (out_new ≡ out_old) o WithAllowed ended) (sym settled) (inl did)
 
-    -- the argument for warnings names none
+    -- the argument for warnings can't be read
     pub checks_bad : (why : Failure) → ended ≡ Err why → in_new ≡ in_old → out_new ≡ out_old → IsBadSet why →
         AsksSet warning_named 0 (option_copied arguments.allowed) None → Checks remaining contents in_old in_new out_old out_new takes_color arguments ended
     checks_bad why e same quiet bad asks = with_allowed (None, asks, declines remaining in_old in_new (out_new ≡ out_old) quiet IsBadSet ended why e bad same)

@@ -19,7 +19,7 @@ use Rattle.chip_facts.specs.declared.table.Left.{Left}
 use Rattle.chip_machine.specs.declared.quirks.Quirks.{Quirks}
 use Rattle.chip_analysis.specs.Exploring.{AreLeft, AreLeftLines, AreStopsLeft, IsLeftLine, left_line}
 
--- with those of one stop more behind them
+-- the lines of some stops, followed by the line of one more stop
 one_line_more : (causes : ℕ) (left : List Left) (one : Left) (text line : List ℕ) → AreLeftLines causes left text
     → IsLeftLine (is_wanted causes one.stop) one line → AreLeftLines causes (left ++ one ∷ []) (text ++ line)
 one_line_more causes [] one text line none is = (line, [], ap (λ t. t ++ line) none ∙ sym (append-nil line), is, refl)
@@ -37,7 +37,7 @@ module _ (causes : ℕ) (left : List Left) (i : ℕ) (d : Left) (text new : List
   with_line place wanted whole =
       next_line (left_line place (get_or left i d)) (subst (λ b. IsLeftLine b (get_or left i d) (left_line place (get_or left i d))) (sym wanted) (place, refl)) whole
 
-  -- it has none
+  -- the next stop has no line
   pub without_line : is_wanted causes (get_or left i d).stop ≡ false → new ≡ text → AreLeftLines causes (take (i + 1) left) new
   without_line unwanted same = next_line [] (subst (λ b. IsLeftLine b (get_or left i d) []) (sym unwanted) refl) (same ∙ sym (append-nil text))
 

@@ -81,7 +81,7 @@ module _ {R W : Type 0} (remaining : R → Option (List ℕ)) (contents : W → 
       (causes : Option ℕ) × AsksCauses arguments causes × (keys : Option ℕ) × AsksKeys arguments keys
       × IfSet remaining in_old in_new (out_new ≡ out_old) causes (λ causes. IfSet remaining in_old in_new (out_new ≡ out_old) keys (Did settings causes)) ended
 
-  -- a set is bad
+  -- a set can't be read
   pub explores_bad : (settings : SessionSettings) (why : Failure) → settings_asked arguments.search.settings ≡ Some settings → ended ≡ Err why → in_new ≡ in_old →
       out_new ≡ out_old → IsBadSets arguments why → Explores remaining contents in_old in_new out_old out_new arguments ended
   explores_bad settings why settled e same quiet bad =
@@ -113,7 +113,7 @@ module _ {R W : Type 0} (remaining : R → Option (List ℕ)) (contents : W → 
         (λ source. IfOpens contents out_old out_new (open_fault source) (Searches contents out_old out_new arguments settings causes keys (lines_of source)))
         ended quiet why e unread)
 
-    -- it was searched
+    -- the source was searched
     pub explores_done : (bytes : List ℕ) → IsGiven remaining in_old in_new arguments.is_image arguments.search.source bytes →
         IfOpens contents out_old out_new (open_fault bytes) (Searches contents out_old out_new arguments settings causes keys (lines_of bytes)) ended →
         Explores remaining contents in_old in_new out_old out_new arguments ended

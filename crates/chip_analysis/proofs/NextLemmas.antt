@@ -36,7 +36,7 @@ use Rattle.chip_verdicts.specs.Verdict.{AvoidsAll}
 
 -- ---- what is printed of an outcome
 
--- what is said of a property that was met doesn't depend on its place among the others
+-- the answer to a property that was met doesn't depend on its place among the others
 pub same_answer : (outcome : Outcome) → IsSameAnswer outcome outcome
 same_answer outcome = record { text = λ is_json name line text kind scope. refl; bad = λ kind. refl }
 
@@ -79,7 +79,7 @@ is_place k place count e = by (nat_lt place count) e
     by true e = cc
     by false e = cc
 
--- what a search that met a property says of it
+-- the answer of a search that met a property to that property
 pub met_told : (k count : ℕ) (outcome : Outcome) → Some k ≡ met_property outcome count
     → (told : Outcome) × (told_of k outcome ≡ Some told) × IsSameAnswer told outcome
 met_told k count (Found events step (met.Property place)) e =
@@ -93,7 +93,7 @@ met_told k count (Later events step met.Address covered) e = cc
 met_told k count (Within n) e = cc
 met_told k count Never e = cc
 
--- and what one that met nothing says of each
+-- the answer of a search that met nothing to each property
 pub unmet_told : (outcome : Outcome) → IsUnmet outcome → (k : ℕ) → told_of k outcome ≡ Some outcome
 unmet_told (Within n) unmet k = refl
 unmet_told Never unmet k = refl
@@ -111,7 +111,7 @@ by_place k place count e = by (nat_lt place count) refl
     by true is = subst (λ (n : ℕ). n < count) (is_place k place count e) (ltb-true place count is)
     by false is = absurd (let none : Some k ≡ None = rw is at e in cc)
 
--- what was met is one of the properties
+-- the property that was met is one of the properties
 pub place_within : (k count : ℕ) (outcome : Outcome) → Some k ≡ met_property outcome count → k < count
 place_within k count (Found events step (met.Property place)) e = by_place k place count e
 place_within k count (Found events step (met.Cause cause)) e = cc
@@ -150,7 +150,7 @@ module _ (asked : List Stated) (left : Left) (is : IsLeft asked left) where
   property_there k one there =
       ap (λ (ps : List Property). slice_get ps k) is.properties ∙ slice_get-map (λ (s : Stated). s.property) asked k ∙ ap (option_map (λ (s : Stated). s.property)) there
 
--- what stands at a place is the property there
+-- the element at a place is the property there
 pub property_is : (properties : List Property) (k : ℕ) (property read : Property) → slice_get properties k ≡ Some property →
     read ≡ get_or properties k read → read ≡ property
 property_is properties k property read there is = is ∙ get_or_from_slice_get properties k property read there
@@ -184,7 +184,7 @@ module _ (rate keys : ℕ) (start : State) where
   answers_kind kind.Ever plain property outcome a = a
   answers_kind kind.Can plain property outcome a = cc
 
-  -- of a property that doesn't ask whether it can be met from everywhere
+  -- the answer to a property that doesn't ask whether it can be met from everywhere is right
   pub is_right : (asked : List Stated) (properties : List Property) (explored : Explored) (is_any_speed : Bool) (verdict : Verdict) →
       verdict.scope ≡ searched_scope (is_any_speed && explored.is_at_any_speed) → (k : ℕ) (one : Stated) (told : Outcome) →
       properties ≡ map (λ (s : Stated). s.property) asked → Rights properties explored → slice_get asked k ≡ Some one → is_can one.kind ≡ false →
@@ -207,7 +207,7 @@ module _ (rate keys : ℕ) (start : State) where
   foreseen_kind kind.Never can property outcome f = cc
   foreseen_kind kind.Ever can property outcome f = cc
 
-  -- and of one that does
+  -- the answer to a property that asks whether it can be met from everywhere is right
   pub is_foreseen : (verdict : Verdict) (one : Stated) → is_can one.kind ≡ true → verdict.scope ≡ scope.AtRate →
       IsForeseen rate keys one.property start verdict.outcome → IsAnswered rate keys start verdict one
   is_foreseen verdict one can slow foreseen = record {
@@ -220,7 +220,7 @@ module _ (rate keys : ℕ) (start : State) where
     same = same_answer verdict.outcome;
   }
 
-  -- of one that facts exclude
+  -- the answer to a property that facts exclude is right
   pub is_excluded : AvoidsAll → (facts : Facts) (left : Left) (place : ℕ) (verdict : Verdict) (asked : List Stated) → AreFactsFrom start facts
       → IsExcluded facts left place → IsLeft asked left → verdict.outcome ≡ Never → verdict.scope ≡ scope.Anything → (one : Stated)
       → slice_get asked place ≡ Some one → IsAnswered rate keys start verdict one

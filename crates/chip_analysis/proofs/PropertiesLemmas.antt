@@ -35,7 +35,7 @@ pub same_count : (asked : List Stated) (left : Left) → IsLeft asked left → l
 same_count asked left is =
     ap length is.properties ∙ length-map asked (λ (one : Stated). one.property) ∙ sym (heads_count asked left is)
 
--- none is asked for
+-- no property is asked for
 pub asked_none : (asked : List Stated) (left : Left) (is_empty : Bool) → IsLeft asked left → is_empty ≡ (vec_len left.heads == 0) → is_empty ≡ true → asked ≡ []
 asked_none asked left is_empty is empty none =
     nothing_in asked (sym (heads_count asked left is) ∙ ap length (no_heads left (sym empty ∙ none)))
@@ -46,14 +46,14 @@ left_none asked left is_empty is empty none =
     let count : vec_len left.heads ≡ 0 = omega (arith, zero, left.heads.ok.0) in
     empty ∙ ap (λ (n : ℕ). n == 0) count
 
--- some is
+-- some property is asked for
 pub some_asked : (asked : List Stated) (left : Left) → IsLeft asked left → (vec_len left.heads == 0) ≡ false → asked ≢ []
 some_asked asked left is some none =
     let empty : (vec_len left.heads == 0) ≡ true = left_none asked left (vec_len left.heads == 0) is refl none in
     let never : true ≡ false = sym empty ∙ some in
     absurd (cc)
 
--- lists of one length have one after an element at a place is removed of each
+-- two lists of one length still have one length after an element at a place is removed from each
 pub even_after : {X Y : Type 0} (xs : List X) (ys : List Y) (k : ℕ) → k < length xs → length xs ≡ length ys → length (remove xs k) ≡ length (remove ys k)
 even_after xs ys k within even =
     let one = length-remove xs k within in

@@ -44,7 +44,7 @@ module _ {W : Type 0} (contents : W → Option (List ℕ)) (out_old out_new : Ta
       (printed (unopened_check arguments.is_json false arguments.search.source.now error) Faulty)) (sym fault) refl in
       subst (λ (image : Option (List ℕ)). By image) (sym none) (inl (printed (unopened_check arguments.is_json false arguments.search.source.now error) Faulty, is, prints))
 
-  -- it opens, and has no image
+  -- the source opens, and has no image
   pub by_faults : (lines : List (List ℕ)) (text : List ℕ) → open_fault bytes ≡ None → lines ≡ lines_of bytes → None ≡ image_of lines →
       IsCheckText arguments.is_json false arguments.search.source.now lines text → Prints contents out_old out_new (printed text Faulty) ended →
       By (image_in bytes)
@@ -56,7 +56,7 @@ module _ {W : Type 0} (contents : W → Option (List ℕ)) (out_old out_new : Ta
       (sym opens) (is_there, sym (ap ending_with none_there)) in
       subst (λ (image : Option (List ℕ)). By image) (sym none) (inl (printed text Faulty, shown, prints))
 
-  -- it opens, and has one
+  -- the source opens, and has an image
   pub by_machine : (lines : List (List ℕ)) (image : List ℕ) → open_fault bytes ≡ None → lines ≡ lines_of bytes → Some image ≡ image_of lines →
       ((properties : Properties) × AreProperties lines properties × ProvesWith contents out_old out_new arguments lines settings.rate keys (start_of image settings.tape settings.quirks) properties ended)
       ⊎ Fails contents out_old out_new IsShort ended → By (image_in bytes)
@@ -90,7 +90,7 @@ module _ {R W : Type 0} (remaining : R → Option (List ℕ)) (contents : W → 
     with_keys did =
         subst (λ (o : Option SessionSettings). IfSettled remaining in_old in_new (out_new ≡ out_old) o WithKeys ended) (sym settled) (inl did)
 
-    -- the keys are none
+    -- the keys can't be read
     pub proves_bad : (why : Failure) → ended ≡ Err why → in_new ≡ in_old → out_new ≡ out_old → IsBadSet why →
         AsksSet key_named usual_keys (option_copied arguments.search.allowed_keys) None → Proves remaining contents in_old in_new out_old out_new arguments ended
     proves_bad why e same quiet bad asks = with_keys (None, asks, declines remaining in_old in_new (out_new ≡ out_old) quiet IsBadSet ended why e bad same)
@@ -107,7 +107,7 @@ module _ {R W : Type 0} (remaining : R → Option (List ℕ)) (contents : W → 
                 (λ source. ProvesBy contents out_old out_new arguments settings keys (image_in source) source) ended why e unread,
           )
 
-      -- it was read
+      -- the source was read
       pub proves_done : (bytes : List ℕ) → GivesSource remaining in_old in_new arguments.search.source.now bytes →
           ProvesBy contents out_old out_new arguments settings keys (image_in bytes) bytes ended →
           Proves remaining contents in_old in_new out_old out_new arguments ended

@@ -92,7 +92,7 @@ module _ {W : Type 0} (contents : W → Option (List ℕ)) where
       → WritesAll contents old new text result
   all_short old new text result e same = rw e (no_front old new text same)
 
-  -- what hinders writing is the same whatever is answered
+  -- what hinders writing doesn't depend on the type of the answer
   pub as_told : (S T : Type 0) (old new : Tally W) (why : Failure) (text : List ℕ) → WritesAll contents old new {T = S} text (Err why)
       → WritesAll contents old new {T = T} text (Err why)
   as_told S T old new failure.Output text w = w
@@ -172,7 +172,7 @@ module _ (arguments : ProveArguments) (lines : List (List ℕ)) (rate keys : ℕ
       short = sym (or-false told.is_short);
     }
 
-    -- the search met nothing, and what it says is told of all that are left
+    -- the search met nothing, and its answer is that of all properties that are left
     module _ (asked : List Stated) (heads : List Head) (verdict : Verdict) (told later : Told) (heads_are : heads ≡ map head_of asked)
         (each : (k : ℕ) (one : Stated) → slice_get asked k ≡ Some one → IsRight rate keys start (answered verdict one verdict.outcome)) where
       abbrev all_given : List Answered
@@ -275,7 +275,7 @@ module _ (arguments : ProveArguments) (lines : List (List ℕ)) (rate keys : ℕ
     moved : IsPermutation asked (one ∷ remove asked k)
     moved = IsPermutation-remove asked k one within_asked (sym (get_or_from_slice_get asked k one one found.1))
 
-    -- and nothing else is told
+    -- no other property is answered
     first_answered : AreAnswered rate keys start asked (first ∷ []) (remove asked k)
     first_answered = record { all = moved; right = All-cons (IsRight rate keys start) first [] first_right (All-nil (IsRight rate keys start)) }
 

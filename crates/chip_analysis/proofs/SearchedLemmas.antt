@@ -1,4 +1,4 @@
--- What a search for properties alone met, and what it says of each of them.
+-- What a search that looks only for properties met, and its answer to each of them.
 use Rattle.std.proofs.Common.{◌≡◌, ℕ, ◌<◌, Bool, true, false, List, [], ◌∷◌, Option, Some, None, IfSome, length, option_map, slice_get, refl, sym, ◌∙◌, ap, subst}
 use Rattle.std.specs.Prelude.{position, if◌then◌else◌}
 use Rattle.std.proofs.lemmas.Bool.{lt-ltb}

@@ -1,4 +1,4 @@
--- What `check` prints of a source (own).
+-- The output of `check` for a source (chosen by this project).
 --     IsCheckText, unopened_check, IsPrintedCheckOf    what is printed of a source, or why it doesn't open
 --     worse, with_ending             how a list of sources ends
 --     gives_tape                     whether the arguments give a tape
@@ -18,19 +18,19 @@ use Rattle.chip_arguments.specs.declared.command_line.ColorChoice.{ColorChoice}
 use Rattle.chip_arguments.specs.declared.command_line.ColorChoice.TheVariants as color
 use Rattle.chip_host.specs.Endings.{Outcome}
 
--- what `check` prints: text, in colours or without, or JSON objects
+-- the output of `check`: text, in colours or without, or JSON objects
 abbrev pub IsCheckText : (is_json is_painted : Bool) → (name : List ℕ) (lines : List (List ℕ))
     → (text : List ℕ) → Type 0
 IsCheckText false is_painted name lines text = IsChecked is_painted name lines text
 IsCheckText true is_painted name lines text = IsCheckJson name lines text
 
--- why a source doesn't open, as `check` prints it: text, in colours or without, or a JSON object
+-- the report of `check` on a source that doesn't open: text, in colours or without, or a JSON object
 abbrev pub unopened_check : (is_json is_painted : Bool) → (name : List ℕ) → OpenError → List ℕ
 unopened_check false is_painted name fault = unopened_report is_painted name fault
 unopened_check true is_painted name fault = unopened_object name fault
 
--- what `check` prints of a source: why it doesn't open, where it doesn't; else the reports of the
--- faults, with lines of help among them, and then warnings
+-- the output of `check` for a source: if the source doesn't open, the reason; otherwise the reports of the
+-- faults, with lines of help among them, and then the warnings
 abbrev pub IsPrintedCheckOf : (is_json is_painted : Bool) → (name : List ℕ)
     → Option OpenError → (lines : List (List ℕ)) → Printed → Type 0
 IsPrintedCheckOf is_json is_painted name (Some fault) lines wanted =
@@ -39,22 +39,21 @@ IsPrintedCheckOf is_json is_painted name None lines wanted =
     IsCheckText is_json is_painted name lines wanted.text
     × (wanted.ending ≡ ending_with (image_of lines))
 
--- the worse of two endings: faulty where one of them is
+-- the worse of two endings: the first one, unless that is `Done`
 abbrev pub worse : Ending → Ending → Ending
 worse Done later = later
 worse ending later = ending
 
--- sources one after another end as the worst of them, or with what hinders a later one
+-- the ending of several sources: the worst of theirs, or what hinders a later one
 abbrev pub with_ending : Ending → Outcome → Outcome
 with_ending ending (Ok later) = Ok (worse ending later)
 with_ending ending (Err why) = Err why
 
--- the arguments give a tape, or a seed that makes one
+-- whether the arguments give a tape, or a seed that makes one
 abbrev pub gives_tape : SettingArguments → Bool
 gives_tape arguments = is_some arguments.tape || is_some arguments.seed
 
--- whether what is printed has colours: where the arguments leave that open, whether the output
--- takes them
+-- whether the output has colours; if the arguments leave that open, whether the output takes them
 abbrev pub paints : ColorChoice → (takes_color : Bool) → Bool
 paints color.Auto takes_color = takes_color
 paints color.Always takes_color = true

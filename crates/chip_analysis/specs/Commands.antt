@@ -1,11 +1,11 @@
--- What `check`, `explore` and `prove` did (own).
+-- The effects of `check`, `explore` and `prove` (chosen by this project).
 --     IsBadSet, IsBadProperty, IsScriptUnwritten    what hinders them
 --     IfSet                          what a command did with the set that an argument asks for
---     ChecksOne, ChecksEach, Checks  what `check` did with a source, with each of some, and by its arguments
+--     ChecksOne, ChecksEach, Checks  what `check` did with one source, with several, and for its arguments
 --     SearchesFrom, ExcludesOrSearches, Searches, Explores    what `explore` did with a machine, with a target,
---                                    with a source, and by its arguments
---     ProvesFrom, ProvesWith, ProvesBy, Proves    what `prove` did with properties, a source, and by its
---                                    arguments
+--                                    with a source, and for its arguments
+--     ProvesFrom, ProvesWith, ProvesBy, Proves    what `prove` did with properties, with those that are asked
+--                                    for, with a source, and for its arguments
 use Rattle.std.specs.Prelude.{◌≡◌, ◌⊎◌, ℕ, Bool, true, false, List, [], ◌∷◌, Option, Some, None, MatchOption, MatchResult, option_copied, Ok, Err, IsErrAnd, IfOk, IfSome}
 use Rattle.std.specs.Borrow.{Bor}
 use Rattle.chip_asm.specs.Lines.{lines_of, open_fault}
@@ -39,34 +39,34 @@ use Rattle.chip_host.specs.declared.ending.Report.{Report}
 use Rattle.chip_host.specs.Endings.{Outcome, IsShort, IsUnwritten}
 use Rattle.chip_host.specs.Reading.{image_in, Declined, FromSource, FromGiven, IfSettled}
 
--- a set of stop causes, of keys or of warnings that there is not
+-- a text that names no set of stop causes, of keys or of warnings
 abbrev pub IsBadSet : Failure → Type 0
 IsBadSet why =
     ((text : Bor (List ℕ)) × (why ≡ failure.BadCauses text))
     ⊎ ((text : Bor (List ℕ)) × (why ≡ failure.BadPlayerKeys text))
     ⊎ ((text : Bor (List ℕ)) × (why ≡ failure.BadWarnings text))
 
--- a property that can't be read, or that memory ran out
+-- a property that can't be read, or memory that ran out
 abbrev pub IsBadProperty : Failure → Type 0
 IsBadProperty why =
     (why ≡ failure.OutOfMemory) ⊎ ((report : Report) × (why ≡ failure.BadProperty report))
 
--- what hinders writing the script that was found
+-- the failures that hinder writing the script that was found
 abbrev pub IsScriptUnwritten : Option (Bor (List ℕ)) → Failure → Type 0
 IsScriptUnwritten None why = ⊥
 IsScriptUnwritten (Some name) why = IsUnwritten name why
 
 module _ {R : Type 0} (remaining : R → Option (List ℕ)) (in_old in_new : Tally R)
     (Unwritten : Type 0) where
-  -- with the set that an argument asks for
+  -- a command with the set that an argument asks for, or why it has none
   abbrev pub IfSet : Option ℕ → (ℕ → Outcome → Type 0) → Outcome → Type 0
   IfSet (Some set) Did ended = Did set ended
   IfSet None Did ended = Declined remaining in_old in_new Unwritten IsBadSet ended
 
 module _ {W : Type 0} (contents : W → Option (List ℕ)) (out_old out_new : Tally W) where
-  -- what a search over all key scripts of a machine answers is printed, also of all speeds of the
-  -- timers, with the stops that facts leave, if there are facts, and where it is asked for the listing of
-  -- these lines with what is executed
+  -- The answer of a search over all key scripts of a machine is printed, and it may hold at all speeds of the
+  -- timers. The stops that facts leave follow, if there are facts, and then, if asked for, the listing of
+  -- these lines with marks at what is executed.
   abbrev pub SearchesFrom : ExploreArguments → (lines : List (List ℕ)) → (rate keys : ℕ) → Target
       → (left : Option (List Left)) → State → Outcome → Type 0
   SearchesFrom arguments lines rate keys target left start ended =
@@ -76,8 +76,8 @@ module _ {W : Type 0} (contents : W → Option (List ℕ)) (out_old out_new : Ta
       × PrintsSuch contents out_old out_new (IsSearchPrinted arguments lines target.causes left explored) ended)
       ⊎ Fails contents out_old out_new (IsScriptUnwritten arguments.search.keys_to) ended
 
-  -- with any keys, random bytes and speed, the machines of the image never meet what is looked for, which
-  -- is printed; or a search is
+  -- Either the machines of the image never meet the target, with any keys, random bytes and speed, and that
+  -- is printed; or a search is made and its answer is printed.
   abbrev pub ExcludesOrSearches : ExploreArguments → SessionSettings → (keys : ℕ)
       → (lines : List (List ℕ)) → (image : List ℕ) → Target → Outcome → Type 0
   ExcludesOrSearches arguments settings keys lines image target ended =
@@ -87,8 +87,8 @@ module _ {W : Type 0} (contents : W → Option (List ℕ)) (out_old out_new : Ta
       × SearchesFrom arguments lines settings.rate keys target left
       (start_of image settings.tape settings.quirks) ended)
 
-  -- `explore`: where the lines have an image, its machine is searched, for the property that the arguments
-  -- state and the place, if the lines have it; else the faults are printed
+  -- `explore` with a source: if the lines have an image, its machine is searched for the property that the
+  -- arguments state and for their place, if the lines have that place; otherwise the faults are printed.
   abbrev pub Searches : ExploreArguments → SessionSettings → (causes keys : ℕ)
       → (lines : List (List ℕ)) → Outcome → Type 0
   Searches arguments settings causes keys lines ended =
@@ -101,8 +101,8 @@ module _ {W : Type 0} (contents : W → Option (List ℕ)) (out_old out_new : Ta
       (λ target. ExcludesOrSearches arguments settings keys lines image target ended))
       ⊎ Fails contents out_old out_new IsBadProperty ended)
 
-  -- the answers to these properties were printed, each as soon as it was found: to all of them, where
-  -- nothing hindered that, or a front, where a script couldn't be written
+  -- The answers to these properties are printed, each as soon as it is found: all of them if nothing hindered
+  -- that, or the first part of the text if a script couldn't be written.
   abbrev pub ProvesFrom : ProveArguments → (lines : List (List ℕ)) → (rate keys : ℕ) → State
       → (asked : List Stated) → (is_faulty : Bool) → Outcome → Type 0
   ProvesFrom arguments lines rate keys start asked is_faulty ended =
@@ -114,8 +114,8 @@ module _ {W : Type 0} (contents : W → Option (List ℕ)) (out_old out_new : Ta
       ⊎ (IsErrAnd ended (IsScriptUnwritten arguments.search.keys_to)
       × WritesFront contents out_old out_new wanted.text))
 
-  -- those of a source's properties that are asked for, unless there is none in the line that the
-  -- arguments name
+  -- `prove` with those of a source's properties that are asked for, unless the line that the arguments name
+  -- has none
   abbrev pub ProvesWith : ProveArguments → (lines : List (List ℕ)) → (rate keys : ℕ) → State
       → Properties → Outcome → Type 0
   ProvesWith arguments lines rate keys start properties ended =
@@ -125,8 +125,8 @@ module _ {W : Type 0} (contents : W → Option (List ℕ)) (out_old out_new : Ta
       (ProvesFrom arguments lines rate keys start asked is_faulty ended)
       (λ line. Fails contents out_old out_new (λ why. why ≡ failure.NoProperty line) ended)
 
-  -- `prove`: where the source has an image, its properties are answered of its machine; else its faults
-  -- are printed as `check` prints them
+  -- `prove` with a source: if the source has an image, its properties are answered for its machine; otherwise
+  -- its faults are printed as `check` prints them.
   abbrev pub ProvesBy : ProveArguments → SessionSettings → (keys : ℕ) → Option (List ℕ)
       → (source : List ℕ) → Outcome → Type 0
   ProvesBy arguments settings keys (Some image) source ended =
@@ -138,10 +138,10 @@ module _ {W : Type 0} (contents : W → Option (List ℕ)) (out_old out_new : Ta
       PrintsSuch contents out_old out_new (IsPrintedCheckOf arguments.is_json false
       arguments.search.source.now (open_fault source) (lines_of source)) ended
 
--- `check`, source by source. No contract speaks of the warnings.
+-- `check`, source by source. No contract describes the warnings.
 module _ {R W : Type 0} (remaining : R → Option (List ℕ)) (contents : W → Option (List ℕ))
     (is_json is_painted : Bool) where
-  -- what it did with one source
+  -- the effects of `check` on one source
   abbrev pub ChecksOne : Bor (List ℕ) → (in_old in_new : Tally R) → (out_old out_new : Tally W)
       → Outcome → Type 0
   ChecksOne name in_old in_new out_old out_new ended =
@@ -149,7 +149,7 @@ module _ {R W : Type 0} (remaining : R → Option (List ℕ)) (contents : W → 
       PrintsSuch contents out_old out_new (IsPrintedCheckOf is_json is_painted name.now
       (open_fault bytes) (lines_of bytes))) ended
 
-  -- with each of these, one after another: what hinders one ends the check
+  -- the effects of `check` on several sources, one after another; whatever hinders one of them ends the check
   abbrev pub ChecksEach : List (Bor (List ℕ)) → (in_old in_new : Tally R)
       → (out_old out_new : Tally W) → Outcome → Type 0
   ChecksEach [] in_old in_new out_old out_new ended =
@@ -164,8 +164,8 @@ module _ {R W : Type 0} (remaining : R → Option (List ℕ)) (contents : W → 
 
 module _ {R W : Type 0} (remaining : R → Option (List ℕ)) (contents : W → Option (List ℕ))
     (in_old in_new : Tally R) (out_old out_new : Tally W) where
-  -- `check`: no contract speaks of the warnings, but of the settings and of which warnings the argument
-  -- names
+  -- `check`: no contract describes the warnings, but contracts do describe the settings and which warnings
+  -- the argument names
   abbrev pub Checks : (takes_color : Bool) → CheckArguments → Outcome → Type 0
   Checks takes_color arguments ended =
       IfSettled remaining in_old in_new (out_new ≡ out_old) (settings_asked arguments.settings)

@@ -1,12 +1,12 @@
--- What `explore` is asked, and what it prints (own).
+-- The question that `explore` is asked, and its output (chosen by this project).
 --     IsFirstPart, AreParts   the parts of a text between its commas
---     IsSet                   the set of numbers that such parts are
+--     IsSet                   the set of the numbers that such parts name
 --     cause_named, key_named, warning_named  the number of a stop cause, of a key and of a warning
 --     AsksSet, AsksCauses, AsksKeys          the set that an argument asks for
---     AsksProperty            the property that the arguments state, if one
+--     AsksProperty            the property that the arguments state, if they state one
 --     address_of, target_asked               the address of a place, and what a search looks for
---     first_lines             what is printed first of what a search found
---     answer_lines            the same where an answer at any speed may be asked for
+--     first_lines             the first lines of a search's answer
+--     answer_lines            the same lines, where an answer at any speed may be asked for
 --     excluded_lines, IsExclusionPrinted     what is printed where facts exclude what is looked for
 --     AreLeft, left_line, AreLeftLines, AreStopsLeft     the stops that facts leave, and their lines
 --     IsSearchPrinted         what is printed of a search, and how the program ends
@@ -55,25 +55,25 @@ IsFirstPart text part None =
 IsFirstPart text part (Some rest) =
     (text ≡ part ++ comma ∷ rest) × Nowhere (Passes (is_byte comma) part) 0 (length part)
 
--- the parts of a text
+-- the parts of a text between its commas
 abbrev pub AreParts : List ℕ → List (List ℕ) → Type 0
 AreParts text [] = ⊥
 AreParts text (part ∷ []) = IsFirstPart text part None
 AreParts text (part ∷ next ∷ more) =
     (rest : List ℕ) × IsFirstPart text part (Some rest) × AreParts rest (next ∷ more)
 
--- a set with the number of a part, if it has one
+-- a set with the number of one more part; none if the part has no number
 abbrev pub with_number : Option ℕ → Option ℕ → Option ℕ
 with_number (Some set) number = option_map (λ k. bit_or set (2 ^ k)) number
 with_number None number = None
 
--- the set of the numbers of a text's parts, each k at bit k, where each part has one
+-- the set of the numbers of a text's parts, each k at bit k; none if a part has no number
 abbrev pub IsSet : (List ℕ → Option ℕ) → (text : List ℕ) → Option ℕ → Type 0
 IsSet number text set =
     (parts : List (List ℕ)) × AreParts text parts
     × (set ≡ fold (λ taken part. with_number taken (number part)) (Some 0) parts)
 
--- the number of a digit among those from 0 to a last one
+-- the number of a digit, if it is from 0 to the given last one
 abbrev pub digit_to : ℕ → ℕ → Option ℕ
 digit_to last byte = if nat_le 48 byte && nat_le byte (48 + last) then Some (byte - 48) else None
 
@@ -100,20 +100,20 @@ key_named (one ∷ digit ∷ []) =
     if nat_le 49 one && nat_le one 49 then option_map (λ k. 10 + k) (digit_to 5 digit) else None
 key_named _ = None
 
--- the set that an argument asks for, with another in its place where there is no argument
+-- the set that an argument asks for, or the usual one without an argument
 abbrev pub AsksSet : (List ℕ → Option ℕ) → (usual : ℕ) → Option (List ℕ) → Option ℕ → Type 0
 AsksSet number usual None set = set ≡ Some usual
 AsksSet number usual (Some text) set = IsSet number text set
 
--- S2 to S7
+-- the stop causes S2 to S7
 abbrev pub usual_causes : ℕ
 usual_causes = 252
 
--- all sixteen
+-- all sixteen keys
 abbrev pub usual_keys : ℕ
 usual_keys = 65535
 
--- where a place or a property is looked for, no stop is unless the arguments name some
+-- the usual stop causes; none if a place or a property is looked for
 abbrev pub causes_beside : (place never always : Option (List ℕ)) → ℕ
 causes_beside None None None = usual_causes
 causes_beside place never always = 0
@@ -130,7 +130,7 @@ abbrev pub AsksKeys : ExploreArguments → Option ℕ → Type 0
 AsksKeys arguments keys =
     AsksSet key_named usual_keys (option_copied arguments.search.allowed_keys) keys
 
--- one property, which a text states by itself, without a line that it stands on
+-- one property, which a text states by itself, without a line of a source
 abbrev pub StatesOne : Kind → (text : List ℕ) → (lines : List (List ℕ)) → List Wanted → Type 0
 StatesOne kind text lines properties =
     (property : Wanted) × (properties ≡ property ∷ [])
@@ -146,12 +146,12 @@ abbrev pub AsksProperty : ExploreArguments → (lines : List (List ℕ)) → Lis
 AsksProperty arguments lines properties =
     AsksOne (option_copied arguments.never) (option_copied arguments.always) lines properties
 
--- a number that is an address, if it is below 4096
+-- a number as an address, if it is from 0 to 4095
 abbrev pub in_memory : ℤ → Option ℕ
 in_memory (pos number) = if nat_lt number MEMORY_BYTES then Some number else None
 in_memory number = None
 
--- the value of a name, if it is an address
+-- the value of a name as an address, if it is one
 abbrev pub value_in_memory : Option Symbol → Option ℕ
 value_in_memory None = None
 value_in_memory (Some symbol) = in_memory symbol.value
@@ -165,8 +165,8 @@ abbrev pub address_of : List (Name × Symbol) → (place : List ℕ) → Option 
 address_of names place =
     address_by (number_spelled place) (lookup_name names (map upper place))
 
--- what a search looks for: a stop for one of these causes, a step at the place, if one is named, and
--- these properties
+-- the target of a search: a stop for one of these causes, a step at the place, if one is named, and these
+-- properties
 abbrev pub target_asked : (causes : ℕ) → (place : Option (List ℕ)) → Bor (List Wanted)
     → List (Name × Symbol) → Option Target
 target_asked causes None properties names =
@@ -182,19 +182,19 @@ number_line word number = word ++ decimal number ++ 10 ∷ []
 abbrev pub cause_word : Stop → List ℕ
 cause_word cause = 83 ∷ (48 + stop_number cause) ∷ 32 ∷ []
 
--- what was met, before the step
+-- the word for what was met, before the step
 abbrev pub met_word : Met → List ℕ
 met_word (Cause cause) = cause_word cause
 met_word Address = codes "reached "
 met_word (Property k) = codes "broken "
 
--- a word, a step, and where that is in the source
+-- the line of what was met: a word, the step, and the place of the step in the source
 abbrev pub met_line : List ℕ → ℕ → (place : List ℕ) → List ℕ
 met_line word step place = word ++ decimal step ++ place ++ 10 ∷ []
 
--- what is printed first of what a search found: the cause with its step and how many key events
--- lead there, and where the step may not be the first, up to which one the target is avoided; up to
--- which step it is; or that it is ever
+-- the first lines of a search's answer: either what was met, at which step, and how many key events lead
+-- there, followed, if an earlier step may meet the target too, by the step up to which none does; or up to
+-- which step none does; or that none ever does
 abbrev pub first_lines : (place : List ℕ) → Outcome → List ℕ
 first_lines place (Found events step met) =
     met_line (met_word met) step place ++ number_line (codes "keys ") (length events.items)
@@ -204,7 +204,7 @@ first_lines place (Later events step met covered) =
 first_lines place (Within step) = number_line (codes "within ") step
 first_lines place Never = codes "never\n"
 
--- with `--any-speed`, whether it is so whenever the timers tick
+-- the first lines, or with `--any-speed` the answer at any speed, if that is never
 abbrev pub answer_lines : (is_any_speed : Bool) → (place : List ℕ) → Explored → List ℕ
 answer_lines is_any_speed place explored =
     if is_any_speed && explored.is_at_any_speed then codes "never at any speed\n"
@@ -216,12 +216,12 @@ search_ending (Found events step met) is_short = Faulty
 search_ending (Later events step met covered) is_short = Faulty
 search_ending outcome is_short = if is_short then Short else Done
 
--- the listing of the lines with a mark at each that is executed, where it is asked for
+-- the listing of the lines with a mark at each line that is executed, if it is asked for
 abbrev pub covering_text : (is_covering : Bool) → (executed : List Bool) → List (List ℕ) → List ℕ
 covering_text is_covering executed lines =
     if is_covering then marked_listing executed lines else []
 
--- the answer where facts exclude what is looked for, with the number of rows of their table
+-- the answer if facts exclude what is looked for, with the number of rows in the table of facts
 abbrev pub excluded_lines : (is_any_speed : Bool) → (rows : ℕ) → List ℕ
 excluded_lines is_any_speed rows =
     (if is_any_speed then codes "never at any speed\n" else codes "never\n")
@@ -232,15 +232,16 @@ pub record IsExclusionPrinted (is_any_speed : Bool) (wanted : Printed) : Type 0 
   pub text : wanted.text ≡ excluded_lines is_any_speed rows
   pub ending : wanted.ending ≡ Done
 
--- with any keys, random bytes and speed, the machine stops at no other address and for no other cause
+-- all stops that are left: with any keys, random bytes and speed, the machine stops at no other address and
+-- for no other cause
 abbrev pub AreLeft : (image : List ℕ) → Quirks → List Left → Type 0
 AreLeft image quirks left = (executed : List Bool) × AreFacts image quirks left executed
 
--- the cause and the address of a stop, and where that is in the source or in the image
+-- the cause and the address of a stop, and its place in the source or in the image
 abbrev pub left_line : (place : List ℕ) → Left → List ℕ
 left_line place one = codes "left " ++ cause_word one.stop ++ hex_word one.pc ++ place ++ 10 ∷ []
 
--- the line of a stop, where its cause is looked for
+-- the line of a stop, if its cause is looked for
 abbrev pub IsLeftLine : (is_wanted : Bool) → Left → (text : List ℕ) → Type 0
 IsLeftLine false one text = text ≡ []
 IsLeftLine true one text = (place : List ℕ) × (text ≡ left_line place one)
@@ -252,14 +253,14 @@ AreLeftLines causes (one ∷ others) text =
     (first rest : List ℕ) × (text ≡ first ++ rest)
     × IsLeftLine (is_wanted causes one.stop) one first × AreLeftLines causes others rest
 
--- none where there are no facts
+-- the lines of the stops that facts leave; no line without facts
 abbrev pub AreStopsLeft : (causes : ℕ) → Option (List Left) → (text : List ℕ) → Type 0
 AreStopsLeft causes None text = text ≡ []
 AreStopsLeft causes (Some left) text = AreLeftLines causes left text
 
--- What is printed of a search: the answer, other lines of which no contract speaks (the other causes that
--- it met, and how many states it kept), the stops that facts leave, and the listing. No contract says which
--- place of the source or of the image stands behind a step or an address.
+-- The output of a search: the answer, other lines (the other causes that it met, and how many states it
+-- kept), the stops that facts leave, and the listing. No contract describes the other lines, nor the place in
+-- the source or in the image that follows a step or an address.
 pub record IsSearchPrinted (arguments : ExploreArguments) (lines : List (List ℕ)) (causes : ℕ)
     (left : Option (List Left)) (explored : Explored) (wanted : Printed) : Type 0 where
   pub place : List ℕ

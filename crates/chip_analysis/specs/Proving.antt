@@ -1,11 +1,11 @@
--- What `prove` prints of the properties that a source states (own).
+-- The output of `prove` for the properties that a source states (chosen by this project).
 --     is_asked, asked_of, has_faults, unstated_line    which properties of a source are asked for,
 --                        whether one of them can't be read, and the line that is named without one
---     text_at            the text of the property of a line
---     looks_for          a search that looks for a property alone
---     IsForeseen, AnswersKind    whether the answer to a `can` holds; whether that to any property does
+--     text_at            the text of the property in a line
+--     looks_for          a search that looks only for a property
+--     IsForeseen, AnswersKind    whether the answer to a `can` holds, and whether that to any property does
 --     NeverMetFrom       whether a target is never met with any keys, random bytes and speed
---     Answered, IsRight  a property with an answer; that the answer holds
+--     Answered, IsRight  a property with an answer, and whether the answer holds
 --     proof_ending       how the program ends after the answers
 --     IsProofPrinted     what is printed of properties that are answered
 use Rattle.std.specs.Prelude.{◌≡◌, ℕ, ◌==◌, ◌||◌, Bool, true, false, List, [], ◌∷◌, ◌++◌, filter, map, Option, Some, None, unwrap_or, if◌then◌else◌}
@@ -36,7 +36,7 @@ use Rattle.chip_explore.specs.declared.question.Outcome.{Outcome}
 use Rattle.chip_properties.specs.declared.stated.Kind.{Kind}
 use Rattle.chip_properties.specs.declared.stated.Kind.TheVariants as kind
 
--- the property of a line is asked for: of each one, unless a line is named
+-- whether the property of a line is asked for; without a named line, each one is
 abbrev pub is_asked : (only : Option ℕ) → (line : ℕ) → Bool
 is_asked None line = true
 is_asked (Some only) line = only == line
@@ -47,12 +47,12 @@ asked_of only stated = filter (λ one. is_asked only one.line) stated
 abbrev pub has_faults : (only : Option ℕ) → List PropertyFault → Bool
 has_faults only faults = list_any (λ fault. is_asked only fault.line) faults
 
--- the line that is named, where it states no property
+-- the line that is named, if it states no property
 abbrev pub unstated_line : (only : Option ℕ) → (asked : List Stated) → (has_faults : Bool) → Option ℕ
 unstated_line only [] false = only
 unstated_line only asked has_faults = None
 
--- the text of the property of a line, if there is such a line
+-- the text of the property in a line, if there is such a line
 abbrev pub stated_text : Option LineFacts → List ℕ
 stated_text None = []
 stated_text (Some line) = unwrap_or (property_text_of line.text) []
@@ -60,7 +60,7 @@ stated_text (Some line) = unwrap_or (property_text_of line.text) []
 abbrev pub text_at : (lines : List (List ℕ)) → (number : ℕ) → List ℕ
 text_at lines number = stated_text (line_at lines number)
 
--- no stop and no address
+-- the target with only this property: no stop and no address
 abbrev pub looks_for : Property → Target
 looks_for property = record {
   causes = 0;
@@ -75,13 +75,13 @@ pub record Answered : Type 0 where
   pub scope : Scope
   pub is_short : Bool
 
--- an outcome says whether the property can be met from everywhere
+-- the outcome says whether the property can be met from everywhere
 pub record IsForeseen (rate keys : ℕ) (property : Property) (start : State) (outcome : Outcome) : Type 0 where
   pub prospect : Prospect
   pub is : outcome ≡ outcome_of prospect
   pub foreseen : Foresees rate keys (property ∷ []) start prospect
 
--- the answer to a property of a kind
+-- the outcome answers a property of this kind
 abbrev pub AnswersKind : Kind → (rate keys : ℕ) → Property → State → Outcome → Type 0
 AnswersKind kind.Can rate keys property start outcome = IsForeseen rate keys property start outcome
 AnswersKind kind rate keys property start outcome =
@@ -95,14 +95,14 @@ pub record NeverMetFrom (target : Target) (start : State) : Type 0 where
   pub starts : start ≡ start_of image tape quirks
   pub never : NeverMet image quirks target
 
--- the answer holds, and it does so for all machines that it covers
+-- the answer holds, for all machines that it covers
 pub record IsRight (rate keys : ℕ) (start : State) (one : Answered) : Type 0 where
   pub answers : AnswersKind one.stated.kind rate keys one.stated.property start one.outcome
   pub any_speed : one.scope ≡ scope.AtAnySpeed
       → NeverAtAnySpeed keys (looks_for one.stated.property) start
   pub anything : one.scope ≡ scope.Anything → NeverMetFrom (looks_for one.stated.property) start
 
--- what is printed of an answer to a property of these lines
+-- the output for an answer to a property of these lines
 abbrev pub printed_answer : ProveArguments → (lines : List (List ℕ)) → Answered → List ℕ
 printed_answer arguments lines one =
     answer_text arguments.is_json arguments.search.source.now one.stated.line
@@ -114,7 +114,7 @@ has_bad given = list_any (λ one. is_bad one.stated.kind one.outcome) given
 abbrev pub has_short : List Answered → Bool
 has_short given = list_any (λ one. one.is_short) given
 
--- memory that ran out comes before what is bad
+-- the ending of the program; memory that ran out takes precedence over a bad answer
 abbrev pub proof_ending : (is_short is_bad : Bool) → Ending
 proof_ending is_short is_bad = if is_short then Short else (if is_bad then Faulty else Done)
 
@@ -124,8 +124,8 @@ pub record AreAnswered (rate keys : ℕ) (start : State) (asked : List Stated)
   pub all : IsPermutation asked (map (λ one. one.stated) given ++ left)
   pub right : All (IsRight rate keys start) given
 
--- What is printed of these answers: before them reports of what can't be read, after them how many
--- states the searches kept; of both no contract speaks.
+-- The output for these answers. Before them come reports on what can't be read, and after them how many
+-- states the searches kept. No contract describes either of these.
 pub record IsProofPrinted (arguments : ProveArguments) (lines : List (List ℕ)) (is_faulty : Bool)
     (given : List Answered) (wanted : Printed) : Type 0 where
   pub reports : List ℕ

@@ -25,7 +25,7 @@ use std::alloc::{AllocError, Global};
 use std::io::{Read, Write};
 use std::time::Clock;
 
-/// How sources are checked, and how what is found in them is printed.
+/// The way in which sources are checked and the findings are printed.
 #[derive(Clone, Copy)]
 pub(crate) struct Checker<'p> {
     /// The warnings that are not printed, Wk at bit k and Pk at bit 9 + k.
@@ -33,7 +33,7 @@ pub(crate) struct Checker<'p> {
     settings: &'p Settings,
     /// Whether the arguments give the tape of the settings.
     has_tape: bool,
-    /// Whether JSON objects are printed, and not text.
+    /// Whether JSON objects are printed instead of text.
     is_json: bool,
     /// Whether the text has colours.
     is_painted: bool,
@@ -41,9 +41,8 @@ pub(crate) struct Checker<'p> {
     is_covering: bool,
 }
 
-/// `check`: what is found in each of the sources, one after another. The settings, and then the
-/// warnings that are allowed, are judged before the first is read. A source that can't be read ends the
-/// check.
+/// `check`: prints the findings for each of the sources, one after another. The settings and then the allowed
+/// warnings are judged before the first source is read. A source that can't be read ends the check.
 pub fn check<'a, F: FileAccess + Clock, I: Read, O: Write, E: Write>(
     system: &System<'_, F>,
     arguments: &CheckArguments<'a>,
@@ -77,7 +76,7 @@ fn gives_tape(arguments: &SettingArguments<'_>) -> bool
     arguments.tape.is_some() || arguments.seed.is_some()
 }
 
-// Whether what is printed has colours.
+// Whether the output has colours.
 fn paints(choice: ColorChoice, takes_color: bool) -> bool
     ensures { result ≡ paints choice takes_color }
 {
@@ -88,7 +87,7 @@ fn paints(choice: ColorChoice, takes_color: bool) -> bool
     }
 }
 
-// The worse of two endings.
+// Returns the worse of two endings: the first one, unless that is `Done`.
 fn worse(ending: Ending, later: Ending) -> Ending
     ensures { result ≡ worse ending later }
 {
@@ -99,7 +98,7 @@ fn worse(ending: Ending, later: Ending) -> Ending
 }
 
 impl<'p> Checker<'p> {
-    /// A checker of one source that prints faults alone.
+    /// Returns a checker that prints only faults.
     pub(crate) fn for_faults(settings: &'p Settings, is_json: bool) -> Checker<'p>
         ensures json { result.is_json ≡ is_json }
         ensures painted { result.is_painted ≡ false }
@@ -135,7 +134,7 @@ impl<'p> Checker<'p> {
         Ok(ending)
     }
 
-    // What is found in a source, or why it doesn't open.
+    // Returns the findings for a source, or the reason why it doesn't open.
     fn answer_on<T: Teller>(
         &self,
         alloc: Global,
@@ -166,7 +165,7 @@ impl<'p> Checker<'p> {
         Ok(Answer::on(&source, text))
     }
 
-    // What key scripts execute of a source's image, where that is asked for.
+    // Returns what key scripts execute of a source's image, if that is asked for and there is an image.
     fn covered<W: Watcher>(
         &self,
         alloc: Global,
@@ -185,7 +184,7 @@ impl<'p> Checker<'p> {
         Ok(Some(Covered::of(alloc, image, self.settings, watcher)?))
     }
 
-    // The facts about a source's image, where there are any.
+    // Returns the facts about a source's image, if there are any.
     fn facts_about(&self, alloc: Global, source: &Source) -> Option<Facts>
         ensures { IfSome result (λ facts. MatchOption (image_of source.now.lines) ⊥
             (λ image. HoldFacts image self.now.settings.now.quirks facts)) }
@@ -194,7 +193,7 @@ impl<'p> Checker<'p> {
         facts_within(alloc, CHECK_FACT_STEPS, image, self.settings.quirks())
     }
 
-    // What is printed of a source and its warnings.
+    // Returns the text that is printed for a source and its warnings.
     pub(crate) fn text_of(
         &self,
         alloc: Global,
@@ -212,7 +211,7 @@ impl<'p> Checker<'p> {
         }
     }
 
-    // Why a source doesn't open.
+    // Returns the answer for a source that doesn't open. Fails if memory ran out.
     pub(crate) fn unopened(
         &self,
         alloc: Global,
@@ -233,7 +232,7 @@ impl<'p> Checker<'p> {
         })
     }
 
-    // What is printed of a source that doesn't open.
+    // Returns the text that is printed for a source that doesn't open.
     fn unopened_text(
         &self,
         alloc: Global,

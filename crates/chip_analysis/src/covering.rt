@@ -1,4 +1,4 @@
-//! `check --cover`: which addresses of a source's image key scripts execute.
+//! `check --cover`: the addresses of a source's image that key scripts execute.
 ghost use Rattle.std.specs.Prelude.{◌≡◌, ◌↔◌, ◌<◌, IfOk, IsErr, IsTrue};
 ghost use Rattle.chip_machine.specs.Start.{start_of};
 ghost use Rattle.chip_analysis.specs.Exploring.{usual_keys};
@@ -15,17 +15,17 @@ use chip_session::Settings;
 use chip_warnings::Coverage;
 use std::alloc::{AllocError, Global};
 
-/// What key scripts execute of an image.
+/// The addresses of an image that key scripts execute.
 #[derive(Drop)]
 pub(crate) struct Covered {
     executed: Executed,
-    /// The step up to which the search went, or none where it went to the end.
+    /// The step up to which the search went. None if it went to the end.
     within: Option<u64>,
 }
 
 impl Covered {
-    /// What a search over the key scripts of all keys saw under these settings, which had the bounds that
-    /// `explore` has where no argument gives others. Where memory runs out there is none.
+    /// Searches the key scripts of all keys under these settings, with the bounds that `explore` has by
+    /// default, and returns the addresses that they execute. Fails if memory runs out.
     pub(crate) fn of<W: Watcher>(
         alloc: Global,
         image: &[u8],
@@ -39,7 +39,7 @@ impl Covered {
         Covered::from_start(alloc, &start, settings.rate(), watcher)
     }
 
-    // What such a search saw from a state on.
+    // Makes such a search from a start state.
     fn from_start<W: Watcher>(
         alloc: Global,
         start: &Machine,
@@ -70,7 +70,7 @@ impl Covered {
         Covered::seen_by(explore(alloc, start, &question, &bounds, watcher))
     }
 
-    // What a search saw, unless memory ran out in it.
+    // Returns the addresses that a search executed, unless memory ran out in it.
     fn seen_by(explored: Explored) -> Result<Covered, AllocError>
         ensures executed { IfOk result (λ covered. covered.executed ≡ explored.executed) }
         ensures within { IfOk result (λ covered. covered.within ≡ covered_step explored.outcome) }
@@ -85,7 +85,7 @@ impl Covered {
         })
     }
 
-    /// The same as the warnings take it.
+    /// Returns the coverage in the form that the warnings take.
     pub(crate) fn coverage(&self) -> Coverage<'_>
         ensures executed { result.executed.now ≡ self.now.executed }
         ensures within { result.within ≡ self.now.within }
@@ -97,7 +97,7 @@ impl Covered {
     }
 }
 
-// The step up to which a search says what is executed, or none where it says so of all steps.
+// Returns the step up to which a search knows what is executed. None if it knows that for all steps.
 fn covered_by(outcome: &Outcome) -> Option<u64>
     ensures { result ≡ covered_step outcome.now }
 {

@@ -1,4 +1,4 @@
-//! What facts exclude before `explore` and `prove` search, and which stops they leave.
+//! Facts before the searches of `explore` and `prove`: what they exclude, and which stops they leave.
 
 ghost use Rattle.std.specs.Prelude.{◌≡◌, ◌≤◌, ◌<◌, ◌++◌, ℕ, IfOk, IfSome, IsTrue, List, OnOk, length, option_copied, option_map, slice_index};
 ghost use Rattle.chip_lang.specs.declared.limits.TheConstants.{IMAGE_BYTES};
@@ -19,19 +19,19 @@ use chip_verdicts::excludes;
 use std::alloc::{AllocError, Global};
 use std::slice;
 
-/// How many steps the search for facts makes at most, before `explore` and `prove` search.
+/// The most steps that the search for facts makes before `explore` and `prove` search.
 const FACT_STEPS: usize = 200_000;
 
-/// How many it makes at most in `check`, which an editor asks at each pause.
+/// The most steps that the search for facts makes in `check`, which an editor runs at each pause.
 pub(crate) const CHECK_FACT_STEPS: usize = 40_000;
 
-/// How many steps the search for facts makes at most before a search, and none where they aren't asked.
+/// Returns the most steps that the search for facts makes before a search: none if facts aren't asked for.
 pub(crate) fn fact_steps(are_asked: bool) -> usize {
     if are_asked { FACT_STEPS } else { 0 }
 }
 
-/// The facts about an image, if so many steps find any. Where memory runs out there are none, since a search may
-/// still answer.
+/// Returns the facts about an image, if that many steps find any. None if memory runs out, because a search
+/// may still answer.
 pub(crate) fn facts_within(
     alloc: Global,
     most_steps: usize,
@@ -65,7 +65,7 @@ pub(crate) fn bytes_are_small(bytes: &[u8])
     ensures { (i : ℕ) → slice_index bytes.now i < 256 }
 {}
 
-/// Whether a step may be made at each address, where there are facts.
+/// Returns whether a step may be made at each address. None without facts.
 pub(crate) fn executed_in(facts: &Option<Facts>) -> Option<&[bool]>
     ensures { option_copied result ≡ option_map (λ found. found.executed.items) facts.now }
 {
@@ -75,7 +75,7 @@ pub(crate) fn executed_in(facts: &Option<Facts>) -> Option<&[bool]>
     }
 }
 
-/// The stops that facts leave, where there are facts.
+/// Returns the stops that facts leave. None without facts.
 pub(crate) fn left_of(facts: &Option<Facts>) -> Option<&[Left]>
     ensures { option_copied result ≡ option_map (λ found. found.left.items) facts.now }
 {
@@ -85,7 +85,7 @@ pub(crate) fn left_of(facts: &Option<Facts>) -> Option<&[Left]>
     }
 }
 
-/// The answer where facts exclude the target of a search.
+/// Returns the answer for a target that facts exclude. `rows` is the number of rows in the table of facts.
 pub(crate) fn excluded_text(
     alloc: Global,
     is_any_speed: bool,
@@ -109,12 +109,12 @@ pub(crate) fn excluded_text(
 pub(crate) struct Searched<'p> {
     pub(crate) source: &'p Source,
     pub(crate) start: &'p Machine,
-    /// Whether the source is an image, so that its words are named and not its lines.
+    /// Whether the source was given as an image, so that the answer names its words and not its lines.
     pub(crate) is_image: bool,
 }
 
 impl Searched<'_> {
-    /// A line for each stop that facts leave and that is looked for, in their order.
+    /// Returns a line for each stop that facts leave and whose cause is looked for, in their order.
     pub(crate) fn left_text(
         &self,
         alloc: Global,
@@ -133,8 +133,8 @@ impl Searched<'_> {
         Ok(text)
     }
 
-    /// The line of the source at an address. For an image, and where there is no such line, the word there
-    /// before the first step.
+    /// Returns the line of the source at an address. For an image, or if no line begins there, returns the
+    /// word at the address before the first step.
     fn place_of(&self, alloc: Global, address: u16) -> Result<Vec<u8>, AllocError> {
         if !self.is_image {
             let line = line_text(alloc, self.source, address)?;

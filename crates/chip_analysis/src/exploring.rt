@@ -1,4 +1,4 @@
-//! `explore`: what a search over all key scripts answers of a source's image.
+//! `explore`: a search over all key scripts of a source's image.
 ghost use Rattle.std.specs.Prelude.{◌≡◌, ◌<◌, ◌∷◌, [], ◌++◌, ℕ, List, Ok, IfOk, IfErr, OnOk, option_copied};
 ghost use Rattle.chip_asm.specs.Program.{symbols_of};
 ghost use Rattle.chip_machine.specs.Start.{start_of};
@@ -35,7 +35,7 @@ use std::io::{Read, Write};
 use std::mem;
 use std::time::Clock;
 
-/// `explore`: what a search over all key scripts answers of a source's image, or the faults where
+/// `explore`: searches all key scripts of a source's image and prints the answer, or prints the faults if
 /// there is no image. Settings and sets are judged before the source is read.
 pub fn explore<'a, F: FileAccess + Clock, I: Read, O: Write, E: Write>(
     system: &System<'_, F>,
@@ -63,7 +63,7 @@ pub fn explore<'a, F: FileAccess + Clock, I: Read, O: Write, E: Write>(
         Ok(opened) => {
             let ended = search_opened(system, &wanted, &opened, output, &mut progress);
             tell_faults(system, name, &opened, errors);
-            // The program ends here, and its memory goes back at once.
+            // The program ends here, and the system frees its memory all at once.
             mem::forget(opened);
             ended
         }
@@ -75,7 +75,7 @@ pub fn explore<'a, F: FileAccess + Clock, I: Read, O: Write, E: Write>(
     }
 }
 
-/// What is asked of a source.
+/// The arguments, the settings and the sets of a search.
 #[derive(Clone, Copy)]
 struct AskedSearch<'p, 'a> {
     arguments: &'p ExploreArguments<'a>,
@@ -135,8 +135,8 @@ fn search_opened<'p, 'a, F: FileAccess, O: Write, T: Teller>(
     search.carry_out(system, output, teller)
 }
 
-/// Whether facts are asked before the search. They aren't for the marks of a listing, which are of what the
-/// search executes.
+/// Whether facts are asked for before the search. A listing with marks does without them, because its marks
+/// show what the search executes.
 fn asks_facts(arguments: &ExploreArguments<'_>) -> bool {
     !arguments.search.is_without_facts && !arguments.is_covering
 }
@@ -148,12 +148,12 @@ struct Search<'p, 'a> {
     source: &'p Source,
     start: &'p Machine,
     question: &'p Question<'p>,
-    /// The stops that facts leave, where there are facts.
+    /// The stops that facts leave. None without facts.
     left: Option<&'p [Left]>,
 }
 
-// The machine of a source's image before its first step. The image is within its bounds, and the
-// tape is to be, so memory alone can be missing.
+// Returns the machine of a source's image before its first step. The image is within its bounds, and the tape
+// has to be, so only memory can be missing.
 pub(crate) fn machine_of(
     alloc: Global,
     image: &[u8],
@@ -168,7 +168,7 @@ pub(crate) fn machine_of(
     }
 }
 
-// The property that a search looks for, if there is one.
+// Returns the property that the arguments state, if there is one.
 fn properties_asked<'a>(
     alloc: Global,
     arguments: &ExploreArguments<'a>,
@@ -185,7 +185,7 @@ fn properties_asked<'a>(
     }
 }
 
-// The property of a kind that the text of an option states.
+// Returns the property of a kind that the text of an option states. Fails with a report if it states none.
 fn one_property<'a>(
     alloc: Global,
     option: &[u8],
@@ -215,7 +215,7 @@ fn alone(alloc: Global, property: Property) -> Result<Vec<Property>, AllocError>
     Ok(properties)
 }
 
-// What a search looks for, if the source has the place.
+// Returns what a search looks for. None if the source doesn't have the place.
 fn target_of<'p>(
     arguments: &ExploreArguments<'_>,
     causes: Causes,
@@ -236,7 +236,8 @@ fn target_of<'p>(
     })
 }
 
-// The address of a place: the number that it spells, or else the value of the name.
+// Returns the address of a place: the number that it spells, or else the value of the name. None if that is
+// no address.
 fn address_of(place: &[u8], source: &Source) -> Option<u16>
     ensures { result ≡ address_of (symbols_of source.now.lines) place.now }
 {
@@ -246,7 +247,7 @@ fn address_of(place: &[u8], source: &Source) -> Option<u16>
     }
 }
 
-// A number that is an address, if it is below 4096.
+// Returns a number as an address, if it is from 0 to 4095.
 fn in_memory(number: i64) -> Option<u16>
     ensures { result ≡ in_memory number }
 {
@@ -258,7 +259,8 @@ fn in_memory(number: i64) -> Option<u16>
 }
 
 impl<'p, 'a> Search<'p, 'a> {
-    // Prints what the search finds, and writes the key events of a script where a file is named.
+    // Makes the search, prints the answer, and writes the key events of a script that was found, if a file is
+    // named.
     fn carry_out<F: FileAccess, O: Write, T: Teller>(
         &self,
         system: &System<'_, F>,
@@ -270,7 +272,7 @@ impl<'p, 'a> Search<'p, 'a> {
         ensures searched { SearchesFrom O.contents output.old output.new self.now.arguments.now
             self.now.source.now.lines self.now.question.now.rate self.now.question.now.allowed
             self.now.question.now.target (option_copied self.now.left) self.now.start.now result }
-        // Where a script was found, the program ends so.
+        // The program ends as faulty where a script was found, which is then written.
         ensures written { result ≡ Ok Ending.Faulty
             → IsNamedWritten (F.wrote system.now.files.now) self.now.arguments.now.search.keys_to }
     {
@@ -282,7 +284,7 @@ impl<'p, 'a> Search<'p, 'a> {
             left,
         } = *self;
         let ticks = if arguments.is_covering {
-            // What is marked in the listing is executed at the rate.
+            // The marks of the listing show what is executed at the rate.
             Ticks::AtRate
         } else if arguments.search.is_any_speed {
             Ticks::FreeWithAll
@@ -320,7 +322,7 @@ impl<'p, 'a> Search<'p, 'a> {
     }
 }
 
-/// How far a search goes.
+/// Returns the bounds that the arguments set for a search.
 pub(crate) fn bounds_of(arguments: &SearchArguments<'_>, ticks: Ticks) -> Bounds {
     Bounds {
         steps: match arguments.steps {
@@ -334,12 +336,12 @@ pub(crate) fn bounds_of(arguments: &SearchArguments<'_>, ticks: Ticks) -> Bounds
     }
 }
 
-/// The number of bytes in so many megabytes.
+/// Returns the number of bytes in this many megabytes of 1,000,000 bytes.
 pub(crate) fn bytes_of(megabytes: u32) -> u64 {
     u64::from(megabytes) * 1_000_000
 }
 
-// Writes the key events of the script that was found, where there is a file for them.
+// Writes the key events of the script that was found, if a file is named for them.
 fn write_script<'a, F: FileAccess, T: Teller>(
     system: &System<'_, F>,
     arguments: &ExploreArguments<'a>,
@@ -363,7 +365,7 @@ fn write_script<'a, F: FileAccess, T: Teller>(
     Ok(ending)
 }
 
-/// Key events as lines of a key file.
+/// Returns key events as the lines of a key file.
 pub(crate) fn script_text(alloc: Global, events: &[KeyEvent]) -> Result<Vec<u8>, AllocError> {
     let mut text = Vec::new(alloc);
     for event in events {
@@ -375,7 +377,7 @@ pub(crate) fn script_text(alloc: Global, events: &[KeyEvent]) -> Result<Vec<u8>,
     Ok(text)
 }
 
-// What is printed of what a search found, with the lines of the stops that facts leave.
+// Returns the text that is printed for a search, with the lines of the stops that facts leave.
 fn search_text(
     alloc: Global,
     arguments: &ExploreArguments<'_>,
@@ -398,7 +400,7 @@ fn search_text(
     Ok(text)
 }
 
-// How the program ends after a search.
+// Returns how the program ends after a search.
 fn search_ending(explored: &Explored) -> Ending
     ensures { result ≡ search_ending explored.now.outcome explored.now.is_short }
 {
@@ -409,7 +411,7 @@ fn search_ending(explored: &Explored) -> Ending
     }
 }
 
-// What is printed first of what a search found, where an answer at any speed may be asked for.
+// Adds the first lines of an answer. `is_any_speed` is whether an answer at any speed is asked for.
 fn push_first_lines(
     text: &mut Vec<u8>,
     is_any_speed: bool,
@@ -442,7 +444,7 @@ fn push_first_lines(
     }
 }
 
-// What was met, the step, and the place of the source.
+// Adds what was met, the step, and the place in the source.
 fn push_met(text: &mut Vec<u8>, met: Met, step: u32, place: &[u8]) -> Result<(), AllocError>
     ensures { OnOk result (text.new.items
         ≡ text.old.items ++ met_line (met_word met) step place.now) }
@@ -457,7 +459,7 @@ fn push_met(text: &mut Vec<u8>, met: Met, step: u32, place: &[u8]) -> Result<(),
     text.extend_from_slice(b"\n")
 }
 
-// The other causes that a search met, and how many states it kept.
+// Returns the lines of the other causes that a search met, and of how many states it kept.
 fn lines_below(alloc: Global, explored: &Explored) -> Result<Vec<u8>, AllocError> {
     let mut text = Vec::new(alloc);
     for cause in STOPS {
@@ -469,7 +471,7 @@ fn lines_below(alloc: Global, explored: &Explored) -> Result<Vec<u8>, AllocError
     Ok(text)
 }
 
-/// A stop cause before a number.
+/// Returns the code of a stop cause and a space, as they precede a number.
 pub(crate) fn cause_word(cause: Stop) -> [u8; 3]
     ensures { result ≡ cause_word cause }
 {

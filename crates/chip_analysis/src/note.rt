@@ -4,7 +4,7 @@ use crate::ranges::Fixed;
 use chip_host::Shown;
 use std::io::{self, Write};
 
-/// Writes a note on a line of a source, or with the number 0 on the whole source.
+/// Writes a note on a line of a source, or on the whole source if the number is 0.
 pub(crate) fn write_note<E: Write>(
     errors: &mut E,
     name: &str,
@@ -105,7 +105,7 @@ impl<'n> Note<'n> {
         }
     }
 
-    /// The text of a note that names nothing.
+    /// Returns the text of a note that contains no name and no number.
     fn sentence(self) -> &'static str {
         match self {
             Note::Constant => "a comparison has only constants, so no step changes its answer",

@@ -11,7 +11,7 @@ use chip_properties::{Stated, names_used, properties_of, property_text};
 use std::alloc::Global;
 use std::str;
 
-/// Tells the notes on the properties and lines of a source. Nothing is told where memory runs out.
+/// Tells the notes on the properties and lines of a source. Nothing is told if memory runs out.
 pub(crate) fn tell_notes<T: Teller>(alloc: Global, name: &[u8], source: &Source, teller: &mut T) {
     let name = str::from_utf8(name).unwrap_or("");
     if let Ok(properties) = properties_of(alloc, source) {
@@ -20,7 +20,7 @@ pub(crate) fn tell_notes<T: Teller>(alloc: Global, name: &[u8], source: &Source,
     tell_lines(alloc, name, source, teller);
 }
 
-/// Tells which lines of a source have `;!` behind a statement, and whether END hides lines. Nothing is told where
+/// Tells which lines of a source have `;!` after a statement, and whether END hides lines. Nothing is told if
 /// memory runs out.
 pub(crate) fn tell_lines<T: Teller>(alloc: Global, name: &str, source: &Source, teller: &mut T) {
     for number in 1..=source.lines() {
@@ -35,7 +35,8 @@ pub(crate) fn tell_lines<T: Teller>(alloc: Global, name: &str, source: &Source, 
     }
 }
 
-/// The number of the line with END, and a note on it, if lines that END hides aren't all empty or comments.
+/// Returns the number of the line with END, and a note on it. None without END, or if all lines that it hides
+/// are empty or comments.
 pub(crate) fn note_on_end<'n>(source: &Source) -> Option<(usize, Note<'n>)> {
     for number in 1..=source.lines() {
         if let Some(line) = source.line(number)
@@ -51,7 +52,7 @@ pub(crate) fn note_on_end<'n>(source: &Source) -> Option<(usize, Note<'n>)> {
     None
 }
 
-/// The note on the lines below the line with END, if they aren't all empty or comments.
+/// Returns the note on the lines below the line with END, unless all of them are empty or comments.
 fn note_on_hidden<'n>(source: &Source, end: usize) -> Option<Note<'n>> {
     let mut note = None;
     for number in end.saturating_add(1)..=source.lines() {
@@ -67,8 +68,8 @@ fn note_on_hidden<'n>(source: &Source, end: usize) -> Option<Note<'n>> {
     note
 }
 
-/// Tells which properties of a source have a place at which no line begins, or a comparison that always has the
-/// same answer. Nothing is told where memory runs out.
+/// Tells which properties of a source have a place at which no line begins, or a comparison that always has
+/// the same answer. Nothing is told if memory runs out.
 pub(crate) fn tell_properties<T: Teller>(
     alloc: Global,
     name: &str,
@@ -90,8 +91,8 @@ pub(crate) fn tell_properties<T: Teller>(
     }
 }
 
-/// Tells which places in the arguments of a search are the address of no line, or of no word of the image, and which
-/// comparisons always have the same answer.
+/// Tells which places in the arguments of a search are an address at which no line, or no word of the image,
+/// begins, and which comparisons always have the same answer.
 pub(crate) fn tell_target<T: Teller>(
     arguments: &ExploreArguments<'_>,
     source: &Source,
@@ -122,7 +123,8 @@ pub(crate) fn tell_target<T: Teller>(
     }
 }
 
-/// The note on an address at which no line begins, or no word of an image. None for any other address.
+/// Returns the note on an address at which no line begins, or no word of an image. None for any other
+/// address.
 fn note_on_place<'n>(is_image: bool, source: &Source, address: u16) -> Option<Note<'n>> {
     let wanted = usize::from(address);
     let mut nearest: Option<(usize, usize)> = None;
@@ -197,7 +199,7 @@ fn tell_words<T: Teller>(name: &str, number: usize, source: &Source, side: &Sum,
     }
 }
 
-/// The word by which properties name an item, if a source may use it as a name.
+/// Returns the word by which properties name an item, if a source may use that word as a name.
 fn word_of(item: Item) -> Option<&'static str> {
     match item {
         Item::AsksKeys => Some("KEYS"),
@@ -276,7 +278,7 @@ fn hides_property(alloc: Global, line: &LineView<'_>) -> bool {
     line.is_active() && behind.trim_ascii_start().starts_with(b";!")
 }
 
-/// Tells a note on a line of a source, or with the number 0 on the whole source.
+/// Tells a note on a line of a source, or on the whole source if the number is 0.
 fn tell_of<T: Teller>(name: &str, line: usize, note: Note<'_>, teller: &mut T) {
     teller.tell(News::Noted { name, line, note });
 }

@@ -9,7 +9,7 @@ use std::io;
 use std::io::Write;
 use std::time::{Clock, Duration, Instant};
 
-/// A message of a command beside its answers.
+/// A message of a command, apart from its answers.
 #[derive(Clone, Copy)]
 pub(crate) enum News<'n> {
     /// A file of this name was written.
@@ -22,12 +22,12 @@ pub(crate) enum News<'n> {
     NothingStated(&'n str),
     /// The time of a search is over.
     OutOfTime,
-    /// A search ended because it kept this many states. Only a reader is told.
+    /// A search ended because it kept this many states. Written only if progress is shown.
     OutOfStates(u32),
     /// A search ended because it took this many megabytes.
     OutOfMemory(u32),
-    /// A note on a line of the source of this name, or with the number 0 on the whole source. Only a reader
-    /// is told.
+    /// A note on a line of the source of this name, or on the whole source if the number is 0. Written only
+    /// if progress is shown.
     Noted {
         name: &'n str,
         line: usize,
@@ -93,7 +93,8 @@ impl Bound {
 pub(crate) trait Teller: Watcher {
     fn tell(&mut self, news: News<'_>);
 
-    /// A search begins, and this many are left with it. The search ends when its share of the time is over.
+    /// Notes that a search begins. `searches` is the number of searches left, with this one. The search ends
+    /// when its share of the time is over.
     fn begin(&mut self, searches: usize);
 }
 
@@ -110,7 +111,8 @@ pub(crate) struct Progress<'e, E, C> {
 }
 
 impl<'e, E: Write, C: Clock> Progress<'e, E, C> {
-    /// Messages, and an end of searches after this many seconds. Searches have no end if the clock can't be read.
+    /// Returns a teller whose searches end after this many seconds. Searches have no end without seconds, or
+    /// if the clock can't be read.
     pub(crate) fn new(
         errors: &'e mut E,
         is_shown: bool,
@@ -133,7 +135,8 @@ impl<'e, E: Write, C: Clock> Progress<'e, E, C> {
         }
     }
 
-    /// The time at which a search ends, if this many are left. If the clock can't be read, it has all the time.
+    /// Returns the time at which a search ends, if this many are left. If the clock can't be read, the search
+    /// may use all the time.
     fn share_of(&self, searches: usize) -> Option<Instant> {
         let end = self.end?;
         let Ok(now) = Instant::now(self.clock) else {

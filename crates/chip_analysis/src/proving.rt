@@ -1,4 +1,4 @@
-//! `prove`: what facts and searches over all key scripts answer of the properties that a source states.
+//! `prove`: answers the properties that a source states, by facts and by searches over all key scripts.
 ghost use Rattle.std.specs.Prelude.{◌≡◌, ◌⊎◌, ◌<◌, ◌&&◌, ◌||◌, [], ℕ, List, Ok, Some, None, true, IfOk, IfErr, IfSome, filter, length, slice_get, false, position, ◌==◌, ◌+◌};
 ghost use Rattle.std.specs.List.{flat_map, list_any, remove};
 ghost use Rattle.chip_explore.specs.Answers.{Answers};
@@ -45,8 +45,8 @@ use std::io::{Read, Write};
 use std::time::Clock;
 use std::{io, slice};
 
-/// `prove`: what a search answers of each property that a source states, or the faults where there is
-/// no image. Settings and keys are judged before the source is read.
+/// `prove`: answers each property that a source states, or prints the faults if there is no image. Settings
+/// and keys are judged before the source is read.
 pub fn prove<'a, F: FileAccess + Clock, I: Read, O: Write, E: Write>(
     system: &System<'_, F>,
     arguments: &ProveArguments<'a>,
@@ -70,7 +70,7 @@ pub fn prove<'a, F: FileAccess + Clock, I: Read, O: Write, E: Write>(
     prove_source(system, &asked, &bytes, output, &mut progress)
 }
 
-/// What is asked of a source.
+/// The arguments, the settings and the keys of a proof.
 #[derive(Clone, Copy)]
 struct AskedProof<'p, 'a> {
     arguments: &'p ProveArguments<'a>,
@@ -118,86 +118,86 @@ fn prove_source<'a, F: FileAccess, O: Write, T: Teller>(
     }
 }
 
-/// What properties are answered by, and how the answers are told.
+/// The data from which properties are answered, and the way in which the answers are printed.
 #[derive(Drop)]
 struct Prover<'p, 'a, F> {
     system: &'p System<'p, F>,
     arguments: &'p ProveArguments<'a>,
     source: &'p Source,
-    /// The facts about its image, where there are any.
+    /// The facts about the image of the source, if there are any.
     facts: &'p Option<Facts>,
     start: &'p Machine,
     rate: u32,
     keys: u16,
 }
 
-/// A property that isn't answered yet, without what is looked for.
+/// The line and the kind of a property that isn't answered yet.
 #[derive(Clone, Copy)]
 pub(crate) struct Head {
     line: usize,
     kind: Kind,
 }
 
-/// The properties that aren't answered yet: what each looks for stands at the place of its head.
+/// The properties that aren't answered yet. Each property is at the place of its head.
 #[derive(Drop)]
 pub(crate) struct Left {
     heads: Vec<Head>,
     properties: Vec<Property>,
 }
 
-/// What facts or a search say of some properties.
+/// The answer of facts or of a search to some properties.
 #[derive(Drop)]
 pub(crate) struct Verdict {
     outcome: Outcome,
     scope: Scope,
-    /// How many states were kept.
+    /// The number of states kept.
     states: usize,
-    /// Memory ran out.
+    /// Whether memory ran out.
     is_short: bool,
-    /// The bound at which a search ended early.
+    /// The bound at which a search ended early, if it did.
     bound: Option<Bound>,
 }
 
-/// What is answered next: the property at the place, or, with no place, all that are left.
+/// The next answer: to the property at the place or, without a place, to all that are left.
 #[derive(Drop)]
 pub(crate) struct Next {
     place: Option<usize>,
     verdict: Verdict,
-    /// How many of the properties that are then left, from the first one on, facts don't exclude.
+    /// The number of properties, from the first one that is then left, that facts are known not to exclude.
     tried: usize,
 }
 
-/// What the searches came to.
+/// The summary of the answers so far.
 #[derive(Clone, Copy)]
 pub(crate) struct Told {
-    /// How many states the search with the most kept.
+    /// The most states that a search kept.
     states: usize,
-    /// A property is broken, an `ever` isn't reached, or a `can` has a dead end.
+    /// Whether a property is broken, an `ever` isn't reached, or a `can` has a dead end.
     is_bad: bool,
-    /// Memory ran out in a search.
+    /// Whether memory ran out in a search.
     is_short: bool,
-    /// The bound at which the first search that ended early did so.
+    /// The bound of the first search that ended early, if one did.
     bound: Option<Bound>,
-    /// How many of the properties that are left, from the first one on, facts don't exclude.
+    /// The number of properties, from the first one that is left, that facts are known not to exclude.
     tried: usize,
     /// Which script was written.
     written: Written,
 }
 
-/// Which script a file has.
+/// The script that a file has.
 #[derive(Clone, Copy)]
 pub(crate) enum Written {
     Nothing,
-    /// That of an `ever`.
+    /// The script of an `ever`.
     Reached,
-    /// That of a property that is broken.
+    /// The script of a property that is broken.
     Broken,
-    /// One of a folder couldn't be written, and that was told.
+    /// A script of a folder couldn't be written, and a message said so.
     Failed,
 }
 
 impl Left {
-    /// Those of some properties that are asked for.
+    /// Returns those of the stated properties that the arguments ask for.
     fn of(alloc: Global, only: Option<u32>, stated: Vec<Stated>) -> Result<Left, AllocError>
         ensures { IfOk result (λ left. IsLeft (filter (λ one. is_asked only one.line) stated.items)
             left) }
@@ -216,22 +216,23 @@ impl Left {
         Ok(Left { heads, properties })
     }
 
-    /// How many searches are left: one for each that asks whether it can be met from everywhere, and one for all
-    /// others.
+    /// Returns how many searches are left: one for each property that asks whether it can be met from
+    /// everywhere, and one for all others.
     fn searches(&self) -> usize {
         let alone = self.heads.iter().filter(|head| is_can(head.kind)).count();
         alone.saturating_add(usize::from(alone < self.heads.len()))
     }
 
-    /// The place of the first one that asks whether it can be met from everywhere, if there is one.
+    /// Returns the place of the first property that asks whether it can be met from everywhere, if there is
+    /// one.
     fn first_can(&self) -> Option<usize>
         ensures { result ≡ position (λ head. is_can head.kind) self.now.heads.items }
     {
         self.heads.iter().position(|head| is_can(head.kind))
     }
 
-    /// The place of the first one, from a place on, that facts exclude. One that asks whether it can be met from
-    /// everywhere is left to the search.
+    /// Returns the place of the first property, from a place on, that facts exclude. A property that asks
+    /// whether it can be met from everywhere is left to the search.
     fn first_excluded(&self, facts: &Facts, from: usize) -> Option<usize>
         requires { length self.now.heads.items ≡ length self.now.properties.items }
         ensures { IfSome result (λ place. IsExcluded facts.now self.now place) }
@@ -246,7 +247,7 @@ impl Left {
         None
     }
 
-    /// Removes one, and gives its head.
+    /// Removes the property at a place, and returns its head.
     fn take(&mut self, place: usize) -> Head
         requires in_heads { place < length self.old.heads.items }
         requires in_properties { place < length self.old.properties.items }
@@ -269,7 +270,7 @@ fn is_can(kind: Kind) -> bool
     }
 }
 
-/// Whether a path names a folder, to which each script is written.
+/// Whether a path names a folder, which then gets a file for each script.
 fn is_folder(path: &str) -> bool {
     path.as_bytes().ends_with(b"/")
 }
@@ -284,21 +285,21 @@ fn is_asked(only: Option<u32>, line: usize) -> bool
     }
 }
 
-/// Whether one of some properties that can't be read is asked for.
+/// Whether one of the properties that can't be read is asked for.
 fn has_faults(only: Option<u32>, faults: &[PropertyFault]) -> bool
     ensures { result ≡ has_faults only faults.now }
 {
     faults.iter().any(|fault| is_asked(only, fault.line))
 }
 
-/// The line that the arguments name, where no property is asked for.
+/// Returns the line that the arguments name, if it states no property.
 fn missing_line(only: Option<u32>, is_empty: bool, is_faulty: bool) -> Option<u32>
     ensures { result ≡ missing_line only is_empty is_faulty }
 {
     if is_empty && !is_faulty { only } else { None }
 }
 
-/// Which of so many properties a search met, if one.
+/// Returns the place of the property that a search met, if it met one of that many.
 fn met_property(outcome: &Outcome, count: usize) -> Option<usize>
     ensures { result ≡ met_property outcome.now count }
 {
@@ -316,8 +317,8 @@ fn met_property(outcome: &Outcome, count: usize) -> Option<usize>
 }
 
 impl<'p, 'a, F: FileAccess> Prover<'p, 'a, F> {
-    /// Answers the properties of the source that are asked for, unless the arguments name a line without
-    /// one.
+    /// Answers the properties of the source that are asked for. Fails if the arguments name a line without a
+    /// property.
     fn prove<O: Write, T: Teller>(
         &self,
         output: &mut Counted<O>,
@@ -350,7 +351,8 @@ impl<'p, 'a, F: FileAccess> Prover<'p, 'a, F> {
         self.prove_left(left, &reports, is_faulty, output, teller)
     }
 
-    /// Prints these reports, answers the properties that are left, and tells how many states that took.
+    /// Prints these reports, answers the properties that are left, and prints how many facts and states that
+    /// took.
     fn prove_left<O: Write, T: Teller>(
         &self,
         left: Left,
@@ -379,7 +381,7 @@ impl<'p, 'a, F: FileAccess> Prover<'p, 'a, F> {
         self.end(ending, told.written)
     }
 
-    /// Whether the folder is there that scripts are to be written to, if one is named.
+    /// Fails if the arguments name a folder for scripts and there is no such folder.
     fn find_folder(&self) -> Result<(), Failure<'a>>
         ensures { IfErr result (IsScriptUnwritten self.now.arguments.now.search.keys_to) }
     {
@@ -392,7 +394,7 @@ impl<'p, 'a, F: FileAccess> Prover<'p, 'a, F> {
         Ok(())
     }
 
-    /// How the program ends after all answers, unless a script of a folder couldn't be written.
+    /// Returns how the program ends after all answers. Fails if a script of a folder couldn't be written.
     fn end(&self, ending: Ending, written: Written) -> Result<Ending, Failure<'a>>
         ensures ok { IfOk result (λ ended. ended ≡ ending) }
         ensures err { IfErr result (IsScriptUnwritten self.now.arguments.now.search.keys_to) }
@@ -407,7 +409,7 @@ impl<'p, 'a, F: FileAccess> Prover<'p, 'a, F> {
         }
     }
 
-    /// What is printed of the properties that can't be read.
+    /// Returns the reports on those properties that can't be read and are asked for.
     fn reports(&self, faults: &[PropertyFault]) -> Result<Vec<u8>, AllocError> {
         let arguments = self.arguments;
         let mut text = Vec::new(self.system.alloc);
@@ -430,8 +432,9 @@ impl<'p, 'a, F: FileAccess> Prover<'p, 'a, F> {
         Ok(text)
     }
 
-    /// Answers properties: at first those that facts exclude, then search by search. One that is met is told at
-    /// once, and left out of the next search. The last search answers all that are left.
+    /// Answers properties: first those that facts exclude, then the others, search by search. A property that
+    /// a search met is answered at once, and left out of the next search. The last search answers all that
+    /// are left.
     fn answer<O: Write, T: Teller>(
         &self,
         mut left: Left,
@@ -481,8 +484,9 @@ impl<'p, 'a, F: FileAccess> Prover<'p, 'a, F> {
         }
     }
 
-    /// What is answered next: each property that facts exclude, where so many aren't, then each alone that asks
-    /// whether it can be met from everywhere, then all others at once.
+    /// Finds the next answer. First comes each property that facts exclude, where the first `tried` are known
+    /// not to be excluded; then each property that asks whether it can be met from everywhere, by a search of
+    /// its own; then one search answers all others.
     fn next<T: Teller>(&self, left: &Left, tried: usize, teller: &mut T) -> Next
         requires rate { 0 < self.now.rate }
         requires fresh { self.now.start.now.core.draws ≡ 0 }
@@ -524,7 +528,7 @@ impl<'p, 'a, F: FileAccess> Prover<'p, 'a, F> {
         }
     }
 
-    /// Whether a property can be met from everywhere.
+    /// Finds out whether a property can be met from everywhere, within the bounds of the search.
     fn foresee<T: Teller>(&self, property: &Property, teller: &mut T) -> Explored
         requires rate { 0 < self.now.rate }
         requires fresh { self.now.start.now.core.draws ≡ 0 }
@@ -541,7 +545,7 @@ impl<'p, 'a, F: FileAccess> Prover<'p, 'a, F> {
         foresee(self.system.alloc, self.start, &pursuit, &bounds, teller).explored()
     }
 
-    /// What a search for these properties finds.
+    /// Searches for these properties.
     fn search<T: Teller>(&self, properties: &[Property], teller: &mut T) -> Explored
         requires rate { 0 < self.now.rate }
         requires fresh { self.now.start.now.core.draws ≡ 0 }
@@ -575,7 +579,7 @@ impl<'p, 'a, F: FileAccess> Prover<'p, 'a, F> {
         explore(self.system.alloc, self.start, &question, &bounds, teller)
     }
 
-    /// Tells a verdict of each of these properties, and whether that is bad of one.
+    /// Prints a verdict for each of these properties, and returns whether it is bad for one of them.
     fn tell<O: Write>(
         &self,
         heads: &[Head],
@@ -593,7 +597,7 @@ impl<'p, 'a, F: FileAccess> Prover<'p, 'a, F> {
         Ok(heads.iter().any(|head| is_bad(head.kind, &verdict.outcome)))
     }
 
-    /// What is printed of these properties.
+    /// Returns the text that is printed for these properties.
     fn answers_text(&self, heads: &[Head], verdict: &Verdict) -> Result<Vec<u8>, AllocError>
         ensures { IfOk result (λ text. text.items ≡ flat_map
             (printed_head self.now.arguments.now self.now.source.now.lines verdict.now) heads.now) }
@@ -616,7 +620,7 @@ impl<'p, 'a, F: FileAccess> Prover<'p, 'a, F> {
         Ok(text)
     }
 
-    /// The text of the property of a line.
+    /// Returns the text of the property in a line. The text is empty if the line has none.
     fn text_at(&self, line: usize) -> &'p [u8]
         ensures { result.now ≡ text_at self.now.source.now.lines line }
     {
@@ -626,9 +630,10 @@ impl<'p, 'a, F: FileAccess> Prover<'p, 'a, F> {
         }
     }
 
-    /// Writes the key events of a script that was found, where they are asked for: to a file of the line
-    /// where a folder is named, and else of the first property that is broken, or the first that is
-    /// reached where none is. Which script the file then has.
+    /// Writes the key events of a script that was found, if they are asked for. If a folder is named, the
+    /// script goes to a file of that folder, named by the line. Otherwise the file has the script of the
+    /// first property that is broken or, if none is, of the first that is reached. Returns which script the
+    /// file then has.
     fn write_keys<T: Teller>(
         &self,
         head: Head,
@@ -664,8 +669,8 @@ impl<'p, 'a, F: FileAccess> Prover<'p, 'a, F> {
         Ok(written)
     }
 
-    /// Writes a file of a folder atomically. Where that fails, who reads the answers is told, and has the others
-    /// too. Which script is then written.
+    /// Writes a file of a folder atomically. If that fails, a message says so, and the other answers still
+    /// follow. Returns which script is then written.
     fn write_in_folder<T: Teller>(
         &self,
         name: &str,
@@ -688,14 +693,14 @@ impl<'p, 'a, F: FileAccess> Prover<'p, 'a, F> {
         }
     }
 
-    /// The names of files that no script is written to.
+    /// Returns the names of files to which no script is written.
     fn taken(&self) -> [Option<&'a str>; 1] {
         let arguments = self.arguments;
         [Some(file_name(arguments.search.source))]
     }
 
-    /// What is printed last: how many facts were found, unless no property was asked for, and how many states
-    /// the searches kept.
+    /// Returns the text that is printed last: how many facts were found, unless no property was asked for,
+    /// and the most states that a search kept.
     fn end_text(&self, told: &Told, is_empty: bool) -> Result<Vec<u8>, AllocError> {
         let mut text = Vec::new(self.system.alloc);
         let arguments = self.arguments;
@@ -739,7 +744,7 @@ impl<'p, 'a, F: FileAccess> Prover<'p, 'a, F> {
 }
 
 impl Verdict {
-    /// The verdict of facts that exclude what is looked for.
+    /// Returns the verdict of facts that exclude a property.
     fn excluded() -> Verdict
         ensures outcome { result.outcome ≡ Never }
         ensures scope { result.scope ≡ Anything }
@@ -753,7 +758,8 @@ impl Verdict {
         }
     }
 
-    /// The verdict of a search with these arguments, where an answer at any speed may be asked for.
+    /// Returns the verdict of a search with these arguments. `is_any_speed` is whether an answer at any speed
+    /// is asked for.
     fn of(explored: Explored, arguments: &SearchArguments<'_>, is_any_speed: bool) -> Verdict
         ensures outcome { result.outcome ≡ explored.outcome }
         ensures scope { result.scope ≡ searched_scope (is_any_speed && explored.is_at_any_speed) }
@@ -775,7 +781,7 @@ impl Verdict {
 }
 
 impl Told {
-    /// Before the first search.
+    /// The summary before the first answer.
     const NOTHING: Told = Told {
         states: 0,
         is_bad: false,
@@ -785,7 +791,7 @@ impl Told {
         written: Written::Nothing,
     };
 
-    /// How the program ends after the answers.
+    /// Returns how the program ends after the answers. `is_faulty` is whether a property can't be read.
     fn ending(&self, is_faulty: bool) -> Ending
         ensures { result ≡ proof_ending self.now.is_short (is_faulty || self.now.is_bad) }
     {

@@ -10,19 +10,19 @@ struct Range {
     most: u64,
 }
 
-/// What shows that a comparison always has the same answer.
+/// The bounds that show that a comparison always has the same answer.
 #[derive(Clone, Copy)]
 pub(crate) struct Fixed {
     /// Whether the left side is the one that is never greater.
     is_left_less: bool,
-    /// What that side is at most.
+    /// The upper bound of that side.
     pub(crate) most: u64,
-    /// What the other side is at least.
+    /// The lower bound of the other side.
     pub(crate) least: u64,
 }
 
 impl Fixed {
-    /// The side that is never greater, and the other one.
+    /// Returns the names of the sides: first the side that is never greater.
     pub(crate) fn sides(self) -> (&'static str, &'static str) {
         if self.is_left_less {
             ("left", "right")
@@ -32,11 +32,12 @@ impl Fixed {
     }
 }
 
-/// What shows of a comparison that no state changes its answer, if that follows from the values that its
-/// sides may have.
+/// Returns the bounds that show that a comparison has the same answer in every state. None if the ranges of
+/// its sides don't decide that.
 pub(crate) fn never_changes(comparison: &Comparison) -> Option<Fixed> {
     let (left, right) = (range_of(&comparison.left), range_of(&comparison.right));
-    // Where one side may equal the other, that decides no relation but these.
+    // If the greatest value of one side equals the least value of the other, only these relations are
+    // decided.
     let (is_left_closed, is_right_closed) = match comparison.relation {
         Relation::Equal | Relation::Unequal => (false, false),
         Relation::LessOrEqual | Relation::Greater => (true, false),
@@ -59,7 +60,7 @@ pub(crate) fn never_changes(comparison: &Comparison) -> Option<Fixed> {
     }
 }
 
-/// The values that a sum may have.
+/// Returns the least and the greatest value of a sum.
 fn range_of(sum: &Sum) -> Range {
     let least = u64::from(sum.constant);
     let mut most = least;
@@ -70,7 +71,7 @@ fn range_of(sum: &Sum) -> Range {
     Range { least, most }
 }
 
-/// The greatest value that what a property may name has.
+/// Returns the greatest value of an item that a property may name.
 fn most_of(item: Item) -> u64 {
     match item {
         Item::Register(_) | Item::Delay | Item::Byte(_) => 255,

@@ -12,7 +12,7 @@ use memchr::memchr;
 /// All sixteen keys.
 pub(crate) const ALL_KEYS: u16 = 0xffff;
 
-// What the parts of a list stand for.
+// The kind of things that the parts of a list name.
 #[derive(Clone, Copy)]
 enum Item {
     Cause,
@@ -21,7 +21,7 @@ enum Item {
 }
 
 impl Item {
-    // The number of a stop cause, Sk, of a key, or of a warning: k for Wk, and 9 + k for Pk.
+    // Returns the number of a stop cause (k for Sk), of a key, or of a warning (k for Wk, and 9 + k for Pk).
     fn number(self, part: &[u8]) -> Option<u32>
         ensures { result ≡ number_by self part.now }
     {
@@ -38,7 +38,7 @@ impl Item {
     }
 }
 
-// The part before the first comma, and what follows the comma.
+// Returns the part before the first comma, and the text after the comma, if there is one.
 fn first_part(text: &[u8]) -> (&[u8], Option<&[u8]>)
     ensures { IsFirstPart text.now result.0.now (option_copied result.1) }
 {
@@ -48,7 +48,7 @@ fn first_part(text: &[u8]) -> (&[u8], Option<&[u8]>)
     }
 }
 
-// A set with one number more, where both are there.
+// Returns a set with one more number. None if the set or the number is missing.
 fn with_number(set: Option<u16>, number: Option<u32>) -> Option<u16>
     requires { IfSome number (λ k. k < 16) }
     ensures { result ≡ with_number set number }
@@ -59,7 +59,7 @@ fn with_number(set: Option<u16>, number: Option<u32>) -> Option<u16>
     }
 }
 
-// The set of the numbers of a text's parts, each k at bit k.
+// Returns the set of the numbers of a text's parts, each k at bit k. None if a part has no number.
 fn set_of(item: Item, text: &[u8]) -> Option<u16>
     ensures { IsSet (number_by item) text.now result }
 {
@@ -84,8 +84,8 @@ pub(crate) struct Sets {
     pub(crate) keys: u16,
 }
 
-/// The sets that the arguments ask for. Where a place or a property is looked for, no stop is unless they
-/// name some.
+/// Returns the sets that the arguments ask for. If a place or a property is looked for, no stop is looked for
+/// unless the arguments name some.
 pub(crate) fn sets_of<'a>(arguments: &ExploreArguments<'a>) -> Result<Sets, Failure<'a>>
     ensures ok { IfOk result (λ sets. AsksCauses arguments.entry.now (Some sets.causes)
         × AsksKeys arguments.entry.now (Some sets.keys)) }
@@ -110,7 +110,7 @@ pub(crate) fn sets_of<'a>(arguments: &ExploreArguments<'a>) -> Result<Sets, Fail
     }
 }
 
-/// The keys that a player has, key k at bit k: all sixteen without an argument.
+/// Returns the keys that a player has, key k at bit k: all sixteen without an argument.
 pub(crate) fn keys_of<'a>(text: Option<&'a str>) -> Result<u16, Failure<'a>>
     ensures ok { IfOk result (λ set. AsksSet key_named usual_keys (option_copied text.entry)
         (Some set)) }
@@ -126,7 +126,7 @@ pub(crate) fn keys_of<'a>(text: Option<&'a str>) -> Result<u16, Failure<'a>>
     }
 }
 
-/// The warnings that an argument names, Wk at bit k and Pk at bit 9 + k: none without one.
+/// Returns the warnings that an argument names, Wk at bit k and Pk at bit 9 + k: none without an argument.
 pub(crate) fn warnings_of<'a>(text: Option<&'a str>) -> Result<u16, Failure<'a>>
     ensures ok { IfOk result (λ set. AsksSet warning_named 0 (option_copied text.entry)
         (Some set)) }

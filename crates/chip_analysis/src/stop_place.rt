@@ -1,4 +1,4 @@
-//! Where in a source or in an image a search found what it looked for.
+//! The place in a source or in an image at which a search found what it looked for.
 ghost use Rattle.std.specs.Prelude.{◌<◌};
 
 use chip_asm::{LineView, Source};
@@ -9,9 +9,9 @@ use chip_replay::KEYS;
 use chip_trace::{push_decimal, word_digits};
 use std::alloc::{AllocError, Global};
 
-/// What is printed after the step at which a machine stopped or broke a property: a comma, and the
-/// line of the source at whose address pc is, with its text. Where there is no such line, the address and the
-/// word, as for an image.
+/// Returns the text after the step at which a machine stopped or broke a property: a comma, and the number
+/// and the statement of the source's line at pc. If no line begins there, the text has the address and the
+/// word instead, as for an image. The text is empty if the search met an address or nothing.
 pub(crate) fn place_text(
     alloc: Global,
     source: &Source,
@@ -31,8 +31,8 @@ pub(crate) fn place_text(
     Ok(line)
 }
 
-/// A comma, and the number and the statement of the source's line at an address. The text is empty if there is no such
-/// line.
+/// Returns a comma, and the number and the statement of the source's line at an address. The text is empty if
+/// no line begins there.
 ///
 /// # Errors
 ///
@@ -55,8 +55,8 @@ pub fn line_text(alloc: Global, source: &Source, address: u16) -> Result<Vec<u8>
     Ok(text)
 }
 
-/// What is printed after that step where an image was searched: a comma, the value of pc, and the
-/// source text of the word there, if a whole one is.
+/// Returns the text after that step for the search of an image: a comma, the value of pc, and the source text
+/// of the word there, if a whole word is in the memory.
 pub(crate) fn word_text(
     alloc: Global,
     start: &Machine,
@@ -71,7 +71,8 @@ pub(crate) fn word_text(
     }
 }
 
-/// A colon, and the source text of the word at an address before the first step, if a whole one is there.
+/// Returns a colon and the source text of the word at an address before the first step. The text is empty if
+/// no whole word is there.
 pub(crate) fn first_word_text(
     alloc: Global,
     start: &Machine,
@@ -91,17 +92,17 @@ fn push_word(text: &mut Vec<u8>, word: Option<u16>) -> Result<(), AllocError> {
     Ok(())
 }
 
-// Where a machine is.
+// The place of a machine.
 #[derive(Clone, Copy)]
 struct Place {
     // The value of pc.
     address: u16,
-    // The word there, which the end of the memory may cut off.
+    // The word there. None if the end of the memory cuts it off.
     word: Option<u16>,
 }
 
 impl Place {
-    // A comma, the address, and the source text of the word there, if there is a whole one.
+    // Returns a comma, the address, and the source text of the word there, if a whole word is there.
     fn text(&self, alloc: Global) -> Result<Vec<u8>, AllocError> {
         let mut text = Vec::from_slice(alloc, b", ")?;
         text.extend_from_slice(&word_digits(self.address))?;
@@ -110,7 +111,8 @@ impl Place {
     }
 }
 
-// Where a machine stopped or broke a property. An address that was looked for is no news.
+// Returns the place at which a machine stopped or broke a property. None for an address that was looked for,
+// because the arguments already name it.
 fn place_met(start: &Machine, rate: u32, outcome: &Outcome) -> Result<Option<Place>, AllocError>
     requires rate { 0 < rate }
 {
@@ -130,7 +132,7 @@ fn place_met(start: &Machine, rate: u32, outcome: &Outcome) -> Result<Option<Pla
     }
 }
 
-// The place of a machine at a step, under key events in the order of their steps. A replay takes fewer events than a
+// Returns the place of a machine at a step, under key events in the order of their steps. A replay takes fewer events than a
 // search may find.
 fn place_at(start: &Machine, rate: u32, events: &[KeyEvent], step: u32) -> Result<Place, AllocError>
     requires rate { 0 < rate }
@@ -165,7 +167,7 @@ fn down_after(down: u16, event: &KeyEvent) -> u16 {
     if event.down { down | key } else { down & !key }
 }
 
-// The word at an address, if both its bytes are in the memory.
+// Returns the word at an address, if both its bytes are in the memory.
 fn word_at(memory: &[u8], address: u16) -> Option<u16> {
     let at = usize::from(address);
     if at + 1 < memory.len() {
@@ -175,7 +177,8 @@ fn word_at(memory: &[u8], address: u16) -> Option<u16> {
     }
 }
 
-// The text of a line's statement, from its first token behind a label to its last, which no comment is.
+// Returns the text of a line's statement, from its first token after a label to its last. No comment is a
+// token.
 fn statement_of<'a>(alloc: Global, line: &LineView<'a>) -> Result<&'a [u8], AllocError> {
     let tokens = line.tokens(alloc)?;
     let start = match (tokens.get(1), tokens.get(2)) {

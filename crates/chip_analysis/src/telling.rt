@@ -48,7 +48,7 @@ pub fn tell_end<E: Write>(name: &str, source: &Source, errors: &mut E) {
     }
 }
 
-// The first line with a fault, and how many lines have one.
+// Returns the first line with a fault, and how many lines have one.
 fn faulty_lines(source: &Source) -> (Option<usize>, usize) {
     let mut first = None;
     let mut count = 0_usize;

@@ -1,9 +1,9 @@
--- What `check --cover` takes as executed (own).
---     covered_step    the step up to which a search tells what is executed, or none where it tells so
---                     of all steps
+-- The addresses that `check --cover` takes as executed (chosen by this project).
+--     covered_step    the step up to which a search knows what is executed, or none if it knows that for
+--                     all steps
 --     IsCoverage      under no key script is a step made at another address than these, up to a step,
 --                     or at any step below the end
---     IsCovered       that of a source's machine, where it is asked for and the source has an image
+--     IsCovered       the coverage of a source's machine, if it is asked for and the source has an image
 use Rattle.std.specs.Prelude.{◌≡◌, ℕ, ◌<◌, ◌-◌, Bool, true, false, List, Option, Some, None}
 use Rattle.chip_explore.specs.Executed.{StaysAmong}
 use Rattle.chip_explore.specs.declared.limits.TheConstants.{END}
@@ -26,8 +26,8 @@ IsCoverage rate keys executed start (Some n) = StaysAmong rate keys executed sta
 IsCoverage rate keys executed start None =
     (n : ℕ) → n < END → StaysAmong rate keys executed start n
 
--- what `check` takes as executed: nothing, unless it is asked for and there is an image; then that of
--- its machine under these settings, for all keys
+-- the coverage that `check` takes: nothing, unless it is asked for and there is an image; otherwise what the
+-- image's machine executes under these settings, for all keys
 abbrev pub IsCovered : (is_covering : Bool) → SessionSettings → (image : Option (List ℕ)) → Option Covered
     → Type 0
 IsCovered true settings (Some image) (Some covered) =

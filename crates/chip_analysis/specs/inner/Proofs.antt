@@ -1,17 +1,17 @@
--- What private contracts of `prove` say (own).
+-- Definitions for the private contracts of `prove` (chosen by this project).
 --     head_of, IsLeft   the properties that aren't answered yet, as the code has them
 --     is_can            whether a property asks whether it can be met from everywhere
---     missing_line      the line that the arguments name, where no property is asked for
---     met_property      which of so many properties a search met
+--     missing_line      the line that the arguments name, if no property is asked for
+--     met_property      which of that many properties a search met
 --     IsUnmet           a search met nothing
 --     searched_scope    the machines that the answer of a search covers
 --     AreFactsFrom      facts about the machines with the image and the quirks of this one
 --     IsExcluded        facts exclude the property at a place
---     IsNext            what is answered next is right: of the property at the place, or of all
---     WritesAll         a text was written; a front of it where a write failed or memory ran out
---     WritesUpTo        the same, where something else may have hindered the rest
+--     IsNext            the next answer is right: for the property at the place, or for all
+--     WritesAll         a text was written, or a front of it if a write failed or memory ran out
+--     WritesUpTo        the same, but something else may have hindered the rest
 --     printed_head      what is printed of a property
---     IsAnswering       what the answers to some properties came to
+--     IsAnswering       the result of answering some properties
 use Rattle.std.specs.Prelude.{◌≡◌, ◌⊎◌, ℕ, ◌<◌, ◌||◌, Bool, true, false, List, [], length, map, nat_lt, Option, Some, None, MatchOption, Result, Ok, Err, IfOk, IfSome, IsErrAnd, slice_get, if◌then◌else◌}
 use Rattle.std.specs.List.{flat_map}
 use Rattle.chip_arguments.specs.declared.command_line.ProveArguments.{ProveArguments}
@@ -66,7 +66,7 @@ met_property (Later events step met covered) count = property_met met count
 met_property (Within n) count = None
 met_property Never count = None
 
--- the line that the arguments name, where no property is asked for
+-- the line that the arguments name, if no property is asked for
 abbrev pub missing_line : (only : Option ℕ) → (is_empty is_faulty : Bool) → Option ℕ
 missing_line only true false = only
 missing_line only is_empty is_faulty = None
@@ -76,20 +76,20 @@ IsUnmet (Within n) = Unit {0}
 IsUnmet Never = Unit {0}
 IsUnmet outcome = ⊥
 
--- what is printed of the property of a head
+-- the output for the property with a head
 abbrev pub printed_head : ProveArguments → (lines : List (List ℕ)) → Verdict → Head → List ℕ
 printed_head arguments lines verdict head =
     answer_text arguments.is_json arguments.search.source.now head.line (text_at lines head.line)
     head.kind verdict.scope verdict.outcome
 
--- the same is printed of two outcomes, of a property of any kind
+-- two outcomes print the same, for a property of any kind
 pub record IsSameAnswer (a b : Outcome) : Type 0 where
   pub text : (is_json : Bool) (name : List ℕ) (line : ℕ) (text : List ℕ) (kind : Kind) (scope : Scope)
       → answer_text is_json name line text kind scope a
       ≡ answer_text is_json name line text kind scope b
   pub bad : (kind : Kind) → is_bad kind a ≡ is_bad kind b
 
--- a property with an outcome, where a verdict has such a scope
+-- a property with an outcome, and with the scope of a verdict
 abbrev pub answered : Verdict → Stated → Outcome → Answered
 answered verdict one outcome = record {
   stated = one;
@@ -98,7 +98,7 @@ answered verdict one outcome = record {
   is_short = verdict.is_short;
 }
 
--- what a verdict of several properties answers of one
+-- the answer of a verdict on several properties to one of them
 pub record IsAnswered (rate keys : ℕ) (start : State) (verdict : Verdict) (one : Stated) : Type 0 where
   pub outcome : Outcome
   pub right : IsRight rate keys start (answered verdict one outcome)
@@ -124,7 +124,7 @@ pub record AreFactsFrom (start : State) (facts : Facts) : Type 0 where
   pub bytes : IsByteTape tape
   pub hold : HoldFacts image quirks facts
 
--- it doesn't ask whether it can be met from everywhere
+-- Facts exclude the property at a place, which doesn't ask whether it can be met from everywhere.
 pub record IsExcluded (facts : Facts) (left : Left) (place : ℕ) : Type 0 where
   pub within : place < length left.heads.items
   pub plain : IfSome (slice_get left.heads.items place) (λ head. is_can head.kind ≡ false)

@@ -1,4 +1,4 @@
--- What private contracts of the sets that arguments ask for say (own).
+-- Definitions for the private contracts of the sets that arguments ask for (chosen by this project).
 use Rattle.std.specs.Prelude.{◌≡◌, ◌⊎◌, ℕ, List, Option, None}
 use Rattle.chip_arguments.specs.declared.command_line.ExploreArguments.{ExploreArguments}
 use Rattle.chip_analysis.specs.Commands.{IsBadSet}
@@ -7,13 +7,13 @@ use Rattle.chip_host.specs.declared.ending.Failure.{Failure}
 use Rattle.chip_analysis.specs.declared.sets.Item.{Item}
 use Rattle.chip_analysis.specs.declared.sets.Item.TheVariants.{Cause, Key, Warning}
 
--- the number of a part of a list
+-- the number that a part of a list names
 abbrev pub number_by : Item → List ℕ → Option ℕ
 number_by Cause = cause_named
 number_by Key = key_named
 number_by Warning = warning_named
 
--- one of the sets that the arguments ask for is none
+-- one of the sets that the arguments ask for can't be read
 pub record IsBadSets (arguments : ExploreArguments) (why : Failure) : Type 0 where
   pub bad : IsBadSet why
   pub causes : Option ℕ

@@ -1,5 +1,5 @@
--- The file of `explore --keys-to`, where a script was found; `wrote` says of bytes that a file took them:
--- nothing says so but a write that went well (own).
+-- The file of `explore --keys-to`, if a script was found (chosen by this project). `wrote` says that a file
+-- took these bytes, and only a write that succeeded establishes it.
 use Rattle.std.specs.Prelude.{List, ℕ, Option, Some, None}
 use Rattle.std.specs.Borrow.{Bor}
 use Rattle.chip_explore.specs.declared.question.Outcome.{Outcome as SearchOutcome}
@@ -10,7 +10,7 @@ abbrev pub IsNamedWritten : (wrote : List ℕ → List ℕ → Type 0) → Optio
 IsNamedWritten wrote None = Unit {0}
 IsNamedWritten wrote (Some name) = IsSomeWritten (wrote name.now)
 
--- whatever was found; without a script there is nothing to write
+-- the script of any outcome is written; an outcome without a script has nothing to write
 abbrev pub IsScriptWritten : (wrote : List ℕ → List ℕ → Type 0) → SearchOutcome
     → Option (Bor (List ℕ)) → Type 0
 IsScriptWritten wrote (Found events step met) name = IsNamedWritten wrote name
