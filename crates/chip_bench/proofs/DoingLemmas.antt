@@ -64,7 +64,7 @@ module _ {R W : Type 0} (remaining : R → Option (List ℕ)) (contents : W → 
       by_asked (Some settings) (inr b) = absurd (let n : Some settings ≡ None = b.1 in cc)
   debugs_unsettled (Some name) is_image arguments ended why e u = unsettles remaining input input (output ≡ output) refl (settings_asked arguments) _ ended why e refl u
 
-  -- it is an image that is refused
+  -- the file is an image that is refused
   pub debugs_refused : (source : Option (Bor (List ℕ))) (is_image : Bool) (name : Bor (List ℕ)) (arguments : SettingArguments) (settings : SessionSettings)
       (bytes : List ℕ) (ended : Outcome) (why : Failure) → ended ≡ Err why → source ≡ Some name → settings_asked arguments ≡ Some settings →
       IsNotTaken is_image name bytes why → Debugs remaining contents input input output output source is_image arguments ended
@@ -155,7 +155,7 @@ module _ {R W : Type 0} (remaining : R → Option (List ℕ)) (contents : W → 
       Pictures remaining contents in_old in_new old new arguments ended
   pictures asked is did = asked_then remaining in_old in_new (new ≡ old) arguments.run WithPicture ended asked is did
 
-  -- they couldn't be
+  -- a picture's arguments couldn't be read
   pub pictures_not : (why : Failure) → new ≡ old → ended ≡ Err why → IsUnasked remaining in_old in_new arguments.run why →
       Pictures remaining contents in_old in_new old new arguments ended
   pictures_not why same e is = asked_not remaining in_old in_new (new ≡ old) arguments.run WithPicture ended same why e is

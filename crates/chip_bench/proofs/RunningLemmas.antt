@@ -1,4 +1,4 @@
--- A session that memory ran out of before it began.
+-- A session for which memory ran out before it began.
 use Rattle.std.proofs.Common.{◌≡◌, ℕ, List, [], Option, Some, None, Err, refl, sym, ap}
 use Rattle.std.proofs.lemmas.List.{append-nil}
 use Rattle.chip_asm.specs.Lines.{open_fault}

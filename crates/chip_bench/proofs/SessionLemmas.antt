@@ -49,7 +49,7 @@ module _ {W : Type 0} (contents : W → Option (List ℕ)) (old new : Tally W) w
         by_line fault (failure.BadKeys name number code) e is = rw (is, e) (refl, same)
         by_line fault _ e is = absurd is
 
-  -- a source that doesn't open isn't done with
+  -- nothing is done with a source that doesn't open
   pub not_done : (e : OpenError) (ended : Outcome) → Refuses contents old new e ended → ended ≡ Ok Done → ⊥
   not_done (unopened.LineTooLong n) ended r done = let printed = rw done at r in other printed.0
     where
@@ -91,7 +91,7 @@ session_is settings source keys file opened under opens is same made later = rec
   is = rw (is, same) at later;
 }
 
--- or one of their lines is refused
+-- a line of a key file is refused
 pub unmade_is : (settings : SessionSettings) (source keys file : List ℕ) (opened : Session) (line : ℕ × List ℕ) → open_fault source ≡ None →
     opened ≡ session_of settings source → file ≡ keys → key_fault opened file ≡ Some line →
     (open_fault source ≡ None) × (key_fault (session_of settings source) keys ≡ Some line)
@@ -105,7 +105,7 @@ told_why answer why result faults (inl is) told short = rw is told
 told_why answer why (Ok given) faults (inr m) told short = absurd (false_is_true (short m.0))
 told_why answer why (Err e) faults (inr m) told short = tt
 
--- the first of two questions isn't
+-- the first of two questions isn't answered
 pub told_first : {E : Type 0} (first second : Result (List ℕ) Refusal) (why : Refusal) (result : Result Answer E) (faults : Printed) → IsUnanswered first why →
     IfOk result (λ given. printed_by given ≡ unanswered why faults) → (why ≡ AnswerMemory → IsErr result) →
     IfOk result (λ given. printed_by given ≡ answer_or_why (both_answers first second) faults)
@@ -113,7 +113,7 @@ told_first first second why result faults (inl is) told short = rw is told
 told_first first second why (Ok given) faults (inr m) told short = absurd (false_is_true (short m.0))
 told_first first second why (Err e) faults (inr m) told short = tt
 
--- the second isn't
+-- the second of two questions isn't answered
 pub told_second : {E : Type 0} (first second : Result (List ℕ) Refusal) (P : List ℕ → Type 0) (why : Refusal) (result : Result Answer E) (faults : Printed) →
     IsOkAnd first P → IsUnanswered second why → IfOk result (λ given. printed_by given ≡ unanswered why faults) → (why ≡ AnswerMemory → IsErr result) →
     IfOk result (λ given. printed_by given ≡ answer_or_why (both_answers first second) faults)

@@ -55,7 +55,7 @@ none_left all most more ended answer =
       | inr le ↦ drop_all most all le
     ]
 
--- fewer remain
+-- fewer lines remain
 pub fewer_left : (all after : List (List ℕ)) (most : ℕ) (more : Bool) → more ≡ true → 0 < most → IsTrue more ↔ (most < length all) → after ≡ drop most all → length after < length all
 fewer_left all after most more going some answer left =
     let lt : most < length all = answer.0 going in

@@ -1,4 +1,4 @@
--- What `list`, `syms`, `run` and `picture` print, and what was done with a session (own).
+-- The output of `list`, `syms`, `run` and `picture`, and the effects of a session (chosen by this project).
 use Rattle.std.specs.Prelude.{◌≡◌, ◌⊎◌, ℕ, Bool, true, false, List, ◌++◌, Option, Some, None, Result, Ok, Err}
 use Rattle.chip_asm.specs.Lines.{open_fault}
 use Rattle.chip_asm.specs.Program.{image_of, symbols_of}
@@ -25,8 +25,8 @@ use Rattle.chip_session.specs.declared.refusal.Refusal.{Refusal}
 use Rattle.chip_session.specs.declared.refusal.Refusal.TheVariants.{NoImage}
 use Rattle.chip_host.specs.Printing.{Printed, printed, printed_faults, ending_with, IfOpens}
 
--- `list` and `syms`, with values in decimal or in hexadecimal: a source without an image has faults
--- in the place of its names
+-- `list` and `syms`, with values in decimal or in hexadecimal; if the source has no image, `syms` prints the
+-- faults instead of the names
 abbrev pub table_with : Option (List ℕ) → Table → (is_hex : Bool) → List (List ℕ) → Printed
 table_with image Listing false lines = printed (listing_text (listing_of lines)) (ending_with image)
 table_with image Listing true lines = printed (listing_text (hex_listing lines)) (ending_with image)
@@ -38,7 +38,7 @@ table_with None Symbols is_hex lines = printed_faults lines
 abbrev pub printed_table : Table → (is_hex : Bool) → List (List ℕ) → Printed
 printed_table table is_hex lines = table_with (image_of lines) table is_hex lines
 
--- a question that isn't answered: the faults where there is no image, else the refusal's code
+-- the output for a refused question: the faults if there is no image, otherwise the code of the refusal
 abbrev pub unanswered : Refusal → Printed → Printed
 unanswered NoImage faults = faults
 unanswered why faults = printed (refused (refusal_code why)) Faulty
@@ -65,8 +65,8 @@ printed_picture session step form =
     answer_or_why (picture_asked session form step) (printed_faults session.lines)
 
 module _ {W : Type 0} (contents : W → Option (List ℕ)) (old new : Tally W) where
-  -- key events that can all be made, or their first refused line: then nothing was printed, and the
-  -- failure has its number and the code
+  -- The effects of a command if all key events can be made. Otherwise nothing was printed, and the failure
+  -- has the number of the first refused line and the code.
   abbrev pub UnlessRefused : Option (ℕ × List ℕ) → (Did : Result Ending Failure → Type 0)
       → Result Ending Failure → Type 0
   UnlessRefused None Did result = Did result
@@ -74,9 +74,9 @@ module _ {W : Type 0} (contents : W → Option (List ℕ)) (old new : Tally W) w
       (line ≡ (number, code.0.now)) × (new ≡ old)
   UnlessRefused (Some line) Did _ = ⊥
 
-  -- What a command did with the session of a source and those settings, under the key events of a
-  -- file. It says why the source doesn't open, or names the first refused line of the key file, or
-  -- memory ran out before.
+  -- The effects of a command with the session of a source and those settings, under the key events of a file.
+  -- If the source doesn't open, it prints why; if a line of the key file is refused, it names the first such
+  -- line; or memory ran out before.
   abbrev pub WithSession : SessionSettings → (source keys : List ℕ)
       → (Session → Result Ending Failure → Type 0) → Result Ending Failure → Type 0
   WithSession settings source keys Did result =

@@ -1,4 +1,4 @@
--- What `test` finds of files of cases (own).
+-- The findings of `test` in files of cases (chosen by this project).
 --     Passes, CasePasses     each answer of a case's session is as expected
 --     SetBy, IsCaseSource, IsCaseKeys     what the lines of a case ask for
 --     Judges                 a case, the cases of a file and those of all files, and whether all pass
@@ -34,15 +34,15 @@ use Rattle.chip_host.specs.declared.ending.Ending.TheVariants.{Done, Faulty}
 use Rattle.chip_host.specs.declared.ending.Failure.{Failure}
 use Rattle.chip_host.specs.declared.limits.TheConstants.{KEY_FILE_BYTES, TEST_FILE_BYTES}
 
--- the answer of the session to each of these commands, one after another, is as expected
+-- the answers of the session to these commands, one after another, are as expected
 abbrev pub Passes : Session → List Expectation → Type 0
 Passes session [] = Unit {0}
 Passes session (step ∷ steps) =
     IsAnswered step.expected (reply session step.command)
     × Passes (after session step.command) steps
 
--- A case passes where its source opens, its key events can all be made, and each answer of its
--- session under them is as expected.
+-- A case passes if its source opens, all its key events can be made, and each answer of its session under
+-- them is as expected.
 pub record CasePasses (settings : SessionSettings) (source keys : List ℕ)
     (steps : List Expectation) : Type 0 where
   pub opens : open_fault source ≡ None
@@ -55,7 +55,7 @@ has_passed (verdict.Unopened fault) = false
 has_passed (verdict.BadKeys number code) = false
 has_passed (verdict.Answered others) = length others.items == 0
 
--- what a line of a case says, if there is one
+-- the text of a line of a case, if there is one
 abbrev pub text_of : Option Placed → Option (List ℕ)
 text_of None = None
 text_of (Some placed) = Some placed.text.now
@@ -68,20 +68,20 @@ pub record SetBy (setup : Setup) (arguments : SettingArguments) : Type 0 where
   pub quirks : quirks_asked (text_of setup.profile) (text_of setup.quirks) ≡ Some arguments.quirks
   pub spacing : ReadsOr 32 (text_of setup.every) LEAST_SPACING arguments.spacing
 
--- what `dis` prints of some image, of whose bytes no contract speaks
+-- the source that `dis` prints of some image; no contract describes the bytes of that image
 abbrev pub IsSourceOfImage : List ℕ → Type 0
 IsSourceOfImage source =
     (image : List ℕ) × ((length image ≤ IMAGE_BYTES) × (source ≡ source_of_image image))
 
--- the source of a case: nothing, its lines, the bytes of a file, of which no contract speaks, or
--- what `dis` prints of an image
+-- the source of a case: nothing, its lines, the bytes of a file, which no contract describes, or what `dis`
+-- prints of an image
 abbrev pub IsCaseSource : CaseSource → List ℕ → Type 0
 IsCaseSource case_source.Empty source = source ≡ []
 IsCaseSource (case_source.Lines lines) source = source ≡ lines.now
 IsCaseSource (case_source.File name) source = Unit {0}
 IsCaseSource (case_source.Image name) source = IsSourceOfImage source
 
--- its key events: none, or those of a file that isn't too long
+-- the key events of a case: none, or those of a file that isn't too long
 abbrev pub IsCaseKeys : Option Placed → List ℕ → Type 0
 IsCaseKeys None keys = keys ≡ []
 IsCaseKeys (Some name) keys = length keys ≤ KEY_FILE_BYTES
@@ -99,25 +99,25 @@ pub record JudgesCase (case : Case) (passes : Bool) : Type 0 where
   pub judged : IsTrue passes
       ↔ CasePasses settings source keys (map expectation_of case.steps.items)
 
--- whether all of these pass, where `Judges` says it of one
+-- whether all of these pass, where `Judges` says whether one does
 abbrev pub JudgesAll : {A : Type 0} → (A → Bool → Type 0) → List A → Bool → Type 0
 JudgesAll Judges [] passes = passes ≡ true
 JudgesAll Judges (x ∷ xs) passes =
     (one : Bool) × ((others : Bool)
     × Judges x one × JudgesAll Judges xs others × (passes ≡ (one && others)))
 
--- the cases of a file, of whose bytes no contract says more than how many they are at most
+-- whether the cases of a file pass; of the file's bytes, contracts say only how many there are at most
 abbrev pub JudgesFile : Bor (List ℕ) → Bool → Type 0
 JudgesFile name passes =
     (text : List ℕ) × ((cases : List Case) × (length text ≤ TEST_FILE_BYTES)
     × AreCases text cases × JudgesAll JudgesCase cases passes)
 
--- what hinders a test: a file that can't be read or written, one that isn't of cases, an output
--- that fails, or that memory ran out
+-- the failures that hinder a test: a file that can't be read or written, a file that isn't one of cases, an
+-- output that fails, or memory that ran out
 abbrev pub IsHindrance : Failure → Type 0
 IsHindrance why = (failure_status why ≡ 3) ⊎ (failure_status why ≡ 4)
 
--- `test`: the status is 0 where all cases of all files pass, and 1 where one doesn't
+-- `test`: the status is 0 if all cases of all files pass, and 1 if one doesn't
 abbrev pub Tests : TestArguments → Result Ending Failure → Type 0
 Tests arguments (Ok ending) =
     (passes : Bool) × JudgesAll JudgesFile arguments.files.items passes

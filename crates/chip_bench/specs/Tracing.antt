@@ -1,4 +1,5 @@
--- What `trace` prints of a session's run, by itself or beside the lines of another trace (own).
+-- The output of `trace` for a session's run, by itself or beside the lines of another trace (chosen by this
+-- project).
 use Rattle.std.specs.Prelude.{◌≡◌, ℕ, ◌||◌, Bool, List, [], ◌∷◌, is_none, nat_lt, Option, Some, None, if◌then◌else◌}
 use Rattle.chip_asm.specs.Program.{image_of}
 use Rattle.chip_replay.specs.Limits.{last_step}
@@ -15,11 +16,11 @@ use Rattle.chip_session.specs.declared.refusal.Refusal.{Refusal}
 use Rattle.chip_session.specs.declared.refusal.Refusal.TheVariants.{NoImage, StepPastLast}
 use Rattle.chip_bench.specs.declared.tracing.Shown.{Shown}
 
--- it begins or ends past the last step of a run
+-- the trace begins or ends past the last step of a run
 abbrev pub is_past_last : Shown → Bool
 is_past_last shown = nat_lt last_step shown.from || nat_lt last_step shown.to
 
--- why there is no trace of the session's run
+-- the reason why there is no trace of the session's run, if there is none
 abbrev pub trace_refusal : Session → Shown → Option Refusal
 trace_refusal session shown =
     if is_none (image_of session.lines) then Some NoImage
@@ -39,13 +40,13 @@ trace_unless None session shown = printed (trace_of session shown) Done
 abbrev pub printed_trace : Session → Shown → Printed
 printed_trace session shown = trace_unless (trace_refusal session shown) session shown
 
--- what is printed of a comparison: nothing where all lines agree, else where they first differ
+-- the output of a comparison: nothing if all lines agree, otherwise where they first differ
 abbrev pub IsReport : (from : ℕ) → Option Difference → Printed → Type 0
 IsReport from None wanted = wanted ≡ printed [] Done
 IsReport from (Some found) wanted =
     (wanted.ending ≡ Faulty) × IsDifferenceText from found wanted.text
 
--- the lines of the session's run beside those of another trace
+-- the lines of the session's run compared with those of another trace
 abbrev pub IsBeside : Session → Shown → (theirs : List (List ℕ)) → Printed → Type 0
 IsBeside session shown theirs wanted =
     (found : Option Difference)

@@ -1,3 +1,3 @@
--- What private contracts say: what was read for a command, and what was written to files.
+-- Definitions for private contracts: what was read for a command, and what was written to files.
 pub mod Reads
 pub mod Written

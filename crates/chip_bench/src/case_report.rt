@@ -1,4 +1,4 @@
-//! What is printed of cases: those that failed, and how many passed.
+//! The report on cases: which failed, and how many passed.
 
 use crate::case_run::Verdict;
 use crate::terminal::word_page;
@@ -12,7 +12,7 @@ use std::fmt::Write;
 /// The outcomes of cases, as text.
 #[derive(Drop)]
 pub(crate) struct Report {
-    /// What is to be printed.
+    /// The text that is still to be printed.
     pub(crate) text: Vec<u8>,
     is_tap: bool,
     passed: u64,
@@ -20,7 +20,7 @@ pub(crate) struct Report {
 }
 
 impl Report {
-    /// Of no case, in the form of the Test Anything Protocol if `is_tap` says so.
+    /// Returns a report on no case, in the form of the Test Anything Protocol if `is_tap` says so.
     pub(crate) fn new(alloc: Global, is_tap: bool) -> Self {
         Report {
             text: Vec::new(alloc),
@@ -30,7 +30,7 @@ impl Report {
         }
     }
 
-    /// Adds the outcome of a case of a file. `fault` is the first fault of its source, as lines, where an
+    /// Adds the outcome of a case of a file. `fault` has the lines of the first fault of its source, if an
     /// answer is that there is no image.
     pub(crate) fn push_case(
         &mut self,
@@ -53,7 +53,7 @@ impl Report {
             let mut details = Vec::new(alloc);
             push_failure(alloc, &mut details, file, case, verdict)?;
             details.extend_from_slice(fault)?;
-            // Lines are comments in the Test Anything Protocol. The last one has its end too.
+            // Lines are comments in the Test Anything Protocol. The last line ends with a line feed too.
             let mut start = 0;
             for (end, byte) in details.iter().enumerate() {
                 if *byte == b'\n' {
@@ -70,7 +70,8 @@ impl Report {
         Ok(())
     }
 
-    /// Adds how many cases passed, and how many failed.
+    /// Adds how many cases passed, and how many failed. In the Test Anything Protocol, adds how many cases
+    /// there are.
     pub(crate) fn push_counts(&mut self) -> Result<(), AllocError> {
         let mut passed = Buffer::new();
         let mut other = Buffer::new();
@@ -112,8 +113,8 @@ impl Report {
     }
 }
 
-// Adds a name on a line of the Test Anything Protocol, where a number sign begins a directive unless a
-// backslash stands before it.
+// Adds a name to a line of the Test Anything Protocol, where a number sign begins a directive unless a
+// backslash precedes it.
 fn push_tap_text(alloc: Global, text: &mut Vec<u8>, name: &[u8]) -> Result<(), AllocError> {
     let mut marked = Vec::new(alloc);
     for byte in name {
@@ -167,8 +168,8 @@ fn push_place(text: &mut Vec<u8>, file: &str, line: usize, name: &[u8]) -> Resul
     Ok(())
 }
 
-// Adds a command, why it was refused where that isn't expected, and what its answer is in the place
-// of what is expected.
+// Adds a command, the reason if it was refused unexpectedly, and how its answer differs from what is
+// expected.
 fn push_other_answer(
     alloc: Global,
     text: &mut Vec<u8>,
@@ -186,7 +187,7 @@ fn push_other_answer(
     text.extend_from_slice(&difference)
 }
 
-// Adds what a code means, where it is known, and of what form the command is, where it has another one.
+// Adds the meaning of a code, if it is known. For C1, adds the form of the command that the first word names.
 fn push_title(text: &mut Vec<u8>, code: &[u8], command: &[u8]) -> Result<(), AllocError> {
     let Ok(code) = str::from_utf8(code) else {
         return Ok(());

@@ -1,4 +1,4 @@
-//! A case that is carried out: the answers of its session, beside those that are expected.
+//! A run of a case, and the answers of its session that differ from the expected ones.
 ghost use Rattle.std.specs.Prelude.{◌≡◌, ◌↔◌, false, [], IsTrue, IfOk, OnOk, map};
 ghost use Rattle.chip_cases.specs.Steps.{expectation_of};
 ghost use Rattle.chip_bench.specs.Testing.{CasePasses, Passes, has_passed};
@@ -10,14 +10,14 @@ use chip_host::{Code, Failure, KeyFile};
 use chip_session::{Bench, Settings, respond};
 use std::alloc::{AllocError, Global};
 
-/// How a case ended.
+/// The outcome of a case.
 #[derive(Drop)]
 pub(crate) enum Verdict {
-    /// Its source doesn't open.
+    /// The source doesn't open.
     Unopened(OpenError),
-    /// The line of that number of its key events is refused.
+    /// The line with this number of the key events is refused.
     BadKeys(usize, Code),
-    /// All commands were answered. These are the answers that were not as expected, in their order.
+    /// All commands were answered. The list has the answers that were not as expected, in their order.
     Answered(Vec<Given>),
 }
 
@@ -62,7 +62,7 @@ pub(crate) fn run_case(
     }
 }
 
-// The answers that are not as expected. All commands are carried out.
+// Returns the answers that are not as expected. All commands are carried out.
 fn other_answers(
     alloc: Global,
     bench: &mut Bench,
@@ -81,7 +81,7 @@ fn other_answers(
     Ok(others)
 }
 
-// Keeps the answer to the command of a line where it is not as expected.
+// Keeps the answer to the command of a line, unless it is as expected.
 fn keep_other(
     others: &mut Vec<Given>,
     line: usize,

@@ -17,14 +17,14 @@ use std::alloc::Global;
 use std::path::Path;
 use std::{io, str};
 
-// Why a line of a case can't be met, with its number.
+// The reason why a line of a case is refused, with the number of the line.
 #[derive(Clone, Copy)]
 struct BadLine {
     line: usize,
     why: TestFault,
 }
 
-/// The settings that the lines of a case ask for.
+/// Returns the settings that the lines of a case ask for.
 pub(crate) fn case_settings<'a>(
     alloc: Global,
     name: &'a str,
@@ -92,7 +92,7 @@ fn text_of(placed: Option<Placed<'_>>) -> Result<Option<&str>, BadLine>
     }
 }
 
-// A number from `least` to `most`, or the default without a text.
+// Returns a number from `least` to `most`, or the default without a text.
 fn number_of(
     placed: Option<Placed<'_>>,
     default: u32,
@@ -129,7 +129,7 @@ fn seed_of(placed: Option<Placed<'_>>) -> Result<Option<u64>, BadLine>
     }
 }
 
-/// The source of a case.
+/// Returns the source of a case.
 pub(crate) fn case_source<'a, F: FileAccess>(
     system: &System<'_, F>,
     name: &'a str,
@@ -142,7 +142,7 @@ pub(crate) fn case_source<'a, F: FileAccess>(
         CaseSource::Empty => Ok(Vec::new(system.alloc)),
         CaseSource::Lines(lines) => Ok(Vec::from_slice(system.alloc, lines)?),
         CaseSource::File(placed) => read_named(system, name, placed, MOST_SOURCE),
-        // What `dis` prints of the image.
+        // The source that `dis` prints of the image.
         CaseSource::Image(placed) => {
             let most = IMAGE_BYTES as u32;
             let image = read_within(system, name, placed, most, "it has over 3584 bytes")?;
@@ -151,7 +151,7 @@ pub(crate) fn case_source<'a, F: FileAccess>(
     }
 }
 
-/// The bytes of a case's file of key events, or none without one.
+/// Returns the bytes of a case's file of key events, or no bytes without a file.
 pub(crate) fn case_keys<'a, F: FileAccess>(
     system: &System<'_, F>,
     name: &'a str,
@@ -172,8 +172,8 @@ pub(crate) fn case_keys<'a, F: FileAccess>(
     }
 }
 
-// The bytes of a file that is named from the folder of the file of cases, unless there are over so
-// many.
+// Returns the bytes of a file that is named relative to the folder of the file of cases. Fails if there are
+// more than `most`.
 fn read_within<'a, F: FileAccess>(
     system: &System<'_, F>,
     name: &'a str,
@@ -192,7 +192,7 @@ fn read_within<'a, F: FileAccess>(
     Ok(bytes)
 }
 
-// The first bytes of such a file, up to a number.
+// Returns the first bytes of such a file, at most `most`.
 fn read_named<'a, F: FileAccess>(
     system: &System<'_, F>,
     name: &'a str,

@@ -38,15 +38,15 @@ use std::io::{Read, Write};
 use std::rt::{Clock, Files};
 use std::{io, mem};
 
-/// The program, with the arguments after its name. The answer is its status: 0 where it did what it
-/// was asked, 1 where the source has faults or doesn't open, 2 for arguments that it doesn't take,
-/// 3 where a file, input or output failed or there was too much input, and 4 where memory ran out.
+/// Runs the program with the arguments after its name, and returns its status: 0 if it did what it was asked,
+/// 1 if the source has faults or doesn't open, 2 for arguments that it doesn't take, 3 if a file, input or
+/// output failed or there was too much input, and 4 if memory ran out.
 ///
-/// `asm` writes the whole image to its file, or leaves what was there. Only what is written in
-/// place, such as a pipe or a file of several names, may have taken some bytes before a failure.
+/// `asm` writes the whole image to its file, or leaves the file as it was. Only a target that is written in
+/// place, such as a pipe or a file with several names, may have taken some bytes before a failure.
 ///
-/// Without arguments it carries out the script that `input` gives, on the empty source, and writes
-/// the answers to `output`. What hinders it is said on `errors`; a failure there is ignored.
+/// Without arguments, the program carries out the script on `input` with the empty source, and writes the
+/// answers to `output`. Whatever hinders it is reported on `errors`, where failures are ignored.
 pub fn program<F: Files + Clock, S: AsStr, I: Read, O: Write, E: Write>(
     system: &System<'_, F>,
     arguments: &[S],
@@ -60,17 +60,17 @@ pub fn program<F: Files + Clock, S: AsStr, I: Read, O: Write, E: Write>(
     ensures usage { AreFaulty (argument_faults (map S.text arguments.now)) → ((result ≡ 2) ⊎ (result ≡ 4))
         × (input.new ≡ input.old)
         × Keeps (O.contents output.old.inner) (O.contents output.new.inner) }
-    // Arguments without a fault ask for something, and that is done.
+    // Arguments without a fault ask for a command, and the program carries it out.
     ensures good { argument_faults (map S.text arguments.now) ≡ [] → Ends O.contents (λ written ended.
         Performs I.remaining O.contents input.old input.new output.old written
         system.now.host.takes_color (map S.text arguments.now) ended)
         output.new result }
-    // The word for help has help printed: of its text, which `clap` makes, no contract speaks.
+    // The word for help prints help. No contract describes its text, which `clap` makes.
     ensures help { argument_faults (map S.text arguments.now) ≡ ErrorKind.DisplayHelp ∷ []
         → Ends O.contents (λ written ended.
         ShowsHelp I.remaining O.contents input.old input.new output.old written ended)
         output.new result }
-    // The version's word has the version printed.
+    // The word for the version prints the version.
     ensures version { argument_faults (map S.text arguments.now) ≡ ErrorKind.DisplayVersion ∷ []
         → Ends O.contents (λ written ended.
         ShowsVersion I.remaining O.contents input.old input.new output.old written ended)
@@ -85,7 +85,7 @@ pub fn program<F: Files + Clock, S: AsStr, I: Read, O: Write, E: Write>(
     status
 }
 
-/// The program's answer where the system can't give its arguments as text.
+/// Reports that the system can't give the program's arguments as text, and returns the status.
 pub fn refuse_arguments<E: Write>(alloc: Global, error: &io::Error, errors: &mut E) -> u8
     ensures { IsWithoutArguments (error_kind error.now) result }
 {
@@ -101,7 +101,7 @@ pub fn refuse_arguments<E: Write>(alloc: Global, error: &io::Error, errors: &mut
     }
 }
 
-// The status, once the output was flushed.
+// Returns the status after the flush of the output, and reports a failure.
 fn finish<E: Write>(ended: Result<Ending, Failure<'_>>, is_flushed: bool, errors: &mut E) -> u8
     ensures { result ≡ status_of ended.entry is_flushed }
 {
@@ -113,15 +113,15 @@ fn finish<E: Write>(ended: Result<Ending, Failure<'_>>, is_flushed: bool, errors
     }
 }
 
-// What is said after the failure of a run.
+// The advice that follows the report of a failure.
 #[derive(Clone, Copy)]
 enum Advice {
     Nothing,
-    /// What to type for a game, where the first word is not a command.
+    /// The words to type for a game. Given if the first word is not a command.
     Commands,
-    /// Why the tape is bad: to a reader alone, since programs know the line above it.
+    /// The reason why the tape is bad. Given only to a reader, because programs know the line above it.
     Tape(TapeFault),
-    /// That the folder of a file isn't there: to a reader alone too.
+    /// The folder of a file isn't there. Given only to a reader, too.
     Folder,
 }
 
@@ -154,7 +154,7 @@ fn advise<S: AsStr, E: Write>(advice: Advice, arguments: &[S], has_reader: bool,
     }
 }
 
-// Says what to type for a game: for the file of the first word, if that looks like the name of one.
+// Prints what to type for a game: for the file of the first word, if that looks like the name of a file.
 fn advise_commands<S: AsStr, E: Write>(arguments: &[S], errors: &mut E) {
     let Some(first) = arguments.first() else {
         return;
@@ -176,7 +176,7 @@ fn advise_commands<S: AsStr, E: Write>(arguments: &[S], errors: &mut E) {
     );
 }
 
-// Whether a word has a dot, and no character that a shell or a terminal takes for something else.
+// Whether a word has a dot, and no character that a shell or a terminal treats specially.
 fn is_file_name(word: &str) -> bool {
     word.contains('.')
         && word.chars().all(|character| {
@@ -186,7 +186,7 @@ fn is_file_name(word: &str) -> bool {
         })
 }
 
-// The first argument, or nothing.
+// Returns the first argument, or an empty text without arguments.
 fn first_of<S: AsStr>(arguments: &[S]) -> &str {
     match arguments.first() {
         Some(first) => first.as_str(),
@@ -194,8 +194,8 @@ fn first_of<S: AsStr>(arguments: &[S]) -> &str {
     }
 }
 
-// Says what hindered the program, unless that was said of its arguments. Where the standard error fails
-// there is nobody to tell.
+// Reports a failure, and returns its status. Failures of the arguments are already reported. Failures of
+// standard error are ignored.
 fn report<E: Write>(failure: Failure<'_>, errors: &mut E) -> u8
     ensures { result ≡ failure_status failure.entry }
 {
@@ -228,7 +228,7 @@ fn carry_out<'a, F: FileAccess + Clock, S: AsStr, I: Read, O: Write, E: Write>(
     match parse_arguments(system.alloc, arguments) {
         Ok(line) => {
             let ended = perform(system, &line, input, output, errors);
-            // The program ends here, and its memory goes back at once.
+            // The program ends here, and the system frees its memory all at once.
             mem::forget(line);
             ended
         }
@@ -243,8 +243,8 @@ fn carry_out<'a, F: FileAccess + Clock, S: AsStr, I: Read, O: Write, E: Write>(
     }
 }
 
-// The arguments are looked at behind a reference, since the arms would else each let go of what
-// they took.
+// Carries out a command. Its arguments are behind a reference, because otherwise each arm would drop what it
+// took.
 fn perform<'a, F: FileAccess + Clock, I: Read, O: Write, E: Write>(
     system: &System<'_, F>,
     line: &CommandLine<'a>,
@@ -294,7 +294,7 @@ fn perform<'a, F: FileAccess + Clock, I: Read, O: Write, E: Write>(
         }
         CommandLine::Check(arguments) => check(system, arguments, input, output, errors),
         CommandLine::Dis { image } => {
-            // A source of the image, whose image it is.
+            // The source of an image, which assembles to that image.
             let source = read_given(system, *image, true, input, errors)?;
             print(&source, Ending::Done, output)
         }
@@ -312,16 +312,16 @@ fn perform<'a, F: FileAccess + Clock, I: Read, O: Write, E: Write>(
     }
 }
 
-// What a session is begun on: a source or an image of that name, or the empty source.
+// The arguments of `debug`: the name of a source or an image, or none for the empty source.
 #[derive(Clone, Copy)]
 struct DebugArguments<'a> {
     source: Option<&'a str>,
     is_image: bool,
-    /// Whether who types the script wants nothing said of it.
+    /// Whether the messages to somebody who types the script are switched off.
     is_quiet: bool,
 }
 
-// The settings are judged before SOURCE is read.
+// Carries out `debug`. The settings are judged before SOURCE is read.
 fn debug<'a, F: FileAccess, I: Read, O: Write, E: Write>(
     system: &System<'_, F>,
     given: DebugArguments<'a>,
@@ -376,7 +376,7 @@ fn asm<'a, F: FileAccess, I: Read, O: Write, E: Write>(
         Ok(opened) => {
             let ended = assemble(system, &opened, &[Some(file_name(source))], image, output);
             tell_faults(system, source, &opened, errors);
-            // The program ends here, and its memory goes back at once.
+            // The program ends here, and the system frees its memory all at once.
             mem::forget(opened);
             ended
         }
@@ -388,7 +388,7 @@ fn asm<'a, F: FileAccess, I: Read, O: Write, E: Write>(
     }
 }
 
-// Writes the image of a source to a file, or prints the faults where there is none.
+// Writes the image of a source to a file, or prints the faults if there is no image.
 fn assemble<'a, F: FileAccess, O: Write>(
     system: &System<'_, F>,
     source: &Source,
@@ -407,7 +407,7 @@ fn assemble<'a, F: FileAccess, O: Write>(
     }
 }
 
-// A table that is asked for, of the source of a name.
+// The table that is asked for, and the name of its source.
 #[derive(Clone, Copy)]
 struct TableArguments<'a> {
     table: Table,
@@ -415,7 +415,7 @@ struct TableArguments<'a> {
     is_hex: bool,
 }
 
-// `list` and `syms`: a table of the source that some bytes are.
+// `list` and `syms`: prints a table of the source with these bytes.
 fn tell<'a, F: FileAccess, O: Write, E: Write>(
     system: &System<'_, F>,
     given: TableArguments<'_>,
@@ -431,7 +431,7 @@ fn tell<'a, F: FileAccess, O: Write, E: Write>(
             let answer = tabulate(system.alloc, given.table, &opened, given.is_hex);
             let ended = deliver(answer, output);
             tell_faults(system, given.source, &opened, errors);
-            // The program ends here, and its memory goes back at once.
+            // The program ends here, and the system frees its memory all at once.
             mem::forget(opened);
             ended
         }
@@ -466,7 +466,7 @@ fn run<'a, F: FileAccess, I: Read, O: Write, E: Write>(
             let ended = deliver(answer, output);
             tell_faults(system, arguments.source, bench.source(), errors);
             tell_stop(system, arguments, &mut bench, errors);
-            // The program ends here, and its memory goes back at once.
+            // The program ends here, and the system frees its memory all at once.
             mem::forget(bench);
             ended
         }

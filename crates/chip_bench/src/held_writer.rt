@@ -1,4 +1,4 @@
-//! A writer that holds bytes back, and gives them up where a write or a flush fails.
+//! A writer that holds bytes back, and gives them up if a write or a flush fails.
 ghost use Rattle.std.specs.Prelude.{◌≡◌, ◌<◌, ◌≤◌, ◌↔◌, [], length, IsTrue, IfOk, IfErr, OnOk, OnErr};
 ghost use Rattle.std.specs.IoError.{error_kind};
 ghost use Rattle.std.specs.Io.{WritesAtMost};
@@ -9,8 +9,8 @@ use std::alloc::Global;
 use std::io::{Error, ErrorKind, Result, Write};
 use std::marker::Model;
 
-// A writer that is called up to its first failure, and never again. A write that takes none of some
-// bytes has failed, and so has one that was interrupted.
+// A writer that is called up to its first failure, and never again. A write that takes none of some bytes is
+// a failure, and so is an interrupted one.
 #[derive(Drop)]
 struct UntilFailure<W> {
     inner: Counted<W>,
@@ -37,7 +37,7 @@ impl<W> UntilFailure<W> {
 }
 
 impl<W: Write> UntilFailure<W> {
-    // One write of the writer inside, or none where one of its calls has failed.
+    // Makes one write of the writer inside, or none if one of its calls has failed.
     fn write(&mut self, buf: &[u8]) -> Result<usize>
         ensures bound { WritesAtMost result buf.now }
         ensures bytes { WriteAppends (W.contents self.old.inner) (W.contents self.new.inner)
@@ -56,7 +56,7 @@ impl<W: Write> UntilFailure<W> {
         }
     }
 
-    // One flush of the writer inside, or none where one of its calls has failed.
+    // Makes one flush of the writer inside, or none if one of its calls has failed.
     fn flush(&mut self) -> Result<()>
         ensures bytes { Keeps (W.contents self.old.inner) (W.contents self.new.inner) }
         ensures ok { OnOk result ((self.old.failures ≡ 0) × (self.new.failures ≡ 0)) }
@@ -70,17 +70,17 @@ impl<W: Write> UntilFailure<W> {
     }
 }
 
-// The answer to a call after a failure.
+// Returns the error of each call after a failure.
 fn given_up() -> Error {
     Error::new(ErrorKind::BrokenPipe, "an earlier write failed")
 }
 
 /// A writer that holds bytes back, up to a number, and writes them together.
 ///
-/// Once a write or a flush of the writer inside fails, an interrupted one too, it isn't called
-/// again: what is held is given up, and each later write and flush fails. What reached the writer
-/// inside is a front of the bytes that were taken, and after a flush that went well it is all of
-/// them. Bytes that are still held when this is dropped are written nowhere.
+/// Once a write or a flush of the writer inside fails, or is interrupted, the writer inside isn't called
+/// again: the held bytes are given up, and each later write and flush fails. The bytes that reached the
+/// writer inside are a front of those that were taken, and after a successful flush they are all of them.
+/// Bytes that are still held when this value is dropped are never written.
 #[derive(Drop)]
 pub struct HeldWriter<W> {
     inner: UntilFailure<W>,
@@ -107,7 +107,7 @@ impl<W> Model for HeldWriter<W> {
 }
 
 impl<W> HeldWriter<W> {
-    /// The writer, of whose bytes up to `most` are held back. With 0 none is.
+    /// Returns a writer that holds back at most `most` bytes. With 0, it holds back none.
     ///
     /// # Errors
     ///
@@ -135,7 +135,7 @@ impl<W> HeldWriter<W> {
 impl<W: Write> HeldWriter<W> {
     ghost use Rattle.chip_bench.specs.Holding.{taken_bytes};
 
-    // Writes all that is held, unless a write fails.
+    // Writes all held bytes, unless a write fails.
     fn write_held(&mut self) -> Result<()>
         ensures bytes { Keeps (taken_bytes W.contents self.old)
             (taken_bytes W.contents self.new) }
@@ -159,16 +159,16 @@ impl<W: Write> Write for HeldWriter<W> {
 
     ghost contents = { λ writer. taken_bytes W.contents writer };
 
-    /// Takes all the bytes and holds them, where there is room once what was held is written. More
-    /// than may be held goes to the writer inside at once.
+    /// Holds all the bytes, and first writes those held before if there is no room. If there are more bytes
+    /// than may be held, passes them to the writer inside at once.
     fn write(&mut self, buf: &[u8]) -> Result<usize>
         ensures bound { WritesAtMost result buf.now }
         ensures bytes { WriteAppends (taken_bytes W.contents self.old)
             (taken_bytes W.contents self.new) result buf.now }
-        // No call of the writer inside has failed where this goes well, and else just one has.
+        // If this succeeds, no call of the writer inside has failed. Otherwise exactly one has.
         ensures ok { OnOk result ((self.old.failures ≡ 0) × (self.new.failures ≡ 0)) }
         ensures err { OnErr result (self.new.failures ≡ 1) }
-        // Then the writer inside isn't called again.
+        // After a failure, the writer inside isn't called again.
         ensures given_up { self.old.failures ≡ 1 → self.new ≡ self.old }
         ensures most { self.new.most ≡ self.old.most }
         ensures bounded { length self.new.held ≤ self.new.most }
@@ -182,14 +182,14 @@ impl<W: Write> Write for HeldWriter<W> {
                 return self.inner.write(buf);
             }
         }
-        // There is room for them.
+        // The buffer has room for these bytes.
         let Ok(()) = self.held.extend_from_slice(buf) else {
             unreachable!()
         };
         Ok(buf.len())
     }
 
-    /// Writes all that is held, and flushes the writer inside.
+    /// Writes all held bytes, and flushes the writer inside.
     fn flush(&mut self) -> Result<()>
         ensures bytes { Keeps (taken_bytes W.contents self.old) (taken_bytes W.contents self.new) }
         ensures all { OnOk result (self.new.held ≡ []) }

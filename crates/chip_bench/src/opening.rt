@@ -8,7 +8,7 @@ use chip_host::{Code, Failure, KeyFile};
 use chip_session::{Bench, KeyFileError, Settings, insert_keys};
 use std::alloc::Global;
 
-/// A session on a source under the key events of a file, or why the source doesn't open.
+/// Opens a session on a source under the key events of a file, or returns why the source doesn't open.
 pub(crate) fn open_under<'a>(
     alloc: Global,
     source: &[u8],

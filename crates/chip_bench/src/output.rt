@@ -1,4 +1,4 @@
-//! What each command reads and prints, from the bytes of a source.
+//! The answers of the commands, from the bytes of a source.
 ghost use Rattle.std.specs.Prelude.{◌≡◌, Err, IfErr, IfOk, IsErr};
 ghost use Rattle.chip_host.specs.Printing.{printed, printed_faults, printed_by};
 ghost use Rattle.chip_bench.specs.Printing.{printed_run, printed_picture, printed_table, unanswered};
@@ -40,17 +40,17 @@ pub(crate) fn answer_script<'a, I: Read, O: Write, T: Observer>(
     }
 }
 
-/// A table of what a source has.
+/// A table about a source.
 #[derive(Clone, Copy)]
 pub(crate) enum Table {
-    /// Its lines, with their addresses and bytes.
+    /// The lines, with their addresses and bytes.
     Listing,
-    /// Its names, with their values.
+    /// The names, with their values.
     Symbols,
 }
 
-/// `list` and `syms`: a table of a source, with values in decimal or in hexadecimal. A source without
-/// an image has faults in the place of its names.
+/// `list` and `syms`: returns a table of a source, with values in decimal or in hexadecimal. If the source
+/// has no image, `syms` gives the faults instead of the names.
 pub(crate) fn tabulate(
     alloc: Global,
     table: Table,
@@ -76,7 +76,7 @@ pub(crate) fn tabulate(
     }
 }
 
-/// `explain`: the page on a code, or all codes.
+/// `explain`: returns the page on a code, or all codes without one.
 pub(crate) fn explain<'a>(alloc: Global, code: Option<&'a str>) -> Result<Answer, Failure<'a>>
     ensures ok { IfOk result (λ answer. IsExplanation code.entry (printed_by answer)) }
     ensures err { IfErr result (IsUnexplained code.entry) }
@@ -98,7 +98,7 @@ pub(crate) fn explain<'a>(alloc: Global, code: Option<&'a str>) -> Result<Answer
     }
 }
 
-/// `--version`: the program's name and version.
+/// `--version`: returns the program's name and version.
 pub(crate) fn version(alloc: Global) -> Result<Answer, AllocError>
     ensures { IfOk result (λ answer. printed_by answer ≡ printed version_text Ending.Done) }
 {
@@ -112,7 +112,7 @@ pub(crate) fn version(alloc: Global) -> Result<Answer, AllocError>
     })
 }
 
-/// `run`: the answers to the questions about a step, or the faults where there is no image.
+/// `run`: returns the answers to the questions about a step, or the faults if there is no image.
 pub(crate) fn run_at(alloc: Global, bench: &mut Bench, step: u32) -> Result<Answer, AllocError>
     ensures { IfOk result (λ answer. printed_by answer ≡ printed_run bench.old.session step) }
 {
@@ -129,7 +129,7 @@ pub(crate) fn run_at(alloc: Global, bench: &mut Bench, step: u32) -> Result<Answ
     }
 }
 
-/// `picture`: the picture of the screen at a step, or the faults where there is no image.
+/// `picture`: returns the picture of the screen at a step, or the faults if there is no image.
 pub(crate) fn picture_at(
     alloc: Global,
     bench: &mut Bench,
@@ -149,7 +149,8 @@ pub(crate) fn picture_at(
     }
 }
 
-/// Why a question isn't answered: the faults where there is no image.
+/// Returns the answer to a refused question: the faults if there is no image, otherwise the code of the
+/// refusal. Fails if memory ran out.
 pub(crate) fn unanswered(alloc: Global, bench: &Bench, why: Refusal) -> Result<Answer, AllocError>
     ensures answer { IfOk result (λ answer.
         printed_by answer ≡ unanswered why (printed_faults bench.now.session.lines)) }

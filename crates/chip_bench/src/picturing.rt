@@ -18,7 +18,7 @@ use chip_views::Letters;
 use std::io::{Read, Write};
 use std::mem;
 
-// Without a file for it, the picture is printed.
+// `picture`: writes the picture to the files that the arguments name, or prints it if they name none.
 pub(crate) fn picture<'a, F: FileAccess, I: Read, O: Write, E: Write>(
     system: &System<'_, F>,
     arguments: &PictureArguments<'a>,
@@ -41,7 +41,7 @@ pub(crate) fn picture<'a, F: FileAccess, I: Read, O: Write, E: Write>(
             let ended = show(system, arguments, &mut bench, output);
             tell_faults(system, arguments.run.source, bench.source(), errors);
             tell_stop(system, &arguments.run, &mut bench, errors);
-            // The program ends here, and its memory goes back at once.
+            // The program ends here, and the system frees its memory all at once.
             mem::forget(bench);
             ended
         }
@@ -53,7 +53,7 @@ pub(crate) fn picture<'a, F: FileAccess, I: Read, O: Write, E: Write>(
     }
 }
 
-// Which characters stand for the points.
+// Returns the characters that stand for the pixels.
 fn letters_of(ascii: bool) -> Letters
     ensures { result ≡ (if ascii then Plain else Blocks) }
 {
@@ -94,7 +94,7 @@ fn show<'a, F: FileAccess, O: Write>(
     }
 }
 
-// Writes the picture to a file, atomically. Where there is no picture, why is printed.
+// Writes the picture to a file atomically. If there is no picture, prints the reason.
 fn write<'a, F: FileAccess, O: Write>(
     system: &System<'_, F>,
     arguments: &PictureArguments<'a>,
@@ -113,7 +113,7 @@ fn write<'a, F: FileAccess, O: Write>(
     match picture.ending {
         Ending::Done => {
             let source = Some(file_name(arguments.run.source));
-            // Of two pictures the bitmap is written first.
+            // If both files are named, the bitmap is written first.
             let bitmap = arguments
                 .bitmap
                 .filter(|_| matches!(form, PictureForm::ScaledPng(_)));

@@ -9,8 +9,8 @@ use std::alloc::Global;
 use std::io::Write;
 use std::str;
 
-/// Tells at which step and at which line the machine of a run has stopped, and why. Nothing is told of a machine that
-/// runs, or where standard error fails or memory runs out.
+/// Tells at which step and at which line the machine of a run has stopped, and why. Nothing is told if the
+/// machine still runs, standard error fails or memory runs out.
 pub(crate) fn tell_stop<F, E: Write>(
     system: &System<'_, F>,
     run: &RunArguments<'_>,
@@ -43,7 +43,8 @@ pub(crate) fn tell_stop<F, E: Write>(
     );
 }
 
-// The first step, up to a last one at which the machine has stopped, at which it has. None where memory runs out.
+// Returns the first step at which the machine has stopped, which it has at step `last`. None if memory runs
+// out.
 fn stop_step(alloc: Global, bench: &mut Bench, columns: &Columns, last: u32) -> Option<u32> {
     let (mut least, mut most) = (0_u32, last);
     for _half in 0..u32::BITS {
@@ -60,7 +61,7 @@ fn stop_step(alloc: Global, bench: &mut Bench, columns: &Columns, last: u32) -> 
     Some(most)
 }
 
-// The row of a trace that has only this step.
+// Returns the row of this step, from a trace that has only this step.
 fn row_at(alloc: Global, bench: &mut Bench, columns: &Columns, step: u32) -> Option<Vec<u8>> {
     let mut trace = Trace::new(alloc, columns, Form::Fields, step, step);
     let mut row = Vec::new(alloc);
@@ -70,7 +71,7 @@ fn row_at(alloc: Global, bench: &mut Bench, columns: &Columns, step: u32) -> Opt
     }
 }
 
-// The value of pc and the cause, if the row is that of a machine that has stopped.
+// Returns the value of pc and the stop cause, if the row is that of a stopped machine.
 fn stop_of(row: &[u8]) -> Option<(u16, &str)> {
     let row = str::from_utf8(row).ok()?;
     let (pc, cause) = row.trim_ascii_end().split_once(' ')?;

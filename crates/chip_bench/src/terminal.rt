@@ -1,4 +1,4 @@
-//! What `debug` says at a terminal, beside its answers, to the one who types.
+//! The messages of `debug`, besides its answers, to somebody who types at a terminal.
 ghost use Rattle.std.specs.Prelude.{◌≡◌, false};
 ghost use Rattle.chip_bench.specs.Running.{AnswersScript};
 
@@ -23,8 +23,8 @@ pub(crate) struct Begun<'a> {
     pub(crate) is_typed: bool,
 }
 
-/// Answers a script. Who types it is told on standard error where the session is, when the next
-/// command is waited for, and why one was refused.
+/// Answers a script. If somebody types it, messages on standard error describe the source of the session, show
+/// when the next command is awaited, and say why a command was refused.
 pub(crate) fn answer_begun<'a, I: Read, O: Write, E: Write>(
     alloc: Global,
     begun: Begun<'_>,
@@ -35,7 +35,7 @@ pub(crate) fn answer_begun<'a, I: Read, O: Write, E: Write>(
 ) -> Result<Ending, Failure<'a>>
     ensures answers { AnswersScript I.remaining O.contents settings begun.entry.source.now
         input.old input.new output.old output.new result }
-    // Where nobody types, nothing is said.
+    // If nobody types, there are no messages.
     ensures silent { begun.entry.is_typed ≡ false → errors.new ≡ errors.old }
 {
     if begun.is_typed {
@@ -51,7 +51,7 @@ pub(crate) fn answer_begun<'a, I: Read, O: Write, E: Write>(
     }
 }
 
-/// The page on the word with which a command begins, if it is one that commands have.
+/// Returns the page on the word with which a command begins, if commands have that word.
 pub(crate) fn word_page(command: &[u8]) -> Option<&'static Page> {
     word_pages().iter().find(|page| {
         matches!(
@@ -61,7 +61,7 @@ pub(crate) fn word_page(command: &[u8]) -> Option<&'static Page> {
     })
 }
 
-// The one who types. Where standard error fails there is nobody to tell.
+// The person who types. Failures of standard error are ignored.
 #[derive(Drop)]
 struct Terminal<'e, E> {
     errors: &'e mut E,
@@ -111,8 +111,8 @@ impl<'e, E: Write> Observer for Terminal<'e, E> {
             Refused::Line(CommandFault::Unknown) if matches!(line, b"help" | b"quit" | b"exit") => {
                 self.say("`chipbench debug --help` lists the commands; Ctrl+D ends");
             }
-            // What would be right: the form of the command that the first word names, or else the words
-            // that name one.
+            // The message shows what would be right: the form of the command that the first word names, or
+            // else the words that name commands.
             Refused::Line(CommandFault::Unknown) => {
                 match word_page(line) {
                     Some(page) => {
@@ -147,7 +147,8 @@ impl<'e, E: Write> Terminal<'e, E> {
         let _ = self.errors.write_all(text.as_bytes());
     }
 
-    // Why the source doesn't open, as `check` prints it: a session is faulty where it doesn't.
+    // Prints why the source doesn't open, as `check` prints it. A session is faulty only if its source
+    // doesn't open.
     fn say_unopened(&mut self, alloc: Global, source: &[u8], ended: &Result<Ending, Failure<'_>>) {
         if !matches!(ended, Ok(Ending::Faulty)) {
             return;
@@ -160,7 +161,7 @@ impl<'e, E: Write> Terminal<'e, E> {
         }
     }
 
-    // How many lines a source has.
+    // Prints how many lines a source has.
     fn say_lines(&mut self, source: &Source) {
         match source.lines() {
             1 => self.say("1 line"),
@@ -170,7 +171,7 @@ impl<'e, E: Write> Terminal<'e, E> {
         }
     }
 
-    // The first line with a fault.
+    // Prints which line is the first with a fault, or that there is none.
     fn say_fault(&mut self, source: &Source) {
         for number in 1..=source.lines() {
             if let Some(fault) = source.fault(number) {
@@ -182,7 +183,7 @@ impl<'e, E: Write> Terminal<'e, E> {
         self.say("no faults");
     }
 
-    // The words that begin commands.
+    // Prints the words that begin commands.
     fn say_words(&mut self) {
         let mut between = "";
         for page in word_pages() {

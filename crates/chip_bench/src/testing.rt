@@ -1,4 +1,4 @@
-//! `test`: the cases of files, beside the answers that they expect.
+//! `test`: the cases of files, and the answers that they expect.
 ghost use Rattle.std.specs.Prelude.{IfOk, IfErr};
 ghost use Rattle.chip_bench.specs.Testing.{IsHindrance, JudgesAll, JudgesCase, JudgesFile, Tests, has_passed};
 
@@ -41,7 +41,7 @@ pub(crate) fn test_files<'a, F: FileAccess, O: Write>(
     })
 }
 
-// Carries out the cases of a file, and says whether all pass.
+// Carries out the cases of a file, and returns whether all pass.
 fn test_file<'a, F: FileAccess>(
     system: &System<'_, F>,
     name: &'a str,
@@ -72,7 +72,7 @@ fn test_file<'a, F: FileAccess>(
     Ok(passes)
 }
 
-// Carries out cases, says whether all pass, and adds the answers that are not as expected.
+// Carries out cases, adds the answers that are not as expected, and returns whether all pass.
 fn test_cases<'a, F: FileAccess>(
     system: &System<'_, F>,
     name: &'a str,
@@ -96,8 +96,8 @@ fn test_cases<'a, F: FileAccess>(
     Ok(has_passed)
 }
 
-// The first fault of a case's source, as `check` prints it, where an answer is that there is no image, and
-// otherwise nothing.
+// Returns the first fault of a case's source, as `check` prints it, if an answer is that there is no image.
+// Otherwise the text is empty.
 fn source_fault<F: FileAccess>(
     system: &System<'_, F>,
     name: &str,
@@ -123,7 +123,7 @@ fn source_fault<F: FileAccess>(
     first_fault(alloc, &source).unwrap_or(Vec::new(alloc))
 }
 
-// The first fault of a source, as `check` prints it; nothing of a source without faults.
+// Returns the first fault of a source, as `check` prints it. The text is empty for a source without faults.
 fn first_fault(alloc: Global, source: &Source) -> Result<Vec<u8>, AllocError> {
     for number in 1..=source.lines() {
         if source.fault(number).is_some() {

@@ -1,4 +1,4 @@
-//! `trace`: the lines of a run, by themselves or beside those of another trace.
+//! `trace`: the lines of a run, by themselves or compared with those of another trace.
 ghost use Rattle.std.specs.Prelude.{◌≡◌, None, IfOk, option_copied, option_map};
 ghost use Rattle.std.specs.Str.Lines.{lines};
 ghost use Rattle.chip_bench.specs.Doing.{ShowsTrace, Traces, shown_by};
@@ -24,11 +24,11 @@ use std::alloc::{AllocError, Global};
 use std::io::{Read, Write};
 use std::mem;
 
-// How many lines are written at once.
+// The number of lines that are written at once.
 const BLOCK_LINES: usize = 256;
 
-/// `trace`: the lines of a run, or where they differ first from those of another trace. The first
-/// line of that one names its columns.
+/// `trace`: prints the lines of a run, or where they first differ from those of another trace. The header of
+/// that trace names the columns.
 pub(crate) fn trace<'a, F: FileAccess, I: Read, O: Write, E: Write>(
     system: &System<'_, F>,
     arguments: &TraceArguments<'a>,
@@ -60,7 +60,7 @@ pub(crate) fn trace<'a, F: FileAccess, I: Read, O: Write, E: Write>(
     }
 }
 
-/// What a trace shows of a run: its columns, the form of its lines, its first step, and the step at
+/// The part of a run that a trace shows: its columns, the form of its lines, its first step, and the step at
 /// which it ends unless the machine stops before.
 #[derive(Drop)]
 pub(crate) struct Shown {
@@ -70,8 +70,8 @@ pub(crate) struct Shown {
     pub(crate) to: u32,
 }
 
-// What the arguments ask for, with these columns. The first step is the last one, where they name a
-// later one.
+// Returns what the arguments ask for, with these columns. If they name a first step after the last one, the
+// trace begins at the last one.
 fn shown_by(arguments: &TraceArguments<'_>, columns: Columns) -> Shown
     ensures { result ≡ shown_by arguments.now columns }
 {
@@ -88,7 +88,7 @@ fn shown_by(arguments: &TraceArguments<'_>, columns: Columns) -> Shown
     }
 }
 
-// The line of a trace that names its columns, and what follows it. The line above it may name the
+// Returns the line of a trace that names its columns, and the text after it. The line above it may name the
 // machine.
 fn split_header(trace: &[u8]) -> (&[u8], &[u8])
     ensures header { result.0.now ≡ header_of (below_machine (lines trace.now)) }
@@ -101,7 +101,7 @@ fn split_header(trace: &[u8]) -> (&[u8], &[u8])
     (first, rest)
 }
 
-// The first line of a text, and what follows it.
+// Returns the first line of a text, and the text after it.
 fn split_line(text: &[u8]) -> (&[u8], &[u8])
     ensures first { result.0.now ≡ header_of (lines text.now) }
     ensures rest { lines result.1.now ≡ lines_after (lines text.now) }
@@ -137,7 +137,7 @@ fn trace_source<'a, F: FileAccess, O: Write, E: Write>(
         Ok(mut bench) => {
             let ended = show(system.alloc, &mut bench, shown, theirs, output);
             tell_faults(system, name, bench.source(), errors);
-            // The program ends here, and its memory goes back at once.
+            // The program ends here, and the system frees its memory all at once.
             mem::forget(bench);
             ended
         }
@@ -149,8 +149,8 @@ fn trace_source<'a, F: FileAccess, O: Write, E: Write>(
     }
 }
 
-// Shows the lines of the run of a source's image, or where they differ first from those of another
-// trace; or the faults where there is no image.
+// Prints the lines of the run of a source's image, or where they first differ from those of another trace, or
+// the faults if there is no image.
 fn show<'a, O: Write>(
     alloc: Global,
     bench: &mut Bench,
@@ -170,7 +170,7 @@ fn show<'a, O: Write>(
     }
 }
 
-// Why there is no trace.
+// Returns the reason why there is no trace, if there is none.
 fn refusal_of(bench: &Bench, shown: &Shown) -> Option<Refusal>
     ensures { result ≡ trace_refusal bench.now.session shown.now }
 {
@@ -200,7 +200,7 @@ fn stream<'a, O: Write>(
         .columns
         .push_header_lines(shown.form, bench.quirks(), &mut text)?;
     loop {
-        // No step of the trace is past the last one, so that only memory can be wanting.
+        // No step of the trace is past the last possible one, so only memory can be missing.
         let Ok(is_more) = bench.push_trace(&mut trace, &mut text, BLOCK_LINES) else {
             return Err(Failure::OutOfMemory);
         };
@@ -212,7 +212,7 @@ fn stream<'a, O: Write>(
     }
 }
 
-// Where the lines of a run and those of another trace differ first.
+// Returns where the lines of a run first differ from those of another trace. The text is empty if they don't.
 fn difference(
     alloc: Global,
     bench: &mut Bench,

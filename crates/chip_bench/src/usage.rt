@@ -8,7 +8,7 @@ use clap::error::ErrorKind;
 use std::alloc::{AllocError, Global};
 use std::io::Write;
 
-/// What to type in place of commands of other programs.
+/// The words to type instead of the commands of other programs.
 const OTHER_COMMANDS: &[(&str, &[&str])] = &[
     (
         "`chipbench asm` makes an image of a source",
@@ -41,7 +41,7 @@ const OTHER_COMMANDS: &[(&str, &[&str])] = &[
     ),
 ];
 
-/// What to type in place of an argument, for a command or, where the name is empty, for each.
+/// The words to type instead of an argument of a command, or of every command if the name is empty.
 const OTHER_ARGUMENTS: &[(&str, &str, &str)] = &[
     (
         "-o",
@@ -183,8 +183,8 @@ const OTHER_ARGUMENTS: &[(&str, &str, &str)] = &[
     ),
 ];
 
-/// If the program ended because of its arguments, says in the words of `clap` what is wrong with them. A tip
-/// of the program's own takes the place of clap's where there is one. `first` is the first argument.
+/// If the program ended because of its arguments, prints clap's message about them. A tip of the program's
+/// own, if it has one, replaces clap's. `first` is the first argument.
 pub(crate) fn tell_usage<E: Write>(
     alloc: Global,
     ended: &Result<Ending, Failure<'_>>,
@@ -199,8 +199,8 @@ pub(crate) fn tell_usage<E: Write>(
     }
 }
 
-// The text of a fault of the arguments, each line as `check` shows one: an argument may have what a terminal
-// takes for a command.
+// Returns the message on a fault of the arguments, with each line as `check` shows one, because an argument
+// may contain what a terminal takes for a command.
 fn shown_usage(alloc: Global, error: &Error, first: &str) -> Result<Vec<u8>, AllocError> {
     let text = usage_text(alloc, error, first)?;
     let mut shown = Vec::with_capacity(alloc, text.len())?;
@@ -215,7 +215,7 @@ fn shown_usage(alloc: Global, error: &Error, first: &str) -> Result<Vec<u8>, All
     Ok(shown)
 }
 
-// The text of a fault of the arguments, with the program's own tip in the place of that of `clap`.
+// Returns the message on a fault of the arguments, with the program's own tip in place of clap's.
 fn usage_text(alloc: Global, error: &Error, first: &str) -> Result<Vec<u8>, AllocError> {
     let text = format!(in alloc; "{error}")?;
     let Some(tip) = tip_on(alloc, error.kind(), text.as_str(), first)? else {
@@ -225,7 +225,7 @@ fn usage_text(alloc: Global, error: &Error, first: &str) -> Result<Vec<u8>, Allo
         .as_str()
         .split_once("\n\n")
         .unwrap_or((text.as_str(), ""));
-    // Where clap tips a similar option, its usage shows that option, so both are left out.
+    // If clap suggests a similar option, its usage shows that option, so both are left out.
     let rest = match below.split_once("Usage: ") {
         Some((tips, usage)) if !tips.contains("similar argument") => usage,
         _ => "",
@@ -248,7 +248,7 @@ fn usage_text(alloc: Global, error: &Error, first: &str) -> Result<Vec<u8>, Allo
     parts.concat(alloc)
 }
 
-// The program's own tip for a fault of this kind, if it has one.
+// Returns the program's own tip for a fault of this kind, if it has one.
 fn tip_on(
     alloc: Global,
     kind: ErrorKind,
@@ -272,14 +272,15 @@ fn tip_on(
     }
 }
 
-// What a text has between its first two quotes.
+// Returns the text between the first two quotes, if there are two.
 fn quoted_in(text: &str) -> Option<&str> {
     let (_, rest) = text.split_once("'")?;
     let (word, _) = rest.split_once("'")?;
     Some(word)
 }
 
-// What to type in place of an argument that the command of the first word doesn't take.
+// Returns what to type instead of an argument that the command of the first word doesn't take, if that is
+// known.
 fn tip_on_argument(alloc: Global, word: &str, first: &str) -> Result<Option<Vec<u8>>, AllocError> {
     for (argument, command, sentence) in OTHER_ARGUMENTS {
         let is_word = word.as_bytes() == argument.as_bytes();
@@ -309,7 +310,7 @@ fn tip_on_argument(alloc: Global, word: &str, first: &str) -> Result<Option<Vec<
     Ok(Some(tip.into_bytes()))
 }
 
-// What to type in place of a command of other programs.
+// Returns what to type instead of a command of other programs, if that is known.
 fn sentence_on_command(word: &str) -> Option<&'static str> {
     for (sentence, others) in OTHER_COMMANDS {
         if others.iter().any(|other| word == *other) {

@@ -1,4 +1,5 @@
--- What was read, and what hindered it, for the private contracts behind the commands (own).
+-- The input that was read, and what hindered reading, for the private contracts behind the commands (chosen
+-- by this project).
 use Rattle.std.specs.Prelude.{◌≡◌, ◌⊎◌, ℕ, List, Option, Some, None, Ok, Err}
 use Rattle.chip_asm.specs.Lines.{open_fault}
 use Rattle.chip_session.specs.KeyFile.{key_fault, session_under}
@@ -8,7 +9,7 @@ use Rattle.chip_host.specs.Endings.{IsShort, Outcome, failure_status}
 use Rattle.chip_host.specs.declared.ending.Failure.{Failure}
 use Rattle.chip_host.specs.declared.ending.Failure.TheVariants as failure
 
--- arguments that have a fault, or that memory ran out
+-- a fault of the arguments, or memory that ran out
 abbrev pub IsUsage : Outcome → Type 0
 IsUsage (Ok ending) = ⊥
 IsUsage (Err failure) = (failure_status failure ≡ 2) ⊎ (failure_status failure ≡ 4)
@@ -20,12 +21,12 @@ pub record IsSessionOf (settings : SessionSettings) (source keys : List ℕ) (se
   pub made : key_fault (session_of settings source) keys ≡ None
   pub is : session ≡ session_under (session_of settings source) keys
 
--- the first refused line of a key file hinders it
+-- the failure for the first refused line of a key file
 abbrev pub IsRefused : Option (ℕ × List ℕ) → Failure → Type 0
 IsRefused fault (failure.BadKeys name number code) = fault ≡ Some (number, code.0.now)
 IsRefused fault why = ⊥
 
--- the key events of a file can't all be made
+-- the failures that hinder making the key events of a file
 abbrev pub IsUnmade : SessionSettings → (source keys : List ℕ) → Failure → Type 0
 IsUnmade settings source keys why =
     IsShort why

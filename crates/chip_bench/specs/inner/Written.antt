@@ -1,5 +1,5 @@
--- What the commands wrote to files, where `wrote` says of bytes that a file took them: nothing says so
--- but a write that went well (own).
+-- The files that the commands wrote (chosen by this project). `wrote` says that a file took these bytes, and
+-- only a write that succeeded establishes it.
 --     IsFoundWritten    an image, if there is one
 --     IsImageWritten    the image of a source
 use Rattle.std.specs.Prelude.{◌≡◌, List, ℕ, Option, Some, None}
