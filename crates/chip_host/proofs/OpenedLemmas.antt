@@ -14,7 +14,7 @@ use Rattle.chip_host.specs.declared.ending.Ending.TheVariants.{Faulty}
 use Rattle.chip_host.specs.declared.ending.Failure.TheVariants as failure
 
 module _ {W : Type 0} (contents : W → Option (List ℕ)) (old new : Tally W) where
-  -- a source that doesn't open has why printed
+  -- the reason why a source doesn't open is printed
   pub refused : (e : OpenError) (ended : Outcome) → Refuses contents old new e ended → Prints contents old new (printed (unopened_text e) Faulty) ended
   refused (unopened.LineTooLong n) ended r = r
   refused unopened.TooManyLines ended r = r
@@ -34,7 +34,7 @@ module _ {W : Type 0} (contents : W → Option (List ℕ)) (old new : Tally W) (
       IfOpens contents old new (open_fault source) (Did (lines_of source)) ended
   opened_lines lines opens same did = rw opens (subst (λ (l : List (List ℕ)). Did l ended) same did)
 
-  -- it doesn't open, or memory ran out
+  -- the source doesn't open, or memory ran out
   pub unopened_lines : (e : OpenError) → IsUnopened source e → Refuses contents old new e ended →
       (ended ≡ Err failure.OutOfMemory → new ≡ old → Did (lines_of source) ended) →
       IfOpens contents old new (open_fault source) (Did (lines_of source)) ended

@@ -15,7 +15,7 @@ use Rattle.chip_host.specs.declared.ending.Failure.{Failure}
 use Rattle.chip_host.specs.declared.ending.Failure.TheVariants as failure
 use Rattle.chip_host.specs.declared.reading.AskedRun.{AskedRun}
 
--- settings that there are not, or no memory for them
+-- the settings are bad, or memory ran out for them
 abbrev pub Unsettles : Option SessionSettings → Failure → Type 0
 Unsettles asked why = (why ≡ failure.OutOfMemory) ⊎ ((is_bad_tape why ≡ true) × (asked ≡ None))
 
@@ -108,7 +108,7 @@ module _ {R : Type 0} (remaining : R → Option (List ℕ)) (in_old in_new : Tal
       given_next remaining in_old in_new (Unit {0}) V (Ok Done) ended (λ Why h. absurd h) is_image name (λ taken done. taken ≡ source) Did
       (λ taken e. rw e did) given
 
-  -- it wasn't
+  -- the source wasn't read
   pub given_else : (quiet : V) (why : Failure) → ended ≡ Err why → IsNotGiven remaining in_old in_new is_image name why →
       FromGiven remaining in_old in_new V is_image name Did ended
   given_else quiet why e unread =
@@ -125,7 +125,7 @@ module _ {R : Type 0} (remaining : R → Option (List ℕ)) (in_old in_new : Tal
       (λ settings keys source done. (settings ≡ asked.settings) × (keys ≡ asked.keys.bytes.items) × (source ≡ asked.source.items)) Did
       (λ settings keys source e. rw (e.0, e.1, e.2) did) is.0
 
-  -- they weren't
+  -- a run's arguments weren't read
   pub asked_not : (quiet : V) (why : Failure) → ended ≡ Err why → IsUnasked remaining in_old in_new arguments why →
       WithAsked remaining in_old in_new V arguments Did ended
   asked_not quiet why e is =
@@ -151,7 +151,7 @@ module _ {R : Type 0} (remaining : R → Option (List ℕ)) (in_old in_new : Tal
     settled,
   )
 
-  -- the source wasn't
+  -- the source wasn't read
   pub unasked_source : {T : Type 0} (settings : SessionSettings) (bytes : List ℕ) (result : Result T Failure) (why : Failure) → result ≡ Err why →
       settings_asked arguments.settings ≡ Some settings → (arguments.keys ≡ None → bytes ≡ []) → length bytes ≤ KEY_FILE_BYTES → IsNotGiven remaining in_old in_new arguments.is_image arguments.source why →
       IfErr result (λ y. IsUnasked remaining in_old in_new arguments y)

@@ -1,7 +1,7 @@
--- What the contracts of chip_host speak of (own).
+-- The subjects of the contracts of chip_host (chosen by this project).
 --     Endings          how commands end, and what hinders them
 --     Printing         what a command prints
---     SettingArguments what the arguments say of settings
+--     SettingArguments the settings that the arguments ask for
 --     Reading          what commands read
 pub mod Endings
 pub mod Printing

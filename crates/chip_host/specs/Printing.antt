@@ -1,9 +1,9 @@
--- What a command prints on standard output, and how it ends then (own).
---     Printed, printed, printed_by   a text and an ending; that of an answer
---     unopened_text, IsUnopened, printed_faults, ending_with    a source that doesn't open, its faults, how
+-- The text that a command prints on standard output, and its ending (chosen by this project).
+--     Printed, printed, printed_by   a text and an ending, and those of an answer
+--     unopened_text, IsUnopened, printed_faults, ending_with    a source that doesn't open, its faults, and how
 --                                    a command on it ends
 --     Prints, Streams, PrintsSuch, IfOpens, Refuses    what was printed of that
---     Fails                          nothing was
+--     Fails                          nothing was printed
 use Rattle.std.specs.Prelude.{◌≡◌, ◌⊎◌, ℕ, List, [], codes, Option, Some, None, Result, Ok, Err, IsErrAnd}
 use Rattle.std.specs.Io.KnownBytes.{Appends}
 use Rattle.chip_asm.specs.Lines.{open_fault}
@@ -21,7 +21,7 @@ use Rattle.chip_host.specs.declared.ending.Failure.TheVariants as failure
 use Rattle.chip_host.specs.Endings.{Outcome}
 use Rattle.chip_host.specs.declared.printing.Answer.{Answer}
 
--- what a command prints on standard output, and how it ends then
+-- the text that a command prints on standard output, and how the command ends after it
 pub record Printed : Type 0 where
   pub text : List ℕ
   pub ending : Ending
@@ -29,31 +29,31 @@ pub record Printed : Type 0 where
 abbrev pub printed : List ℕ → Ending → Printed
 printed text ending = record { text = text; ending = ending }
 
--- what an answer has printed
+-- the output for an answer
 abbrev pub printed_by : Answer → Printed
 printed_by answer = printed answer.text.items answer.ending
 
--- why a source doesn't open, as the program prints it; nothing where memory ran out
+-- the reason why a source doesn't open, as the program prints it; nothing if memory ran out
 abbrev pub unopened_text : OpenError → List ℕ
 unopened_text (unopened.LineTooLong number) = codes "no O1\n"
 unopened_text unopened.TooManyLines = codes "no O2\n"
 unopened_text unopened.OutOfMemory = []
 
--- why a source doesn't open, or that memory ran out as it was opened
+-- the reason why a source doesn't open: its fault, or memory that ran out as it was opened
 abbrev pub IsUnopened : (source : List ℕ) → OpenError → Type 0
 IsUnopened source fault = (fault ≡ unopened.OutOfMemory) ⊎ (open_fault source ≡ Some fault)
 
 abbrev pub printed_faults : List (List ℕ) → Printed
 printed_faults lines = printed (faults_text (faults_of lines)) Faulty
 
--- a source without an image is faulty
+-- the ending of a command on a source: faulty if there is no image
 abbrev pub ending_with : Option (List ℕ) → Ending
 ending_with (Some image) = Done
 ending_with None = Faulty
 
 module _ {W : Type 0} (contents : W → Option (List ℕ)) (old new : Tally W) where
-  -- What a command that prints this did: all of it, or a front where a write failed, or nothing for
-  -- that memory ran out.
+  -- The effects of a command that prints this: it printed all of it, or a front if a write failed, or nothing
+  -- if memory ran out.
   abbrev pub Prints : Printed → Result Ending Failure → Type 0
   Prints wanted (Ok ending) = (ending ≡ wanted.ending) × Writes contents old new wanted.text
   Prints wanted (Err failure.Output) = Breaks contents old new wanted.text
@@ -67,21 +67,21 @@ module _ {W : Type 0} (contents : W → Option (List ℕ)) (old new : Tally W) w
     pub appended : Appends (contents old.inner) (contents new.inner) front
     pub no_failure : new.failures ≡ old.failures
 
-  -- What a command that prints this part by part did: all of it, or a front where a write failed or
-  -- memory ran out.
+  -- The effects of a command that prints this part by part: it printed all of it, or a front if a write
+  -- failed or memory ran out.
   abbrev pub Streams : Printed → Result Ending Failure → Type 0
   Streams wanted (Ok ending) = (ending ≡ wanted.ending) × Writes contents old new wanted.text
   Streams wanted (Err failure.Output) = Breaks contents old new wanted.text
   Streams wanted (Err failure.OutOfMemory) = WritesFront wanted.text
   Streams wanted (Err _) = ⊥
 
-  -- What was printed passes a test, or memory ran out before.
+  -- Something that passes a test was printed, or memory ran out before.
   abbrev pub PrintsSuch : (Printed → Type 0) → Result Ending Failure → Type 0
   PrintsSuch P result =
       ((wanted : Printed) × P wanted × Prints wanted result)
       ⊎ ((result ≡ Err failure.OutOfMemory) × (new ≡ old))
 
-  -- a source that opens, or why it doesn't
+  -- the effects of a command on a source that opens; for any other source, the reason is printed
   abbrev pub IfOpens : Option OpenError → (Did : Result Ending Failure → Type 0)
       → Result Ending Failure → Type 0
   IfOpens None Did result = Did result
@@ -92,6 +92,6 @@ module _ {W : Type 0} (contents : W → Option (List ℕ)) (old new : Tally W) w
   Refuses unopened.OutOfMemory result = (result ≡ Err failure.OutOfMemory) × (new ≡ old)
   Refuses fault result = Prints (printed (unopened_text fault) Faulty) result
 
-  -- it ended on such a failure, and nothing was written
+  -- the command ended with such a failure, and nothing was written
   abbrev pub Fails : (Failure → Type 0) → Outcome → Type 0
   Fails Why ended = IsErrAnd ended Why × (new ≡ old)

@@ -1,4 +1,4 @@
--- The settings that the arguments ask for (own).
+-- The settings that the arguments ask for (chosen by this project).
 use Rattle.std.specs.Prelude.{ℕ, List, [], ◌∷◌, Option, Some, None, Result, Ok, Err, option_and_then}
 use Rattle.std.specs.Borrow.{Bor}
 use Rattle.hex.specs.Hex.{decode_of}
@@ -17,23 +17,23 @@ tape_by (Some digits) None = if_ok (decode_of digits.now)
 tape_by None (Some seed) = Some (tape_of seed)
 tape_by None None = Some (0 ∷ [])
 
--- The tape of `--tape HEX` or of `--seed N`, or one zero byte without both. Both together ask for
--- none, and so do digits that stand for no bytes.
+-- The tape of `--tape HEX` or of `--seed N`, or one zero byte without both. There is no tape if both are
+-- given, or if the digits stand for no bytes.
 abbrev pub tape_asked : SettingArguments → Option (List ℕ)
 tape_asked arguments = tape_by arguments.tape arguments.seed
 
--- the settings, where nothing is wrong with them
+-- the settings, if nothing is wrong with them
 abbrev pub if_faultless : Option SetError → SessionSettings → Option SessionSettings
 if_faultless None settings = Some settings
 if_faultless (Some why) settings = None
 
--- the settings of a tape and of what else the arguments say
+-- the settings with a tape, and with the rest of what the arguments say
 abbrev pub settings_with : SettingArguments → List ℕ → Option SessionSettings
 settings_with arguments tape =
     option_and_then (if_faultless (spacing_fault arguments.spacing))
     (if_faultless (settings_fault arguments.rate tape)
     (record { rate = arguments.rate; tape = tape; quirks = arguments.quirks; spacing = arguments.spacing }))
 
--- the settings that the arguments ask for, or none where their tape is bad
+-- the settings that the arguments ask for; none if their tape is bad
 abbrev pub settings_asked : SettingArguments → Option SessionSettings
 settings_asked arguments = option_and_then (settings_with arguments) (tape_asked arguments)

@@ -1,4 +1,4 @@
-//! How the program ends.
+//! The endings of the program, and the failures that hinder it.
 ghost use Rattle.std.specs.Prelude.{◌≡◌};
 ghost use Rattle.clap.specs.Words.{kind_of};
 ghost use Rattle.chip_host.specs.Endings.{ending_status, failure_status, settings_failure, arguments_failure};

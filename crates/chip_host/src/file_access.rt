@@ -1,4 +1,4 @@
-//! What commands do with files.
+//! The access of commands to files.
 ghost use Rattle.std.specs.Prelude.{ℕ, List, OnOk};
 
 use chip_files::{find_folder, read_file, write_file};
@@ -6,19 +6,19 @@ use std::alloc::Global;
 use std::io;
 use std::rt::Files;
 
-/// Files that can be read and written as a whole. The commands need no more of `Files`.
+/// Files that can be read and written as a whole. Commands need nothing else of `Files`.
 pub trait FileAccess {
-    // That a file of this name took these bytes. Nothing says so but a write that went well.
+    // A file of this name took these bytes. Only a write that succeeded establishes it.
     ghost wrote: { Self → (name bytes : List ℕ) → Type 0 };
 
-    /// What the file of a name has, up to `most` bytes.
+    /// Returns the contents of the file of a name, up to `most` bytes.
     fn read(&self, alloc: Global, name: &str, most: u32) -> io::Result<Vec<u8>>;
 
-    /// That there is a folder of a name, or why none is found.
+    /// Checks that there is a folder of a name. Fails with the reason if none is found.
     fn find_folder(&self, name: &str) -> io::Result<()>;
 
-    /// Writes the file of a name atomically. A file of the names in `taken`, where `file_name` gives that of
-    /// a source, isn't written.
+    /// Writes the file of a name atomically. A file with a name in `taken`, where `file_name` gives the name
+    /// of a source, isn't written.
     fn write(
         &self,
         alloc: Global,
@@ -30,7 +30,7 @@ pub trait FileAccess {
 }
 
 impl<F: Files> FileAccess for F {
-    // What a file of the system takes no contract says.
+    // No contract says what a file of the system takes.
     ghost wrote = { λ files name bytes. Unit {0} };
 
     fn read(&self, alloc: Global, name: &str, most: u32) -> io::Result<Vec<u8>> {

@@ -1,5 +1,5 @@
-//! What the commands of the program read from the system that it runs on, what they print, and how they
-//! end.
+//! The input and output of the commands: what they read from the system that the program runs on, what they
+//! print, and how they end.
 #![tactic(auto)]
 
 mod ending;

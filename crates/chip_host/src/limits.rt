@@ -2,11 +2,11 @@
 
 pub use chip_session::limits::{COMMAND_BYTES, SCRIPT_BYTES, SCRIPT_LINES};
 
-/// How many bytes before its comment a line of a file of key events has at most, where its key is a
-/// number: a command begins with `kins `. With a letter it has one fewer, since a `#` is put before it.
+/// The most bytes that a line of a file of key events has before its comment, if its key is a number: a
+/// command begins with `kins `. With a letter it has one fewer, since a `#` is put before the letter.
 pub(crate) const EVENT_BYTES: usize = COMMAND_BYTES - 5;
 
-/// How many bytes a file of key events has at most.
+/// The most bytes of a file of key events.
 pub const KEY_FILE_BYTES: u32 = 10_000_000;
 
 /// The most bytes of a file with a trace.

@@ -1,4 +1,4 @@
-//! What a command prints, and how it ends then.
+//! The output of a command, and how the command ends after it.
 ghost use Rattle.std.specs.Prelude.{◌≡◌, Err, IfErr, IfOk};
 ghost use Rattle.chip_asm.specs.Program.{image_of};
 ghost use Rattle.chip_host.specs.Printing.{Printed, Prints, Refuses, ending_with, printed, printed_by, printed_faults, unopened_text};
@@ -9,7 +9,7 @@ use chip_session::{Counted, faults_answer, write_all};
 use std::alloc::{AllocError, Global};
 use std::io::Write;
 
-/// What a command prints on standard output, and how it ends then.
+/// The text that a command prints on standard output, and how the command ends after it.
 #[derive(Drop)]
 pub struct Answer {
     pub text: Vec<u8>,
@@ -17,7 +17,7 @@ pub struct Answer {
 }
 
 impl Answer {
-    /// A text on a source, which is faulty where it has no image.
+    /// Returns an answer with a text about a source. The answer is faulty if the source has no image.
     pub fn on(source: &Source, text: Vec<u8>) -> Answer
         ensures { printed_by result ≡ printed text.items (ending_with (image_of source.now.lines)) }
     {
@@ -50,7 +50,7 @@ pub fn deliver<'a, O: Write>(
     }
 }
 
-/// The faults of a source.
+/// Returns the faults of a source as an answer.
 pub fn faults(alloc: Global, source: &Source) -> Result<Answer, AllocError>
     ensures { IfOk result (λ answer. printed_by answer ≡ printed_faults source.now.lines) }
 {
@@ -60,7 +60,7 @@ pub fn faults(alloc: Global, source: &Source) -> Result<Answer, AllocError>
     })
 }
 
-/// Prints why a source doesn't open.
+/// Prints why a source doesn't open. Prints nothing and fails if memory ran out.
 pub fn refuse_source<'a, O: Write>(
     error: OpenError,
     output: &mut Counted<O>,
@@ -73,7 +73,7 @@ pub fn refuse_source<'a, O: Write>(
     }
 }
 
-/// Why a source doesn't open, as the program prints it; nothing where memory ran out.
+/// Returns why a source doesn't open, as the program prints it. The text is empty if memory ran out.
 pub fn unopened_text(error: OpenError) -> &'static [u8]
     ensures { result.now ≡ unopened_text error }
 {
@@ -84,7 +84,7 @@ pub fn unopened_text(error: OpenError) -> &'static [u8]
     }
 }
 
-/// Prints bytes, and ends so.
+/// Prints bytes, and returns the ending. Fails if a write fails.
 pub fn print<'a, O: Write>(
     bytes: &[u8],
     ending: Ending,

@@ -1,4 +1,4 @@
-//! What the commands read: settings, sources, images and files of key events.
+//! The input of the commands: settings, sources, images and files of key events.
 ghost use Rattle.std.specs.Prelude.{◌≡◌, ◌<◌, ◌≤◌, ◌⊎◌, [], true, Ok, None, Some, length, IfOk, IfErr};
 ghost use Rattle.chip_host.specs.Endings.{is_bad_tape};
 ghost use Rattle.chip_lang.specs.declared.limits.TheConstants.{IMAGE_BYTES};
@@ -23,16 +23,16 @@ use std::io::{Read, Write};
 // The name of a source that is read from the standard input.
 const INPUT: &str = "-";
 
-// How many bytes of a file are looked at to see whether it is an image or a text.
+// The number of first bytes of a file that show whether it is an image or a text.
 const FIRST_BYTES: usize = 64;
 
-// A shorter file isn't taken for a text.
+// The fewest bytes of a file that is taken for a text.
 const LEAST_TEXT: usize = 8;
 
 /// A source of this length or more doesn't open.
 pub const MOST_SOURCE: u32 = SOURCE_BYTES as u32 + 1;
 
-/// The name of the file that a source is read from, or of the standard input.
+/// Returns the name of the file that a source is read from, or of the standard input.
 pub fn file_name(source: &str) -> &str {
     if source == INPUT {
         STANDARD_INPUT
@@ -41,7 +41,7 @@ pub fn file_name(source: &str) -> &str {
     }
 }
 
-/// The settings that the arguments ask for.
+/// Returns the settings that the arguments ask for. Fails if the tape is bad or memory runs out.
 pub fn settings_of<'a>(
     alloc: Global,
     arguments: &SettingArguments<'_>,
@@ -55,7 +55,7 @@ pub fn settings_of<'a>(
     Ok(settings.with_spacing(arguments.spacing)?)
 }
 
-// The tape that the arguments ask for. A tape and a seed don't go together.
+// Returns the tape that the arguments ask for. A tape and a seed don't go together.
 fn tape_bytes<'a>(alloc: Global, arguments: &SettingArguments<'_>) -> Result<Vec<u8>, Failure<'a>>
     ensures ok { IfOk result (λ tape. tape_asked arguments.now ≡ Some tape.items) }
     ensures err { IfErr result (λ failure. (failure ≡ Failure.OutOfMemory)
@@ -74,14 +74,14 @@ fn tape_bytes<'a>(alloc: Global, arguments: &SettingArguments<'_>) -> Result<Vec
     }
 }
 
-/// A file of key events: its name, and its bytes. Without one there are no bytes.
+/// A file of key events: its name, and its bytes. Without a file there are no bytes.
 #[derive(Drop)]
 pub struct KeyFile<'a> {
     pub name: &'a str,
     pub bytes: Vec<u8>,
 }
 
-/// What a run is asked on: a source, a file of key events and settings.
+/// The inputs of a run: a source, a file of key events and settings.
 #[derive(Drop)]
 pub struct AskedRun<'a> {
     pub source: Vec<u8>,
@@ -91,7 +91,8 @@ pub struct AskedRun<'a> {
     pub name: &'a str,
 }
 
-/// The settings are judged before a file is read, and the key events are read before the source.
+/// Reads the inputs of a run. The settings are judged before a file is read, and the key events are read
+/// before the source.
 pub fn read_asked<'a, F: FileAccess, I: Read, E: Write>(
     system: &System<'_, F>,
     arguments: &RunArguments<'a>,
@@ -114,7 +115,7 @@ pub fn read_asked<'a, F: FileAccess, I: Read, E: Write>(
     })
 }
 
-// The file of key events of that name, or no events without one.
+// Reads the file of key events of that name. Without a name there are no events.
 fn read_keys<'a, F: FileAccess>(
     system: &System<'_, F>,
     name: Option<&'a str>,
@@ -135,7 +136,7 @@ fn read_keys<'a, F: FileAccess>(
     }
 }
 
-/// The source of that name, or where an image has the name, what `dis` prints of it.
+/// Returns the source of that name or, if the name is that of an image, the source that `dis` prints of it.
 pub fn read_given<'a, F: FileAccess, I: Read, E: Write>(
     system: &System<'_, F>,
     name: &'a str,
@@ -154,8 +155,7 @@ pub fn read_given<'a, F: FileAccess, I: Read, E: Write>(
     as_source(system.alloc, name, is_image, bytes, errors)
 }
 
-/// Says on the standard error, where somebody reads it, that a file that is given as an image looks like
-/// a source.
+/// Says on standard error, if somebody reads it, that a file that is given as an image looks like a source.
 pub fn tell_text<F, E: Write>(system: &System<'_, F>, name: &str, bytes: &[u8], errors: &mut E) {
     if system.host.has_reader && is_text(bytes) {
         let _ = write!(
@@ -167,7 +167,7 @@ pub fn tell_text<F, E: Write>(system: &System<'_, F>, name: &str, bytes: &[u8], 
     }
 }
 
-// Whether the first bytes of a file are those of lines of text.
+// Whether a file looks like lines of text, by its length, its first bytes and a line feed.
 fn is_text(bytes: &[u8]) -> bool {
     bytes.len() >= LEAST_TEXT
         && bytes.contains(&b'\n')
@@ -177,8 +177,8 @@ fn is_text(bytes: &[u8]) -> bool {
         ))
 }
 
-/// The bytes themselves, or the source that `dis` prints of them. Where an image was given as a
-/// source, a hint says so on the standard error.
+/// Returns the bytes themselves or, for an image, the source that `dis` prints of them. If an image was given
+/// as a source, a hint on standard error says so.
 pub fn as_source<'a, E: Write>(
     alloc: Global,
     name: &'a str,
@@ -195,8 +195,8 @@ pub fn as_source<'a, E: Write>(
         }
         return Ok(source_of_image(alloc, &bytes)?);
     }
-    // A control byte among the first ones that neither a text has nor the language takes for a blank, as it
-    // does 26, is one of an image.
+    // A control byte among the first bytes marks an image, unless texts have it or the language takes it for
+    // a blank, as it does 26.
     if bytes.iter().take(FIRST_BYTES).any(|byte| *byte < b' '
         && !matches!(*byte, b'\t' | b'\n' | b'\r' | 0x0c | 0x1a | 0x1b))
     {
@@ -209,7 +209,7 @@ pub fn as_source<'a, E: Write>(
     Ok(bytes)
 }
 
-/// The bytes of a file, or of the standard input where the name is `-`.
+/// Returns the bytes of a file, or of the standard input if the name is `-`: at most `MOST_SOURCE`.
 pub fn read_source<'a, F: FileAccess, I: Read>(
     system: &System<'_, F>,
     name: &'a str,
@@ -226,7 +226,7 @@ pub fn read_source<'a, F: FileAccess, I: Read>(
     let mut bytes = Vec::new(system.alloc);
     match read_most(&mut *input, &mut bytes, MOST_SOURCE) {
         Ok(()) => Ok(bytes),
-        // Where no read failed memory ran out for the bytes.
+        // If no read failed, memory ran out for the bytes.
         Err(_) if input.failures() == failures => Err(Failure::OutOfMemory),
         Err(_) => Err(Failure::Input),
     }

@@ -1,4 +1,4 @@
-//! What the program runs on: memory, files, and what it is told of them.
+//! The system that the program runs on: memory, files, and what the program is told about it.
 ghost use Rattle.std.specs.Prelude.{◌≤◌, length, IfOk, IfErr, OnOk};
 ghost use Rattle.chip_host.specs.Endings.{IsFileWritten, IsUnread, IsUnreadWithin};
 
@@ -7,14 +7,14 @@ use crate::file_access::FileAccess;
 use std::alloc::Global;
 use std::io;
 
-/// What the program is told of the system that it runs on.
+/// A description of the system that the program runs on.
 #[derive(Clone, Copy)]
 pub struct Host {
-    /// From which number on the names of a session's source are hashed. No answer depends on it.
+    /// The seed with which the names of a session's source are hashed. No answer depends on it.
     pub name_seed: u64,
     /// Whether the output takes colours, as a terminal does.
     pub takes_color: bool,
-    /// Whether somebody reads what is said on standard error while it is said, as at a terminal.
+    /// Whether somebody reads the messages on standard error as they appear, as at a terminal.
     pub has_reader: bool,
     /// Whether somebody types the input, as at a terminal.
     pub is_typed: bool,
@@ -29,7 +29,7 @@ pub struct System<'s, F> {
 }
 
 impl<'s, F: FileAccess> System<'s, F> {
-    /// The bytes of a file, up to a number.
+    /// Returns the bytes of a file, at most `most`.
     pub fn read<'a>(&self, name: &'a str, most: u32) -> Result<Vec<u8>, Failure<'a>>
         ensures { IfErr result (IsUnread name.entry) }
     {
@@ -40,7 +40,7 @@ impl<'s, F: FileAccess> System<'s, F> {
         }
     }
 
-    /// The bytes of a file, unless there are over so many.
+    /// Returns the bytes of a file. Fails if there are more than `most`.
     pub fn read_within<'a>(&self, name: &'a str, most: u32) -> Result<Vec<u8>, Failure<'a>>
         ensures ok { IfOk result (λ bytes. length bytes.items ≤ most) }
         ensures err { IfErr result (IsUnreadWithin most name.entry) }
@@ -52,7 +52,7 @@ impl<'s, F: FileAccess> System<'s, F> {
         Ok(bytes)
     }
 
-    /// Writes a file atomically. A file of the names that are taken stays.
+    /// Writes a file atomically. A file with one of the names in `taken` stays as it is.
     pub fn write<'a>(
         &self,
         taken: &[Option<&str>],
