@@ -14,7 +14,7 @@ pub stops : {T : Type 0} (first next : Kinds) (result : Result T Error) (e : Err
 stops first next (Ok x) e is has = absurd is
 stops first next (Err y) e is has = rw is (still_fails first next e has)
 
--- where there is none, the next is judged
+-- without a fault, the next argument is judged
 pub after : {T : Type 0} (first next : Kinds) (result : Result T Error) → first ≡ [] → FailsBy next result → FailsBy (or_else first next) result
 after first next result none fails = rw none fails
 
@@ -39,7 +39,7 @@ module _ (fault : Option (List ℕ) → Kinds) (arguments : List (Bor (List ℕ)
   goes_on i nothing within none same =
       ap (λ (kinds : Kinds). or_else kinds (first_from (i + 1))) (sym none) ∙ sym (step i nothing within) ∙ same
 
-  -- and the fault of a value, which a `?` hands on, is that of all
+  -- the fault of a value, which a `?` hands on, is that of all
   pub fails_here : {T : Type 0} (result : Result T Error) (i : ℕ) (nothing : Bor (List ℕ) × Bor (List ℕ)) (e : Error) → IsErrAnd result (λ handed. handed ≡ e) →
       i < length arguments → HasKind (fault (first_of (get_or arguments i nothing).0.now rows)) e →
       first_from i ≡ first_value_fault fault ids rows → FailsBy (first_value_fault fault ids rows) result

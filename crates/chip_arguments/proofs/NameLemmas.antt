@@ -155,7 +155,7 @@ without_last name last (x ∷ known) (inr rest) differs = inr (without_last name
 first_same : (x y : Text × List Row) → Some x ≡ Some y → x.0 ≡ y.0
 first_same x y e = let same : x ≡ y = cc in ap (λ (z : Text × List Row). z.0) same
 
--- of the commands that `clap` builds
+-- the name of the command that is entered is one of the commands that `clap` builds, and isn't `help`
 entered_name : (a : App) (stop : Option (Text × List Text)) (name : List ℕ) (rows : List Row) → list_all (λ (s : Shape). has_none s.aliases) a.subs ≡ true
     → IsNoHelp stop → entered a stop ≡ Some (name, rows) → IsOneOf name (map (λ (s : Shape). s.name) a.subs) × (name ≡ codes "help" → ⊥)
 entered_name a None name rows plain before e = absurd (none_some e)

@@ -1,4 +1,4 @@
--- Texts that are numbers have decimal digits alone.
+-- Texts that are numbers have only decimal digits.
 use Rattle.std.proofs.Common.{◌≡◌, ◌∙◌, ◌≤◌, ℕ, true, false, List, [], ◌∷◌, refl, sym, arith}
 use Rattle.std.specs.Char.{is_ascii_digit}
 use Rattle.std.specs.List.{list_all}

@@ -94,7 +94,7 @@ judged_alone {rows} {word} {row} {old} {sub} {new} is alone made each adds rest 
 pub judged_by_all : (word : Text) (command : Command) → app_of command ≡ chipbench → (rest : List Text) → JudgesAsAll (word ∷ rest) (app_of command)
 judged_by_all word command is rest = subst (JudgesAsAll (word ∷ rest)) (sym is) (record { exact = is_exact; fault = refl; command = refl })
 
--- at arguments that begin with that word
+-- arguments that begin with that word are judged alike
 pub judged_at : {T : Type 0} {word : Text} {app : App} (text : T → Text) (arguments : List T) (first : T) → Some first ≡ slice_get arguments 0 → word ≡ text first
     → ((rest : List Text) → JudgesAsAll (word ∷ rest) app) → JudgesAsAll (map text arguments) app
 judged_at text [] first begins is judges = cc

@@ -1,4 +1,4 @@
--- What the arguments ask for, by the values that `clap` finds in them (own).
+-- The command that the arguments ask for, by the values that `clap` finds in them (chosen by this project).
 use Rattle.std.specs.Prelude.{◌≡◌, ℕ, ◌<◌, ◌^◌, Bool, true, false, List, [], ◌∷◌, codes, map, Option, Some, None, option_copied, is_some, unwrap_or, if◌then◌else◌}
 use Rattle.std.specs.Char.{is_ascii_digit}
 use Rattle.std.specs.List.{list_all}
@@ -33,7 +33,7 @@ numbers =
     codes "steps" ∷ codes "states" ∷ codes "memory" ∷ codes "from" ∷ codes "rate" ∷ codes "seed"
     ∷ codes "every" ∷ codes "only" ∷ codes "seconds" ∷ codes "scale" ∷ []
 
--- a number with anything but decimal digits, such as a sign
+-- the fault of a number with anything but decimal digits, such as a sign
 abbrev pub number_fault : Option (List ℕ) → Kinds
 number_fault None = []
 number_fault (Some text) =
@@ -43,30 +43,30 @@ number_fault (Some text) =
 abbrev pub new_files : List (List ℕ)
 new_files = codes "output" ∷ codes "pbm" ∷ codes "png" ∷ codes "keys-to" ∷ []
 
--- the name that stands for standard output
+-- the fault of a file to write whose name stands for standard output
 abbrev pub new_file_fault : Option (List ℕ) → Kinds
 new_file_fault None = []
 new_file_fault (Some name) =
     if bytes_eq name (codes "-") then kind.InvalidValue ∷ [] else []
 
--- a flag that is set beside an argument that it does not go with
+-- the fault of a flag that is set beside an argument that it does not go with
 abbrev pub clash_fault : (flag other : Option (List ℕ)) → Kinds
 clash_fault (Some value) (Some text) =
     if bytes_eq value (codes "true") then kind.ArgumentConflict ∷ [] else []
 clash_fault flag other = []
 
--- two arguments that don't go together
+-- the fault of two arguments that don't go together
 abbrev pub both_fault : (first second : Option (List ℕ)) → Kinds
 both_fault (Some one) (Some other) = kind.ArgumentConflict ∷ []
 both_fault first second = []
 
--- a scale without a file for the picture
+-- the fault of a scale without a file for the picture
 abbrev pub scale_fault : (scale bitmap png : Option (List ℕ)) → Kinds
 scale_fault (Some scale) None None = kind.MissingRequiredArgument ∷ []
 scale_fault scale bitmap png = []
 
--- JSON and another trace, ASCII and a file for the picture, and two properties don't go together;
--- a scale goes with a file for the picture alone
+-- the first fault of arguments beside others: JSON and another trace, ASCII and a file for the picture, and
+-- two properties don't go together, and a scale needs a file for the picture
 abbrev pub clash_faults : List Row → Kinds
 clash_faults rows =
     or_else (clash_fault (first_of (codes "json") rows) (first_of (codes "against") rows))
@@ -75,12 +75,12 @@ clash_faults rows =
     (or_else (both_fault (first_of (codes "never") rows) (first_of (codes "always") rows))
     (scale_fault (first_of (codes "scale") rows) (first_of (codes "pbm") rows) (first_of (codes "png") rows)))))
 
--- the name of a profile that there is not, or a list of what are no choices of quirks
+-- the fault of a profile that doesn't exist, or of a list that isn't one of choices of quirks
 abbrev pub quirks_fault : (name list : Option (List ℕ)) → Kinds
 quirks_fault name list =
     if is_some (quirks_asked name list) then [] else kind.InvalidValue ∷ []
 
--- a word for when there are colours that there is not
+-- the fault of an unknown word for when there are colours
 abbrev pub color_fault : Option (List ℕ) → Kinds
 color_fault None = []
 color_fault (Some word) =
@@ -102,34 +102,34 @@ value_faults rows =
     (or_else (color_fault (first_of (codes "color") rows))
     (quirks_fault (first_of (codes "profile") rows) (first_of (codes "quirks") rows)))))
 
--- the same, of the arguments of a command
+-- the kinds of fault of the values of a command, if the arguments name one
 abbrev pub faults_below : Option (List ℕ × List Row) → Kinds
 faults_below None = []
 faults_below (Some command) = value_faults command.1
 
--- the kinds of fault of the arguments: those that `clap` finds, and else those of the values
+-- the kinds of fault of the arguments: those that `clap` finds, or otherwise those of the values
 unfoldable pub argument_faults : List (List ℕ) → Kinds
 argument_faults arguments =
     or_else (fault_of chipbench arguments) (faults_below (subcommand_of chipbench arguments))
 
--- a text of decimal digits, of a number that fits in so many bits
+-- a text of decimal digits, of a number that fits in that many bits
 abbrev pub IsNumber : ℕ → List ℕ → Type 0
 IsNumber bits text = IsNumeral 10 text × (digits_value 10 text < 2 ^ bits)
 
--- the number that a text stands for, where there is a text and it is a number
+-- the number that a text stands for, if there is a text and it is a number
 abbrev pub ReadsNumber : ℕ → Option (List ℕ) → Option ℕ → Type 0
 ReadsNumber bits None number = number ≡ None
 ReadsNumber bits (Some text) None = IsNumber bits text → ⊥
 ReadsNumber bits (Some text) (Some number) =
     IsNumber bits text × (number ≡ digits_value 10 text)
 
--- the same, with a number in its place
+-- the number that a text stands for, or otherwise the default
 pub record ReadsOr (bits : ℕ) (text : Option (List ℕ)) (default number : ℕ) : Type 0 where
   pub read : Option ℕ
   pub reads : ReadsNumber bits text read
   pub number_is : number ≡ unwrap_or read default
 
--- the quirks that they ask for
+-- the quirks that the values of a command ask for
 abbrev pub AsksQuirks : List Row → Quirks → Type 0
 AsksQuirks rows quirks =
     quirks_asked (first_of (codes "profile") rows) (first_of (codes "quirks") rows) ≡ Some quirks
@@ -146,7 +146,7 @@ pub record AsksSettings (rows : List Row) (arguments : SettingArguments) : Type 
 abbrev pub needed : List ℕ → List Row → List ℕ
 needed id rows = unwrap_or (first_of id rows) []
 
--- a flag is set where its value is `true`
+-- a flag is set if its value is `true`
 pub record AsksFlag (value : Option (List ℕ)) (is_set : Bool) : Type 0 where
   pub set : value ≡ Some (codes "true") → is_set ≡ true
   pub unset : value ≡ Some (codes "false") → is_set ≡ false
@@ -160,14 +160,14 @@ pub record AsksRun (rows : List Row) (arguments : RunArguments) : Type 0 where
   pub keys : option_copied arguments.keys ≡ first_of (codes "keys") rows
   pub settings : AsksSettings rows arguments.settings
 
--- when there are colours; without a word that is left to the program
+-- when there are colours; without a word, the program decides
 abbrev pub color_asked : Option (List ℕ) → ColorChoice
 color_asked None = Auto
 color_asked (Some word) =
     if bytes_eq word (codes "always") then Always
     else (if bytes_eq word (codes "never") then Never else Auto)
 
--- the check that they ask for
+-- the check that the values of a command ask for
 pub record AsksCheck (rows : List Row) (arguments : CheckArguments) : Type 0 where
   pub sources : map (λ source. source.now) arguments.sources.items
       ≡ unwrap_or (all_of (codes "sources") rows) []
@@ -178,7 +178,7 @@ pub record AsksCheck (rows : List Row) (arguments : CheckArguments) : Type 0 whe
   pub is_covering : AsksFlag (one_of (codes "cover") rows) arguments.is_covering
   pub seconds : ReadsNumber 32 (first_of (codes "seconds") rows) arguments.seconds
 
--- the trace that they ask for
+-- the trace that the values of a command ask for
 pub record AsksTrace (rows : List Row) (arguments : TraceArguments) : Type 0 where
   pub run : AsksRun rows arguments.run
   pub from : ReadsOr 32 (first_of (codes "from") rows) 0 arguments.from
@@ -186,7 +186,7 @@ pub record AsksTrace (rows : List Row) (arguments : TraceArguments) : Type 0 whe
   pub is_json : AsksFlag (one_of (codes "json") rows) arguments.is_json
   pub against : option_copied arguments.against ≡ first_of (codes "against") rows
 
--- the picture that they ask for
+-- the picture that the values of a command ask for
 pub record AsksPicture (rows : List Row) (arguments : PictureArguments) : Type 0 where
   pub run : AsksRun rows arguments.run
   pub ascii : AsksFlag (one_of (codes "ascii") rows) arguments.ascii
@@ -194,13 +194,13 @@ pub record AsksPicture (rows : List Row) (arguments : PictureArguments) : Type 0
   pub png : option_copied arguments.png ≡ first_of (codes "png") rows
   pub scale : ReadsOr 32 (first_of (codes "scale") rows) 1 arguments.scale
 
--- the test that they ask for
+-- the test that the values of a command ask for
 pub record AsksTest (rows : List Row) (arguments : TestArguments) : Type 0 where
   pub files : map (λ file. file.now) arguments.files.items ≡ unwrap_or (all_of (codes "files") rows) []
   pub is_update : AsksFlag (one_of (codes "update") rows) arguments.is_update
   pub is_tap : AsksFlag (one_of (codes "tap") rows) arguments.is_tap
 
--- how the search goes that they ask for
+-- the way of searching that the values of a command ask for
 pub record AsksSearch (rows : List Row) (arguments : SearchArguments) : Type 0 where
   pub source : arguments.source.now ≡ needed (codes "source") rows
   pub steps : ReadsNumber 32 (first_of (codes "steps") rows) arguments.steps
@@ -215,7 +215,7 @@ pub record AsksSearch (rows : List Row) (arguments : SearchArguments) : Type 0 w
   pub is_without_facts : AsksFlag (one_of (codes "no-facts") rows) arguments.is_without_facts
   pub settings : AsksSettings rows arguments.settings
 
--- what they have searched for
+-- the search of `explore` that the values of a command ask for
 pub record AsksExplore (rows : List Row) (arguments : ExploreArguments) : Type 0 where
   pub search : AsksSearch rows arguments.search
   pub is_image : AsksFlag (one_of (codes "image") rows) arguments.is_image
@@ -225,13 +225,13 @@ pub record AsksExplore (rows : List Row) (arguments : ExploreArguments) : Type 0
   pub always : option_copied arguments.always ≡ first_of (codes "always") rows
   pub is_covering : AsksFlag (one_of (codes "cover") rows) arguments.is_covering
 
--- which properties they have answered, and how
+-- which properties the values of a command ask `prove` to answer, and how
 pub record AsksProve (rows : List Row) (arguments : ProveArguments) : Type 0 where
   pub search : AsksSearch rows arguments.search
   pub only : ReadsNumber 32 (first_of (codes "only") rows) arguments.only
   pub is_json : AsksFlag (one_of (codes "json") rows) arguments.is_json
 
--- What the values of a command of that name ask for.
+-- The command that the values of a command of that name ask for.
 abbrev pub Asks : List ℕ → List Row → CommandLine → Type 0
 Asks name rows (line.Asm source image) =
     (name ≡ codes "asm") × (source.now ≡ needed (codes "source") rows)
@@ -259,8 +259,8 @@ Asks name rows (line.Debug source is_image is_quiet settings) =
     × AsksFlag (one_of (codes "image") rows) is_image
     × AsksFlag (one_of (codes "quiet") rows) is_quiet × AsksSettings rows settings
 
--- what the arguments ask for, by the command that they name; without one, a session on the empty
--- source
+-- the command that the arguments ask for, by the command that they name; without a command, a session on the
+-- empty source
 abbrev pub AsksBy : Option (List ℕ × List Row) → CommandLine → Type 0
 AsksBy None asked = asked ≡ line.Debug None false false default_arguments
 AsksBy (Some command) asked = Asks command.0 command.1 asked

@@ -1,5 +1,5 @@
--- The command line of the program, as `clap` sees it (own). A command and an argument stand for
--- themselves in clauses: what they are is unfolded where it is used.
+-- The command line of the program, as `clap` sees it (chosen by this project). Clauses name commands and
+-- arguments by these definitions, which are unfolded where they are used.
 use Rattle.std.specs.Prelude.{ℕ, List, [], ◌∷◌, Some, codes, true, pos}
 use Rattle.clap.specs.Words.{App, Rule, new_app, new_rule, with_rule, with_subcommand}
 use Rattle.chip_replay.specs.declared.limits.TheConstants.{LAST_STEP, LEAST_SPACING, MOST_RATE, MOST_SPACING}
@@ -15,11 +15,11 @@ flag name = record (new_rule name) { long = Some name; action = Some SetTrue }
 abbrev pub option : List ℕ → Rule
 option name = record (new_rule name) { long = Some name; value_names = 1 }
 
--- the same, whose value is a number in a range
+-- an argument `--NAME VALUE` whose value is a number in a range
 abbrev pub number : List ℕ → (least most : ℕ) → Rule
 number name least most = record (option name) { parser = Some (vp.Signed (pos least) (pos most)) }
 
--- an argument that stands at its place alone
+-- an argument that is known by its place alone
 abbrev pub place : List ℕ → Rule
 place name = record (new_rule name) { value_names = 1; action = Some Set }
 
@@ -60,7 +60,7 @@ quirks = option (codes "quirks")
 unfoldable pub every : Rule
 every = number (codes "every") LEAST_SPACING MOST_SPACING
 
--- SOURCE is an image
+-- the flag that says that SOURCE is an image
 unfoldable pub as_image : Rule
 as_image = flag (codes "image")
 
@@ -68,7 +68,7 @@ unfoldable pub with_settings : App → App
 with_settings app =
     with_rule (with_rule (with_rule (with_rule (with_rule app rate) tape) seed) profile) quirks
 
--- nothing is said at a terminal beside the answers
+-- the flag that switches off the messages at a terminal besides the answers
 unfoldable pub quiet : Rule
 quiet = flag (codes "quiet")
 
@@ -80,7 +80,7 @@ debug =
 unfoldable pub asm : App
 asm = with_rule (with_rule (new_app (codes "asm")) needed_source) output
 
--- values in hexadecimal
+-- the flag for values in hexadecimal
 unfoldable pub hex : Rule
 hex = flag (codes "hex")
 
@@ -90,7 +90,7 @@ list = with_rule (with_rule (with_rule (new_app (codes "list")) needed_source) h
 unfoldable pub syms : App
 syms = with_rule (with_rule (new_app (codes "syms")) needed_source) hex
 
--- a JSON object a line
+-- the flag for a JSON object per line
 unfoldable pub json : Rule
 json = flag (codes "json")
 
@@ -106,7 +106,7 @@ sources = record (place (codes "sources")) { action = Some Append; required = tr
 unfoldable pub color : Rule
 color = option (codes "color")
 
--- what key scripts execute
+-- the flag that asks for what key scripts execute
 unfoldable pub cover : Rule
 cover = flag (codes "cover")
 
@@ -188,7 +188,7 @@ search_steps = number (codes "steps") 0 LAST_STEP
 unfoldable pub states : Rule
 states = record (number (codes "states") 1 MOST_STATES) { defaults = codes "1000000" ∷ [] }
 
--- how many megabytes a search holds at most
+-- the most megabytes that a search holds
 unfoldable pub memory : Rule
 memory = record (number (codes "memory") 1 MOST_MEMORY) { defaults = codes "1000" ∷ [] }
 
@@ -205,26 +205,26 @@ keys_to = option (codes "keys-to")
 unfoldable pub reach : Rule
 reach = option (codes "reach")
 
--- a property that is looked for: where it holds, and where it doesn't
+-- a condition that a search looks for: `never` for a state where it holds, `always` for one where it doesn't
 unfoldable pub never : Rule
 never = option (codes "never")
 
 unfoldable pub always : Rule
 always = option (codes "always")
 
--- the line of the one property that is answered
+-- the line of the only property that is answered
 unfoldable pub only : Rule
 only = number (codes "only") 1 MOST_LINE
 
--- a second search, of the deepest states first
+-- the flag for a second search, of the deepest states first
 unfoldable pub deep : Rule
 deep = flag (codes "deep")
 
--- a search that looks for an answer at any speed
+-- the flag for a search that looks for an answer at any speed
 unfoldable pub any_speed : Rule
 any_speed = flag (codes "any-speed")
 
--- a search that begins at once
+-- the flag for a search that begins at once, without facts
 unfoldable pub no_facts : Rule
 no_facts = flag (codes "no-facts")
 
@@ -258,12 +258,12 @@ without_name app = record app { top = record app.top { no_binary_name = true } }
 abbrev pub with_version : App → App
 with_version app = record app { top = record app.top { has_version = true } }
 
--- these commands, in order
+-- a program with these commands, in order
 abbrev pub with_commands : App → List App → App
 with_commands app [] = app
 with_commands app (command ∷ commands) = with_commands (with_subcommand app command.top) commands
 
--- the program's commands
+-- the program with its commands
 unfoldable pub chipbench : App
 chipbench =
     with_commands (without_name (with_version (new_app (codes "chipbench"))))

@@ -1,4 +1,4 @@
--- What `--version` prints (own).
+-- The output of `--version` (chosen by this project).
 use Rattle.std.specs.Prelude.{ℕ, List, ◌++◌, codes}
 use Rattle.chip_arguments.specs.declared.commands.TheConstants.{VERSION}
 

@@ -1,2 +1,2 @@
--- What private contracts say: what is built of a command.
+-- Definitions for private contracts: how commands are built.
 pub mod Built

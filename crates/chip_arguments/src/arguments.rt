@@ -64,7 +64,7 @@ pub(crate) enum Argument {
 }
 
 impl Argument {
-    /// The argument as `clap` takes it.
+    /// Returns the argument as `clap` takes it.
     #[tactic(auto, unfolding(crate::proofs::ArgumentRules::argument_rules))]
     pub(crate) fn build<'a>(self, alloc: Global) -> Arg<'a>
         ensures rule { rule_of result ≡ rule_by self }
@@ -131,7 +131,7 @@ impl Argument {
         }
     }
 
-    // What the help says of it.
+    // Returns the text of the argument in the help.
     fn help<'a>(self) -> &'a str {
         match self {
             Argument::Source => "The source to begin with [default: the empty source]",
@@ -231,7 +231,7 @@ impl Argument {
     }
 }
 
-// An argument `--NAME VALUE`.
+// Returns an argument `--NAME VALUE`.
 fn option<'a>(alloc: Global, name: &'a str, value: &'a str, help: &'a str) -> Arg<'a>
     ensures rule { rule_of result ≡ line.option name.entry.now }
     ensures local { result.global ≡ false }
@@ -242,7 +242,7 @@ fn option<'a>(alloc: Global, name: &'a str, value: &'a str, help: &'a str) -> Ar
         .help(help)
 }
 
-// An argument `--NAME VALUE` whose value is a number in a range.
+// Returns an argument `--NAME VALUE` whose value is a number in a range.
 fn number<'a>(
     alloc: Global,
     name: &'a str,
@@ -260,7 +260,7 @@ fn number<'a>(
     ))
 }
 
-// An argument `--NAME` without a value.
+// Returns an argument `--NAME` without a value.
 fn flag<'a>(alloc: Global, name: &'a str, help: &'a str) -> Arg<'a>
     ensures rule { rule_of result ≡ line.flag name.entry.now }
     ensures local { result.global ≡ false }
@@ -271,7 +271,7 @@ fn flag<'a>(alloc: Global, name: &'a str, help: &'a str) -> Arg<'a>
         .action(ArgAction::SetTrue)
 }
 
-// An argument that stands at its place alone.
+// Returns an argument that is known by its place alone.
 fn place<'a>(alloc: Global, name: &'a str, value: &'a str, help: &'a str) -> Arg<'a>
     ensures rule { rule_of result ≡ line.place name.entry.now }
     ensures local { result.global ≡ false }

@@ -1,4 +1,4 @@
-//! What the arguments ask for.
+//! The arguments after the program's name, read into what they ask for.
 ghost use Rattle.std.specs.Prelude.{◌≡◌, [], Ok, None, Some, false, IfOk, map, option_copied, unwrap_or, codes};
 ghost use Rattle.std.specs.Char.{is_ascii_digit};
 ghost use Rattle.std.specs.List.{list_all};
@@ -42,7 +42,7 @@ const NEW_FILES: [(&str, &str); 4] = [
     ("keys-to", "--keys-to"),
 ];
 
-/// What the program is asked to do.
+/// A command with its arguments: what the program is asked to do.
 #[derive(Drop)]
 pub enum CommandLine<'a> {
     /// To answer a script.
@@ -50,7 +50,7 @@ pub enum CommandLine<'a> {
         source: Option<&'a str>,
         /// Whether the source is given as an image.
         is_image: bool,
-        /// Whether nothing is said at a terminal beside the answers.
+        /// Whether the messages at a terminal, besides the answers, are switched off.
         is_quiet: bool,
         settings: SettingArguments<'a>,
     },
@@ -104,7 +104,7 @@ pub enum CommandLine<'a> {
 pub struct CheckArguments<'a> {
     /// The sources, in the order of the arguments.
     pub sources: Vec<&'a str>,
-    /// Whether JSON objects are printed, and not text.
+    /// Whether JSON objects are printed instead of text.
     pub is_json: bool,
     /// The warnings to leave out, separated by commas.
     pub allowed: Option<&'a str>,
@@ -114,14 +114,14 @@ pub struct CheckArguments<'a> {
     pub settings: SettingArguments<'a>,
     /// Whether each source is searched for instructions that no key script executes.
     pub is_covering: bool,
-    /// After how many seconds these searches end, 1 to 1000000.
+    /// The number of seconds after which these searches end, 1 to 1000000.
     pub seconds: Option<u32>,
 }
 
 /// When a text has colours.
 #[derive(Clone, Copy)]
 pub enum ColorChoice {
-    /// Where the output takes them.
+    /// If the output takes colours.
     Auto,
     Always,
     Never,
@@ -142,30 +142,30 @@ pub struct RunArguments<'a> {
 /// A trace, as the arguments ask for it.
 #[derive(Clone, Copy)]
 pub struct TraceArguments<'a> {
-    /// Of which run.
+    /// The run that is traced.
     pub run: RunArguments<'a>,
     /// The first step that is printed, 0 to 1000000.
     pub from: u32,
     /// Whether sums of the screen and of the memory are printed too.
     pub sums: bool,
-    /// Whether JSON objects are printed, and not fields.
+    /// Whether JSON objects are printed instead of fields.
     pub is_json: bool,
-    /// The file of the trace that it is compared with.
+    /// The file of the trace that the run is compared with.
     pub against: Option<&'a str>,
 }
 
 /// A picture, as the arguments ask for it.
 #[derive(Clone, Copy)]
 pub struct PictureArguments<'a> {
-    /// At the end of which run.
+    /// The run whose last step is pictured.
     pub run: RunArguments<'a>,
-    /// Whether it is printed in ASCII, and not in half blocks.
+    /// Whether the picture is printed in ASCII instead of half blocks.
     pub ascii: bool,
     /// The file for a portable bitmap.
     pub bitmap: Option<&'a str>,
     /// The file for a PNG picture.
     pub png: Option<&'a str>,
-    /// How many times as long the sides of the pictures in files are as those of the screen.
+    /// The scale of pictures in files: how many times as long their sides are as those of the screen.
     pub scale: u32,
 }
 
@@ -176,7 +176,7 @@ pub struct TestArguments<'a> {
     pub files: Vec<&'a str>,
     /// Whether the answers that are given are written into the files.
     pub is_update: bool,
-    /// Whether the Test Anything Protocol is printed.
+    /// Whether the report is in the form of the Test Anything Protocol.
     pub is_tap: bool,
 }
 
@@ -186,28 +186,28 @@ pub struct SearchArguments<'a> {
     pub source: &'a str,
     /// The step to which the search goes, 0 to 1000000.
     pub steps: Option<u32>,
-    /// How many states it keeps at most.
+    /// The most states that the search keeps.
     pub states: u32,
-    /// How many megabytes it holds at most.
+    /// The most megabytes (of 1,000,000 bytes) that the search holds.
     pub memory: u32,
-    /// After how many seconds it ends, 1 to 1000000.
+    /// The number of seconds after which the search ends, 1 to 1000000.
     pub seconds: Option<u32>,
-    /// Whether a search of the deepest states first follows where it keeps that many.
+    /// Whether a second search, of the deepest states first, follows once the first keeps the most states.
     pub is_deep: bool,
-    /// Whether it is told where the answer is `never` at any speed, for which all states serve.
+    /// Whether to report an answer of `never` at any speed, for which the search may use all states.
     pub is_any_speed: bool,
     /// The keys that a player has, separated by commas.
     pub allowed_keys: Option<&'a str>,
     /// The file for the key events of a script that was found.
     pub keys_to: Option<&'a str>,
-    /// Whether standard error says how far the search is.
+    /// Whether standard error shows how far the search is.
     pub is_progress_shown: bool,
-    /// Whether the search begins at once, and facts aren't asked first.
+    /// Whether the search begins at once, without asking for facts first.
     pub is_without_facts: bool,
     pub settings: SettingArguments<'a>,
 }
 
-/// What `explore` searches for, as the arguments ask for it.
+/// The search of `explore`, as the arguments ask for it.
 #[derive(Clone, Copy)]
 pub struct ExploreArguments<'a> {
     pub search: SearchArguments<'a>,
@@ -217,28 +217,28 @@ pub struct ExploreArguments<'a> {
     pub causes: Option<&'a str>,
     /// The place that is looked for: a name of the source, or an address after `#`.
     pub place: Option<&'a str>,
-    /// What is never to hold, with its place.
+    /// The condition that is never to hold, with its place.
     pub never: Option<&'a str>,
-    /// What is always to hold, with its place.
+    /// The condition that is always to hold, with its place.
     pub always: Option<&'a str>,
-    /// Whether the listing is printed with what is executed.
+    /// Whether the listing is printed, with marks at what is executed.
     pub is_covering: bool,
 }
 
-/// What `prove` answers, as the arguments ask for it.
+/// The proof of `prove`, as the arguments ask for it.
 #[derive(Clone, Copy)]
 pub struct ProveArguments<'a> {
     pub search: SearchArguments<'a>,
-    /// The line of the one property that is answered, 1 to 1000000.
+    /// The line of the only property that is answered, 1 to 1000000.
     pub only: Option<u32>,
-    /// Whether JSON objects are printed, and not text.
+    /// Whether JSON objects are printed instead of text.
     pub is_json: bool,
 }
 
 /// The settings, as the arguments give them.
 #[derive(Clone, Copy)]
 pub struct SettingArguments<'a> {
-    /// How many steps there are to a tick, 1 to 1000.
+    /// The number of steps to a tick, 1 to 1000.
     pub rate: u32,
     /// The tape in hexadecimal.
     pub tape: Option<&'a str>,
@@ -246,12 +246,12 @@ pub struct SettingArguments<'a> {
     pub seed: Option<u64>,
     /// The quirks of the machine.
     pub quirks: Quirks,
-    /// How many steps lie between two checkpoints of a session's run.
+    /// The number of steps between two checkpoints of a session's run.
     pub spacing: u32,
 }
 
 impl<'a> SettingArguments<'a> {
-    /// The settings where no word gives one.
+    /// The settings if no argument sets them.
     pub const DEFAULT: SettingArguments<'static> = SettingArguments {
         rate: DEFAULT_RATE,
         tape: None,
@@ -261,7 +261,7 @@ impl<'a> SettingArguments<'a> {
     };
 }
 
-// What a program without a command is asked to do.
+// The command of a program that is given none: a session on the empty source.
 const EMPTY_SESSION: CommandLine<'static> = CommandLine::Debug {
     source: None,
     is_image: false,
@@ -292,7 +292,7 @@ pub fn parse_arguments<'a, S: AsStr>(
     }
 }
 
-// What the values of a command of that name ask for. The last arm is that of `debug`.
+// Returns what the values of a command of that name ask for. The last arm is that of `debug`.
 fn command_asked<'a>(
     alloc: Global,
     name: &str,
@@ -340,7 +340,7 @@ fn command_asked<'a>(
     }
 }
 
-// Judges the values that `clap` takes and the program doesn't, and gives the quirks that they name.
+// Judges the values that `clap` takes and the program doesn't, and returns the quirks that they name.
 fn judged(alloc: Global, found: &ArgMatches<'_>) -> Result<Quirks, Error>
     ensures quirks { IfOk result (AsksQuirks (rows_in found.now)) }
     ensures fault { FailsBy (value_faults (rows_in found.now)) result }
@@ -352,7 +352,7 @@ fn judged(alloc: Global, found: &ArgMatches<'_>) -> Result<Quirks, Error>
     quirks_asked(alloc, found)
 }
 
-// `clap` takes a sign before the digits of a number.
+// Refuses numbers with anything but decimal digits, because `clap` takes a sign before the digits.
 fn check_numbers(
     alloc: Global,
     found: &ArgMatches<'_>,
@@ -367,7 +367,7 @@ fn check_numbers(
     Ok(())
 }
 
-// The names of files to write, of which `-` is none.
+// Refuses `-` as the name of a file to write.
 fn check_new_files(
     alloc: Global,
     found: &ArgMatches<'_>,
@@ -382,7 +382,7 @@ fn check_new_files(
     Ok(())
 }
 
-// Arguments that do not go together, and one that goes with others alone.
+// Refuses arguments that do not go together, and one that lacks those that it needs.
 fn check_clashes(alloc: Global, found: &ArgMatches<'_>) -> Result<(), Error>
     ensures { FailsBy (clash_faults (rows_in found.now)) result }
 {
@@ -396,7 +396,7 @@ fn check_clashes(alloc: Global, found: &ArgMatches<'_>) -> Result<(), Error>
     check_scale(alloc, found)
 }
 
-// A flag, and an argument that it does not go with.
+// Refuses a flag together with an argument that it does not go with.
 fn check_clash(
     alloc: Global,
     found: &ArgMatches<'_>,
@@ -415,7 +415,7 @@ fn check_clash(
     }
 }
 
-// Two properties, of which a search takes one.
+// Refuses two properties, because a search takes one.
 fn check_both(alloc: Global, found: &ArgMatches<'_>) -> Result<(), Error>
     ensures { FailsBy (both_fault (first_of (codes "never") (rows_in found.now))
         (first_of (codes "always") (rows_in found.now))) result }
@@ -429,7 +429,7 @@ fn check_both(alloc: Global, found: &ArgMatches<'_>) -> Result<(), Error>
     }
 }
 
-// The scale, which is that of the pictures in files.
+// Refuses a scale without a file for the picture, because only pictures in files are scaled.
 fn check_scale(alloc: Global, found: &ArgMatches<'_>) -> Result<(), Error>
     ensures { FailsBy (scale_fault (first_of (codes "scale") (rows_in found.now))
         (first_of (codes "pbm") (rows_in found.now)) (first_of (codes "png") (rows_in found.now)))
@@ -488,14 +488,14 @@ fn check_color(alloc: Global, found: &ArgMatches<'_>) -> Result<(), Error>
     }
 }
 
-// Whether a text has decimal digits alone.
+// Whether a text has only decimal digits.
 fn is_decimal(text: &str) -> bool
     ensures { result ≡ list_all is_ascii_digit text.now }
 {
     text.as_bytes().iter().all(|byte| byte.is_ascii_digit())
 }
 
-/// The fault of arguments that aren't text.
+/// Returns the fault of arguments that aren't text.
 pub fn not_text(alloc: Global) -> Result<Error, AllocError>
     ensures { IfOk result (λ error. kind_of error ≡ ErrorKind.InvalidValue) }
 {
@@ -506,14 +506,14 @@ pub fn not_text(alloc: Global) -> Result<Error, AllocError>
     )
 }
 
-// A fault of the arguments that `clap` doesn't find.
+// Returns a fault of the arguments that `clap` doesn't find.
 fn usage_error(alloc: Global, kind: ErrorKind, message: &str) -> Result<Error, AllocError>
     ensures { IfOk result (λ error. kind_of error ≡ kind) }
 {
     chipbench(alloc)?.error(kind, message)
 }
 
-// The quirks of a profile, which is SUPER-CHIP where there is no name, but for those of a list.
+// Returns the quirks of a profile, which is SUPER-CHIP without a name, except for those that a list chooses.
 fn quirks_asked(alloc: Global, found: &ArgMatches<'_>) -> Result<Quirks, Error>
     ensures asked { IfOk result (AsksQuirks (rows_in found.now)) }
     ensures fault { FailsBy (quirks_fault (first_of (codes "profile") (rows_in found.now))
@@ -539,7 +539,7 @@ fn quirks_asked(alloc: Global, found: &ArgMatches<'_>) -> Result<Quirks, Error>
     Ok(quirks)
 }
 
-// The first value of an argument.
+// Returns the first value of an argument, if it has one.
 #[tactic(auto, using(crate::proofs::WordLemmas::first_is))]
 fn value<'a>(found: &ArgMatches<'a>, id: &str) -> Option<&'a str>
     ensures { option_copied result ≡ first_of id.now (rows_in found.now) }
@@ -547,14 +547,14 @@ fn value<'a>(found: &ArgMatches<'a>, id: &str) -> Option<&'a str>
     found.get_str(id)
 }
 
-// The text of an argument without which `clap` refuses the arguments.
+// Returns the text of an argument without which `clap` refuses the arguments.
 fn required_text<'a>(found: &ArgMatches<'a>, id: &str) -> &'a str
     ensures { result.now ≡ needed id.now (rows_in found.now) }
 {
     value(found, id).unwrap_or("")
 }
 
-// All values of an argument.
+// Returns all values of an argument.
 fn texts<'a>(alloc: Global, found: &ArgMatches<'a>, id: &str) -> Result<Vec<&'a str>, AllocError>
     ensures { IfOk result (λ texts. map (λ text. text.now) texts.items
         ≡ unwrap_or (all_of id.now (rows_in found.now)) []) }
@@ -581,7 +581,8 @@ fn number_or(found: &ArgMatches<'_>, id: &str, default: u32) -> u32
     number_of(found, id).unwrap_or(default)
 }
 
-/// The number that a text of decimal digits stands for, where it fits.
+/// Returns the number that a text of decimal digits stands for, if it fits in 32 bits. None for any other
+/// text.
 pub fn number(text: Option<&str>) -> Option<u32>
     ensures { ReadsNumber 32 (option_copied text.entry) result }
 {
@@ -593,7 +594,7 @@ pub fn number(text: Option<&str>) -> Option<u32>
     }
 }
 
-/// The seed that a text of decimal digits stands for, where it fits.
+/// Returns the seed that a text of decimal digits stands for, if it fits in 64 bits. None for any other text.
 pub fn seed(text: Option<&str>) -> Option<u64>
     ensures { ReadsNumber 64 (option_copied text.entry) result }
 {
@@ -635,7 +636,7 @@ fn check_arguments<'a>(
     })
 }
 
-// When there are colours, by the word for it.
+// Returns when the text has colours, by the word for it.
 fn color_asked(word: Option<&str>) -> ColorChoice
     ensures { result ≡ color_asked (option_copied word.entry) }
 {

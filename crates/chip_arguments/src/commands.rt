@@ -8,8 +8,7 @@ use crate::arguments::Argument;
 use clap::Command;
 use std::alloc::{AllocError, Global};
 
-/// The workbench's version, and the logic that it is proved in, as the end of `rt version` names
-/// it.
+/// The version of the workbench, and the logic that it is proved in, as the end of `rt version` names it.
 pub const VERSION: &str = "1.0 (logic dac8208d650f15bf)";
 
 const PROGRAM_NOTES: &str = "\
@@ -115,9 +114,9 @@ Example: chipbench prove game.asm --keys-to break.keys";
 /// A command of the program.
 pub(crate) struct CommandRow {
     name: &'static str,
-    /// What it does, in a sentence.
+    /// A sentence that says what the command does.
     about: &'static str,
-    /// What stands below its help: an example.
+    /// The text below the help of the command: an example.
     notes: &'static str,
     arguments: &'static [Argument],
 }
@@ -311,17 +310,17 @@ const COMMANDS: [CommandRow; 14] = [
     },
 ];
 
-/// The program with its commands.
+/// Returns the program with its commands.
 pub(crate) fn chipbench<'a>(alloc: Global) -> Result<Command<'a>, AllocError>
     ensures { IfOk result (λ command. app_of command ≡ line.chipbench) }
 {
     with_commands(alloc, program(alloc)?, &COMMANDS)
 }
 
-/// The program as arguments need it that begin with this one: with the command of that name alone,
-/// or where none has it with all. One command spares an eighth of a process's start, and judges
-/// such arguments as all do, since `clap` stops at the first word and goes on with the command that
-/// it names.
+/// Returns the program for arguments that begin with this word: with only the command of that name or, if
+/// there is none, with all commands. One command saves an eighth of a process's start, and it judges such
+/// arguments as all commands do, because `clap` stops at the first word and goes on with the command that it
+/// names.
 pub(crate) fn chipbench_for<'a>(alloc: Global, word: &str) -> Result<Command<'a>, AllocError>
     ensures { IfOk result (λ command. (rest : List (List ℕ))
         → JudgesAsAll (word.now ∷ rest) (app_of command)) }
@@ -332,14 +331,14 @@ pub(crate) fn chipbench_for<'a>(alloc: Global, word: &str) -> Result<Command<'a>
     }
 }
 
-// The row of the command of a name.
+// Returns the row of the command of a name, if there is one.
 fn row_named<'a>(rows: &'a [CommandRow], name: &str) -> Option<&'a CommandRow>
     ensures { IfSome result (λ row. IsRowOf rows.now name.now row.now) }
 {
     rows.iter().find(|row| row.name == name)
 }
 
-/// The names of the commands that take an argument `--NAME`, in the order of the help.
+/// Returns the names of the commands that take an argument `--NAME`, in the order of the help.
 ///
 /// # Errors
 ///
@@ -354,7 +353,7 @@ pub fn commands_with(alloc: Global, name: &str) -> Result<Vec<&'static str>, All
     Ok(names)
 }
 
-// The program without its commands.
+// Returns the program without its commands.
 fn program<'a>(alloc: Global) -> Result<Command<'a>, AllocError>
     ensures { IfOk result (λ command. app_of command
         ≡ line.without_name (line.with_version (new_app (codes "chipbench")))) }
@@ -407,7 +406,7 @@ impl CommandRow {
     }
 }
 
-// A command without arguments.
+// Returns a command without arguments.
 fn new_command<'a>(alloc: Global, name: &'a str, about: &'a str, notes: &'a str) -> Command<'a>
     ensures { Makes (new_app name.entry.now) result }
 {

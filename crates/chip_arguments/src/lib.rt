@@ -1,4 +1,4 @@
-//! What the arguments ask for, as plain data.
+//! The arguments of the program, as plain data that says what they ask for.
 #![tactic(auto)]
 
 mod arguments;

@@ -1,4 +1,4 @@
--- What is built of a command, and what was found of its arguments (own).
+-- The commands as they are built, and what is found of their arguments (chosen by this project).
 use Rattle.std.specs.Prelude.{◌≡◌, ◌⊎◌, ℕ, List, [], ◌∷◌, codes, false, true}
 use Rattle.std.specs.List.{Contains}
 use Rattle.clap.specs.Words.{App, Row, Rule, app_of, fault_of, found_of, is_simple_and_free, new_app, rows_of, subcommand_of, with_rule}
@@ -17,21 +17,21 @@ command_names =
     ∷ codes "trace" ∷ codes "picture" ∷ codes "check" ∷ codes "test" ∷ codes "explore"
     ∷ codes "prove" ∷ codes "explain" ∷ codes "licences" ∷ []
 
--- what `clap` found of the arguments of a command
+-- the values that `clap` found of the arguments of a command
 abbrev pub rows_in : ArgMatches → List Row
 rows_in found = rows_of (found_of found)
 
--- a name is one of these
+-- whether a name is one of these
 abbrev pub IsOneOf : List ℕ → List (List ℕ) → Type 0
 IsOneOf name [] = ⊥
 IsOneOf name (known ∷ others) = (name ≡ known) ⊎ IsOneOf name others
 
--- a command that `clap` sees so, without an argument that its own commands have too
+-- a command that is `app` to `clap`, without an argument that its own commands have too
 pub record Makes (app : App) (command : Command) : Type 0 where
   pub shape : app_of command ≡ app
   pub local : (fields_of command).has_globals ≡ false
 
--- an argument of the table of commands
+-- the rule of an argument in the table of commands
 abbrev pub rule_by : Argument → Rule
 rule_by argument.Source = line.source
 rule_by argument.NeededSource = line.needed_source
@@ -82,16 +82,16 @@ rule_by argument.Progress = line.progress
 rule_by argument.Hex = line.hex
 rule_by argument.Quiet = line.quiet
 
--- these arguments, in order
+-- a command with these arguments, in order
 abbrev pub with_arguments : App → List Argument → App
 with_arguments app [] = app
 with_arguments app (next ∷ rest) = with_arguments (with_rule app (rule_by next)) rest
 
--- a command of the table
+-- the command of a row of the table
 abbrev pub app_of_row : CommandRow → App
 app_of_row row = with_arguments (new_app row.name.now) row.arguments.now
 
--- a row of these, of that name
+-- a row with that name, from these rows
 pub record IsRowOf (rows : List CommandRow) (name : List ℕ) (row : CommandRow) : Type 0 where
   pub place : Contains rows row
   pub named : row.name.now ≡ name
