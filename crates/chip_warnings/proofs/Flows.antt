@@ -1,4 +1,4 @@
--- What is known at a line from those above it, and then at the next line.
+-- From what is known at a line from the lines above it to what is known at the next line.
 use Rattle.std.proofs.Common.{◌≡◌, ◌∙◌, ◌&&◌, ◌||◌, ℕ, Bool, true, false, not, if◌then◌else◌, List, ◌∷◌, Some, ap, refl, sym}
 use Rattle.chip_warnings.specs.declared.flow.Flow.{Flow}
 use Rattle.chip_warnings.specs.declared.flow.Reach.{Reach}

@@ -13,7 +13,7 @@ take-next xs i x at =
 pub above-next : {X : Type 0} (xs : List X) (i : ℕ) (x : X) → slice_get xs i ≡ Some x → reverse (take (i + 1) xs) ≡ x ∷ reverse (take i xs)
 above-next xs i x at = ap reverse (take-next xs i x at) ∙ reverse-append (take i xs) (x ∷ [])
 
--- how many lines there are
+-- the number of lines
 pub seen-length : (texts : List (List ℕ)) → length (seen_lines texts) ≡ length (line_facts texts)
 unfolding seen_lines
 seen-length texts = simp length-map

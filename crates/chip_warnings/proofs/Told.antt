@@ -1,4 +1,4 @@
--- The kinds of warnings that are told.
+-- The kinds of the warnings that are reported.
 use Rattle.std.proofs.Common.{◌≡◌, ◌∙◌, ◌<◌, ◌+◌, ℕ, Bool, true, false, true≢false, not, ◌&&◌, cond, List, [], ◌∷◌, ◌++◌, length, map, take, get_or, slice_get, reverse, refl, ap, sym, append_assoc, zero-add, Some}
 use Rattle.std.specs.List.{filter, flat_map, range_with_len}
 use Rattle.std.proofs.lemmas.Grind.{flat_map-append}
@@ -22,13 +22,13 @@ told-more old new w pushed =
     ∙ ap (map (λ (v : Warning). (v.line, v.code))) (filter-append (λ (v : Warning). not (is_property v.code)) old (w ∷ []))
     ∙ map-append (λ (v : Warning). (v.line, v.code)) (filter (λ (v : Warning). not (is_property v.code)) old) (filter (λ (v : Warning). not (is_property v.code)) (w ∷ []))
 
--- one that isn't of a property is told
+-- a warning that isn't about a property is reported with its line and kind
 pub kind-told : (w : Warning) (number : ℕ) (kind : WarningCode) → w.line ≡ number → w.code ≡ kind → is_property kind ≡ false → kinds_told (w ∷ []) ≡ (number, kind) ∷ []
 kind-told w number kind there is_kind plain =
     ap (λ b. map (λ (v : Warning). (v.line, v.code)) (cond (not b) (w ∷ []) [])) (ap is_property is_kind ∙ plain)
     ∙ (λ i. (there i, is_kind i) ∷ [])
 
--- what a line has isn't a warning of a property
+-- a kind of warning that a line has isn't about a property
 pub kind-plain : (asked : Asked) (marked : Marked) (flow : Flow) (s : Seen) (kind : WarningCode) → has_warning asked marked flow s kind ≡ true → is_property kind ≡ false
 kind-plain asked marked flow s SplitRows has = refl
 kind-plain asked marked flow s UnusedName has = refl
@@ -45,7 +45,7 @@ pub and_right : (a b : Bool) → (a && b) ≡ true → b ≡ true
 and_right true b both = both
 and_right false b both = absurd (true≢false (sym both))
 
--- what was told so far, with one kind more
+-- the warnings that were reported so far, with one kind more
 pub told-next : (number : ℕ) (test : WarningCode → Bool) (kinds : List WarningCode) (i : ℕ) (d : WarningCode) (base told later : List (ℕ × WarningCode)) (b : Bool) → i < length kinds
     → told ≡ base ++ map (λ k. (number, k)) (filter test (take i kinds)) → test (get_or kinds i d) ≡ b → later ≡ told ++ map (λ k. (number, k)) (cond b (get_or kinds i d ∷ []) [])
     → later ≡ base ++ map (λ k. (number, k)) (filter test (take (i + 1) kinds))
@@ -62,7 +62,7 @@ told-next number test kinds i d base told later b low before tested after =
 below-next : (n : ℕ) → range_with_len 0 (n + 1) ≡ range_with_len 0 n ++ n ∷ []
 below-next n = simp map-id at (map-range_with_len_more (λ (k : ℕ). k) 0 n n (zero-add n))
 
--- what is told of the lines so far, with one line more
+-- the warnings that were reported for the lines so far, with one line more
 pub warned-next : (asked : Asked) (lines : List Seen) (place : ℕ) (s : Seen) (marked : Marked) (flow : Flow) (told later : List (ℕ × WarningCode)) → slice_get lines place ≡ Some s → marked ≡ marked_by lines
     → flow ≡ flow_after (marked_by lines).jumped (reverse (take place lines)) → told ≡ flat_map (warned_at asked lines) (range_with_len 0 place)
     → later ≡ told ++ map (λ kind. (place + 1, kind)) (kinds_on asked marked flow s) → later ≡ flat_map (warned_at asked lines) (range_with_len 0 (place + 1))

@@ -1,16 +1,16 @@
--- What instructions do that warnings ask of them (COSMAC VIP manual; SUPER-CHIP 1.1).
+-- The effects of instructions that warnings depend on (COSMAC VIP manual; SUPER-CHIP 1.1).
 use Rattle.std.specs.Prelude.{Bool, true, false, not, ◌==◌, Option, Some}
 use Rattle.chip_lang.specs.declared.instr.Instr.{Instr}
 use Rattle.chip_lang.specs.declared.instr.Instr.TheVariants as instr
 
--- JP, RET, EXIT go elsewhere
+-- whether an instruction goes elsewhere than to the next one: JP, RET, EXIT
 abbrev pub goes_elsewhere : Option Instr → Bool
 goes_elsewhere (Some (instr.Jump a)) = true
 goes_elsewhere (Some instr.Return) = true
 goes_elsewhere (Some instr.Exit) = true
 goes_elsewhere other = false
 
--- SE, SNE, SKP, SKNP may skip the next instruction
+-- whether an instruction may skip the next one: SE, SNE, SKP, SKNP
 abbrev pub may_skip : Option Instr → Bool
 may_skip (Some (instr.SkipIfByte x byte)) = true
 may_skip (Some (instr.SkipUnlessByte x byte)) = true
@@ -20,34 +20,35 @@ may_skip (Some (instr.SkipIfKey x)) = true
 may_skip (Some (instr.SkipUnlessKey x)) = true
 may_skip other = false
 
--- JP, CALL lead to one place
+-- whether an instruction leads to one address: JP, CALL
 abbrev pub leads_to_one : Option Instr → Bool
 leads_to_one (Some (instr.Jump a)) = true
 leads_to_one (Some (instr.Call a)) = true
 leads_to_one other = false
 
--- JP V0 leads to one of 256, among which a table may follow
+-- whether an instruction leads to one of 256 addresses, so that a table may follow it: JP V0
 abbrev pub jumps_by_table : Option Instr → Bool
 jumps_by_table (Some (instr.JumpOffset a)) = true
 jumps_by_table other = false
 
--- LD I points at bytes
+-- whether an instruction points at bytes: LD I
 abbrev pub points : Option Instr → Bool
 points (Some (instr.LoadIndex a)) = true
 points other = false
 
--- LD B, Vx and LD [I], Vx write into the memory
+-- whether an instruction writes into the memory: LD B, Vx and LD [I], Vx
 abbrev pub stores : Option Instr → Bool
 stores (Some (instr.StoreDecimal x)) = true
 stores (Some (instr.StoreRegisters x)) = true
 stores other = false
 
--- RND makes a byte of random bits, of which those of its mask may be 1; with the mask 0 none may
+-- whether an instruction makes a byte of random bits, some of which may be 1: RND, unless its mask is 0, because only bits of the
+-- mask may be 1
 abbrev pub draws : Option Instr → Bool
 draws (Some (instr.Random x mask)) = not (mask == 0)
 draws other = false
 
--- SCD, SCR, SCL, EXIT, LOW, HIGH, LD HF, LD R are those that SUPER-CHIP added
+-- whether an instruction is one that SUPER-CHIP added: SCD, SCR, SCL, EXIT, LOW, HIGH, LD HF, LD R
 abbrev pub is_super_instruction : Option Instr → Bool
 is_super_instruction (Some (instr.ScrollDown n)) = true
 is_super_instruction (Some instr.ScrollRight) = true

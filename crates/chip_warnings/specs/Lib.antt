@@ -1,10 +1,11 @@
--- What a source says that it may not mean (own).
---     Warnings      the numbers of warnings, and where they stand
---     Seen          what a line is to the lines around it
---     Instructions  what instructions do that warnings ask of them
---     Marked        what instructions do with the addresses that they name
---     Reach         where execution comes
---     Warned        which lines have which warnings
+-- Warnings: things in a source that its author may not mean.
+-- Source: chosen by this project.
+--     Warnings      the numbers of warnings, and their places in a source
+--     Seen          the parts of a line that matter to the lines around it
+--     Instructions  the effects of instructions that warnings depend on
+--     Marked        the addresses that instructions name, and what for
+--     Reach         the places that execution reaches
+--     Warned        the warnings that each line has
 pub mod Warnings
 pub mod Seen
 pub mod Instructions

@@ -1,4 +1,4 @@
--- What the instructions of a source do with the addresses that they name (own).
+-- The addresses that the instructions of a source name, and what for (chosen by this project).
 use Rattle.std.specs.Prelude.{ℕ, ◌+◌, ◌==◌, ◌&&◌, ◌||◌, not, Bool, if◌then◌else◌, nat_le, nat_lt, List, Option, Some, None}
 use Rattle.std.specs.List.{list_any}
 use Rattle.chip_lang.specs.declared.limits.TheConstants.{MEMORY_BYTES}
@@ -9,63 +9,62 @@ use Rattle.chip_lang.specs.Decoding.{decode_of}
 use Rattle.chip_warnings.specs.Instructions.{jumps_by_table, leads_to_one, points, stores}
 use Rattle.chip_warnings.specs.Seen.{base_of, holds_of, is_code, is_data, target_of}
 
--- one of so many bytes, from one on, that lie in the memory
+-- whether an address is one of `count` addresses, from `first` on, and lies in the memory
 abbrev pub is_among : (first count address : ℕ) → Bool
 is_among first count address =
     nat_le first address && nat_lt address (first + count) && nat_lt address MEMORY_BYTES
 
--- how many addresses an instruction may go to, from the one in its word on: JP and CALL to that one,
--- JP V0 to 256
+-- the number of addresses that an instruction may go to, from the one in its word on: 1 for JP and CALL, 256 for JP V0, else 0
 abbrev pub places_jumped_to : (base : ℕ) → ℕ
 places_jumped_to base = if leads_to_one (decode_of base) then 1 else (if jumps_by_table (decode_of base) then 256 else 0)
 
--- how many addresses it names as those of bytes: LD I one
+-- the number of addresses that an instruction names as those of bytes: 1 for LD I, else 0
 abbrev pub places_pointed_at : (base : ℕ) → ℕ
 places_pointed_at base = if points (decode_of base) then 1 else 0
 
--- how many it names for something
+-- the number of addresses that an instruction names for a purpose
 abbrev pub places_named : Naming → (base : ℕ) → ℕ
 places_named Jump base = places_jumped_to base
 places_named Point base = places_pointed_at base
 
--- how many addresses, of something that may be an instruction
+-- such a number for a line, which is 0 if the line isn't an instruction
 abbrev pub places_of : (places : (base : ℕ) → ℕ) → Option ℕ → ℕ
 places_of places None = 0
 places_of places (Some base) = places base
 
--- a line is an instruction that names an address for something
+-- whether a line is an instruction that names an address for a purpose
 abbrev pub names_at : Naming → (address : ℕ) → Seen → Bool
 names_at naming address s =
     is_among (target_of s.says) (places_of (places_named naming) (base_of s.says)) address
 
--- a store: LD B, Vx or LD [I], Vx
+-- whether a line is a store: LD B, Vx or LD [I], Vx
 abbrev pub is_store : Seen → Bool
 is_store s = holds_of stores (base_of s.says)
 
--- data that begins at an address of the memory
+-- whether a line is data that begins at an address, and the address lies in the memory
 abbrev pub is_data_at : (address : ℕ) → Seen → Bool
 is_data_at address s = is_data s.says && s.address == address && nat_lt address MEMORY_BYTES
 
--- a program has a store
+-- whether a program has a store
 abbrev pub has_store : List Seen → Bool
 has_store lines = list_any is_store lines
 
--- some LD I names an address
+-- whether some LD I names an address
 abbrev pub is_pointed_at : List Seen → (address : ℕ) → Bool
 is_pointed_at lines address = list_any (names_at Point address) lines
 
--- some LD I names the address of a byte of an instruction
+-- whether a line is an instruction, and some LD I names the address of one of its bytes
 abbrev pub is_code_pointed_at : List Seen → Seen → Bool
 is_code_pointed_at lines s =
     is_code s.says && (is_pointed_at lines s.address || is_pointed_at lines (s.address + 1))
 
--- what is told of the addresses of a program
+-- the marks of the addresses of a program
 pub record Marked : Type 0 where
-  -- an instruction may go to an address
+  -- whether an instruction may go to an address
   pub jumped : (address : ℕ) → Bool
-  -- data begins at an address, and no store may write there
+  -- whether data begins at an address, and no store may write there
   pub data_at : (address : ℕ) → Bool
-  -- the program may write over its instructions
+  -- whether the program may write over its instructions
   pub writes_code : Bool
 
 abbrev pub marked_by : List Seen → Marked

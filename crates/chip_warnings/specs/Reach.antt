@@ -1,4 +1,4 @@
--- Where execution comes, by the lines above a line, of which the nearest comes first (own).
+-- The places that execution reaches, given the lines above a line, the nearest one first (chosen by this project).
 use Rattle.std.specs.Prelude.{ℕ, ◌+◌, ◌==◌, ◌&&◌, ◌||◌, not, Bool, true, false, if◌then◌else◌, List, [], ◌∷◌, Option, Some, None}
 use Rattle.std.specs.List.{list_any}
 use Rattle.chip_lang.specs.declared.limits.TheConstants.{IMAGE_START}
@@ -14,63 +14,63 @@ use Rattle.chip_warnings.specs.Seen.{base_of, holds_of, is_draw}
 
 -- ---- the line above
 
--- a line has bytes
+-- whether a line has bytes
 abbrev pub has_bytes : Says → Bool
 has_bytes Nothing = false
 has_bytes says = true
 
--- the last line that has bytes
+-- the last line above that has bytes
 abbrev pub last_with_bytes : (above : List Seen) → Option Seen
 last_with_bytes [] = None
 last_with_bytes (s ∷ above) = if has_bytes s.says then Some s else last_with_bytes above
 
--- a label or ORG stands after that line
+-- whether a label or ORG follows that line
 abbrev pub begins_since : (above : List Seen) → Bool
 begins_since [] = false
 begins_since (s ∷ above) = not (has_bytes s.says) && (s.begins || begins_since above)
 
--- a line above draws a random byte
+-- whether a line above draws a random byte
 abbrev pub draws_among : (above : List Seen) → Bool
 draws_among above = list_any (λ (s : Seen). is_draw s.says) above
 
--- an address comes right after the last line with bytes, where that is an instruction; where there is
--- none, the start of the image comes
+-- whether an address is two bytes after the last line with bytes, where the next one is if that line is an instruction; without
+-- such a line, whether the address is the start of the image
 abbrev pub comes_next : (last : Option Seen) → (address : ℕ) → Bool
 comes_next None address = address == IMAGE_START
 comes_next (Some s) address = s.address + 2 == address
 
--- the word of the form of the instruction that stands directly before an address
+-- the word of the form of the instruction directly before an address, if there is one
 abbrev pub base_before : (last : Option Seen) → (address : ℕ) → Option ℕ
 base_before None address = None
 base_before (Some s) address = if s.address + 2 == address then base_of s.says else None
 
--- ---- where execution comes
+-- ---- the places that execution reaches
 
--- Whether execution comes to an instruction, by what is known from the lines above it. It comes to a
--- label, to what stands after ORG, to an address to which an instruction may go, and from the
--- instruction above to the next one.
+-- Whether execution reaches an instruction, given what is known from the lines above it. Execution reaches a label, the place
+-- after ORG, and each address to which an instruction may go. It reaches the address that comes next after the line above exactly
+-- if it reaches the place after that line. Nothing is known about any other address.
 abbrev pub reach_at : (jumped : ℕ → Bool) → Flow → Seen → Reach
 reach_at jumped flow s =
     if s.begins || flow.begins || jumped s.address then Comes
     else (if comes_next flow.last s.address then flow.reach else Unsure)
 
--- Whether execution comes to the place after an instruction, by whether it comes to that. It doesn't
--- where the instruction goes elsewhere, unless the one above may skip that.
+-- Whether execution reaches the place after an instruction, given whether it reaches the instruction. It doesn't if the
+-- instruction goes elsewhere, unless the instruction above may skip it. Nothing is known after JP V0, nor if execution isn't
+-- known to reach the instruction.
 abbrev pub reach_past : (may_be_skipped : Bool) → (base : ℕ) → Reach → Reach
 reach_past may_be_skipped base Comes =
     if goes_elsewhere (decode_of base) && not may_be_skipped then Never
     else (if jumps_by_table (decode_of base) then Unsure else Comes)
 reach_past may_be_skipped base reach = Unsure
 
--- whether execution comes to the place after a line, by what is known at that line
+-- whether execution reaches the place after a line, given what is known at that line
 abbrev pub reach_by : (jumped : ℕ → Bool) → Flow → Seen → Says → Reach
 reach_by jumped flow s Nothing = flow.reach
 reach_by jumped flow s (Code base word) =
     reach_past (holds_of may_skip (base_before flow.last s.address)) base (reach_at jumped flow s)
 reach_by jumped flow s says = Unsure
 
--- Whether execution comes to the place after these lines. It comes to the start of the image. After
--- data it isn't known.
+-- Whether execution reaches the place after these lines. It reaches the start of the image. After data, nothing is known.
 abbrev pub reach_after : (jumped : ℕ → Bool) → (above : List Seen) → Reach
 reach_after jumped [] = Comes
 reach_after jumped (s ∷ above) =
@@ -82,7 +82,7 @@ reach_after jumped (s ∷ above) =
       has_drawn = draws_among above;
     }) s s.says
 
--- what is known at a line from those above it
+-- everything that is known at a line from the lines above it
 unfoldable pub flow_after : (jumped : ℕ → Bool) → (above : List Seen) → Flow
 flow_after jumped above =
     record {

@@ -1,4 +1,4 @@
--- What a line is to the lines around it (own).
+-- The parts of a line that matter to the lines around it (chosen by this project).
 use Rattle.std.specs.Prelude.{ℕ, ◌+◌, ◌*◌, ◌%◌, ◌==◌, ◌&&◌, not, Bool, true, false, if◌then◌else◌, is_some, List, [], ◌∷◌, ◌++◌, length, map, Option, Some, None}
 use Rattle.std.specs.List.{list_any, flat_map}
 use Rattle.std.specs.Str.{bytes_eq}
@@ -14,17 +14,16 @@ use Rattle.chip_warnings.specs.declared.seen.Says.{Says}
 use Rattle.chip_warnings.specs.declared.seen.Says.TheVariants.{Nothing, Code, Rows, PerhapsCode, Data}
 use Rattle.chip_warnings.specs.declared.seen.Seen.{Seen}
 
--- ---- what the bytes of a line are
+-- ---- the kind of bytes that a line has
 
--- the word that the first two bytes make
+-- the word that the first two bytes make, or 0 if there are fewer
 abbrev pub first_word : List ℕ → ℕ
 first_word [] = 0
 first_word (a ∷ []) = 0
 first_word (high ∷ low ∷ bytes) = high * 256 + low
 
--- Bytes that begin with a word, by the statement that they are of: an instruction, values of DB, or
--- other data. SYS, the form whose word is 0, may be an instruction, and so may DW whose first word is
--- that of one.
+-- The kind of bytes that begin with a word, given their statement: an instruction, values of DB, or other data. SYS, the form
+-- whose word is 0, might be executed, and so might a DW whose first word is that of an instruction. Both are `PerhapsCode`.
 abbrev pub says_by_body : Body → (word : ℕ) → Says
 says_by_body (code form operands) word = if form.base == 0 then PerhapsCode else Code form.base word
 says_by_body (db values) word = Rows (length values)
@@ -33,48 +32,48 @@ says_by_body (da bytes) word = Data
 says_by_body (ds size) word = Data
 says_by_body body word = Nothing
 
--- the bytes of a line; none are nothing
+-- the kind of bytes that a line has; `Nothing` if it has none
 abbrev pub says_by_reading : Reading → (bytes : List ℕ) → Says
 says_by_reading (bad fault) bytes = Nothing
 says_by_reading (read name body) [] = Nothing
 says_by_reading (read name body) (b ∷ bytes) = says_by_body body (first_word (b ∷ bytes))
 
--- the bytes of a line of a source, of which only active lines count
+-- the kind of bytes that a line of a source has; `Nothing` if the line isn't active
 abbrev pub says_of : LineFacts → Says
 says_of f = if f.active then says_by_reading (reading_of f.text) f.bytes else Nothing
 
--- an instruction
+-- whether bytes are an instruction
 abbrev pub is_code : Says → Bool
 is_code (Code base word) = true
 is_code says = false
 
--- the word of the form of an instruction
+-- the word of the instruction's form, if the bytes are an instruction
 abbrev pub base_of : Says → Option ℕ
 base_of (Code base word) = Some base
 base_of says = None
 
--- an instruction is there, and something holds of it
+-- whether an instruction is there, and a condition holds for it
 abbrev pub holds_of : (holds : Option Instr → Bool) → Option ℕ → Bool
 holds_of holds None = false
 holds_of holds (Some base) = holds (decode_of base)
 
--- an instruction that draws a random byte
+-- whether bytes are an instruction that draws a random byte
 abbrev pub is_draw : Says → Bool
 is_draw (Code base word) = draws (decode_of word)
 is_draw says = false
 
--- the address in an instruction's word
+-- the address in the instruction's word, or 0 if the bytes are no instruction
 abbrev pub target_of : Says → ℕ
 target_of (Code base word) = word % 4096
 target_of says = 0
 
--- data
+-- whether bytes are data
 abbrev pub is_data : Says → Bool
 is_data (Rows count) = true
 is_data Data = true
 is_data says = false
 
--- ---- where lines begin anew
+-- ---- labels and ORG
 
 abbrev pub begins_by_body : (name : Option (List ℕ)) → Body → Bool
 begins_by_body name (org e) = true
@@ -82,7 +81,7 @@ begins_by_body name (equ e) = false
 begins_by_body name define = false
 begins_by_body name body = is_some name
 
--- a label or ORG stands on a line
+-- whether a line has a label or ORG
 abbrev pub begins : Reading → Bool
 begins (bad fault) = false
 begins (read name body) = begins_by_body name body
@@ -99,38 +98,38 @@ abbrev pub names_asked : Reading → List (List ℕ)
 names_asked (bad fault) = []
 names_asked (read name body) = names_asked_by_body body
 
--- The names that a line uses, active or not: those in its expressions, the one after IFDEF or IFUND,
--- and those of the property that it states.
+-- The names that a line uses, whether it is active or not: the names in its expressions, the name after IFDEF or IFUND, and the
+-- names in the property that it states.
 abbrev pub names_of_line : List ℕ → List (List ℕ)
 names_of_line text =
     names_used (reading_of text) ++ (names_asked (reading_of text) ++ words_in text)
 
--- some line of a source uses a name
+-- whether some line of a source uses a name
 unfoldable pub is_used : (texts : List (List ℕ)) → (name : List ℕ) → Bool
 is_used texts name = list_any (bytes_eq name) (flat_map names_of_line texts)
 
--- a name that begins with `_` is meant to stay
+-- whether a name is meant to stay even if no line uses it: it begins with `_`
 abbrev pub is_meant : List ℕ → Bool
 is_meant [] = false
 is_meant (b ∷ bytes) = b == 95
 
--- a name that no line uses, and that isn't meant to stay
+-- whether there is a name, no line uses it, and it isn't meant to stay
 abbrev pub is_needless : (texts : List (List ℕ)) → Option (List ℕ) → Bool
 is_needless texts None = false
 is_needless texts (Some name) = not (is_used texts name) && not (is_meant name)
 
--- a label at the start of the image
+-- whether a line has a label or ORG and is at the start of the image
 abbrev pub starts_image : LineFacts → Bool
 starts_image f = begins (reading_of f.text) && f.address == IMAGE_START
 
--- an active line gives a name that is never used; a label at the start of the image counts as used
+-- whether an active line gives a name that is never used; a label at the start of the image counts as used
 abbrev pub is_unused : (texts : List (List ℕ)) → LineFacts → Bool
 is_unused texts f =
     f.active && is_needless texts (name_defined (reading_of f.text)) && not (starts_image f)
 
 -- ---- the lines of a source
 
--- a line of a source, as the others see it
+-- the parts of a line of a source that matter to the other lines
 abbrev pub seen_of : (texts : List (List ℕ)) → LineFacts → Seen
 seen_of texts f =
     record {

@@ -1,4 +1,4 @@
--- Which lines have which warnings (own).
+-- The warnings that each line has (chosen by this project).
 use Rattle.std.specs.Prelude.{ℕ, ◌+◌, ◌%◌, ◌==◌, ◌&&◌, not, Bool, true, false, List, [], ◌∷◌, length, map, filter, is_none, reverse, take, Option, Some, None, slice_get, slice_index_or}
 use Rattle.std.specs.List.{flat_map, range_with_len}
 use Rattle.std.specs.Borrow.{Bor}
@@ -20,69 +20,69 @@ use Rattle.chip_warnings.specs.Marked.{Marked, marked_by}
 use Rattle.chip_warnings.specs.Reach.{base_before, flow_after, reach_at}
 use Rattle.chip_warnings.specs.Warnings.{is_switched_off}
 
--- ---- each kind, at a line, by what is known from the lines above it
+-- ---- each kind, at a line, given what is known from the lines above it
 
 abbrev pub is_odd : ℕ → Bool
 is_odd n = n % 2 == 1
 
--- so many values of DB at an address, after so many at another: both odd, and one byte between them
+-- whether the bytes at `address` are those of a DB, exactly one byte after a DB with `above` values at `above_at`, and both have
+-- an odd number of values
 abbrev pub splits_after : (above_at above : ℕ) → (address : ℕ) → Says → Bool
 splits_after above_at above address (Rows count) =
     is_odd above && is_odd count && above_at + above + 1 == address
 splits_after above_at above address says = false
 
--- values of DB after others, each of an odd number
+-- whether an earlier line and this one are DB with an odd number of values each, and one byte lies between them
 abbrev pub splits_from : (above : Says) → (above_at : ℕ) → Seen → Bool
 splits_from (Rows above) above_at s = splits_after above_at above s.address s.says
 splits_from says above_at s = false
 
--- the same, after the last line with bytes
+-- whether the last line with bytes and this one are such a pair
 abbrev pub splits_by : (last : Option Seen) → Seen → Bool
 splits_by None s = false
 splits_by (Some last) s = splits_from last.says last.address s
 
--- W1: the line above and this one are DB with an odd number of values each, one byte stands between
--- them, and no label or ORG
+-- W1: the line above and this one are DB with an odd number of values each, and one byte lies between them, but no label or ORG
 abbrev pub splits_rows : Flow → Seen → Bool
 splits_rows flow s = splits_by flow.last s && not flow.begins && not s.begins
 
--- execution never comes
+-- whether execution never reaches a place
 abbrev pub is_never : Reach → Bool
 is_never Never = true
 is_never reach = false
 
--- execution comes
+-- whether execution reaches a place
 abbrev pub is_coming : Reach → Bool
 is_coming Comes = true
 is_coming reach = false
 
--- no step is made at an address, where it is known at which addresses steps may be made
+-- whether no step is ever made at an address; false if it isn't known at which addresses steps may be made
 abbrev pub is_never_made : (reachable : Option (Bor (List Bool))) → (address : ℕ) → Bool
 is_never_made None address = false
 is_never_made (Some reachable) address = not (slice_index_or reachable.now address true)
 
--- W3: the lines above lead to no instruction, in a program that doesn't write over its own, and with any
--- keys, random bytes and speed no step is made there
+-- W3: an instruction that neither the lines above nor jumps lead to, in a program that doesn't write over its instructions, where
+-- no keys, random bytes and speed lead to a step
 abbrev pub is_unreachable : (reachable : Option (Bor (List Bool))) → Marked → Flow → Seen → Bool
 is_unreachable reachable marked flow s =
     is_code s.says && is_never (reach_at marked.jumped flow s) && not marked.writes_code
     && is_never_made reachable s.address
 
--- W4: directly before data stands an instruction from which execution comes to the data, other than
--- JP, RET and EXIT, in a program that doesn't write over its instructions
+-- W4: data that execution reaches from the instruction directly before it, which isn't JP, RET or EXIT, in a program that doesn't
+-- write over its instructions
 abbrev pub falls_into_data : Marked → Flow → Seen → Bool
 falls_into_data marked flow s =
     is_data s.says && is_coming flow.reach
     && holds_of (λ instr. not (goes_elsewhere instr)) (base_before flow.last s.address)
     && not marked.writes_code
 
--- W5: JP or CALL to data
+-- W5: JP or CALL to an address where data begins and no store may write
 abbrev pub jumps_to_data : Marked → Seen → Bool
 jumps_to_data marked s =
     holds_of leads_to_one (base_of s.says)
     && marked.data_at (target_of s.says)
 
--- W6: an instruction at an odd address, unless one stands directly before it
+-- W6: an instruction at an odd address, unless another instruction is directly before it
 abbrev pub is_at_odd_address : Flow → Seen → Bool
 is_at_odd_address flow s =
     is_code s.says && is_odd s.address && is_none (base_before flow.last s.address)
@@ -92,20 +92,20 @@ abbrev pub is_not_in_profile : Quirks → Seen → Bool
 is_not_in_profile quirks s =
     not quirks.has_super_instructions && holds_of is_super_instruction (base_of s.says)
 
--- an instruction at an address that no key script comes to
+-- whether a line is an instruction at whose address no key script makes a step; false if no search was made
 abbrev pub is_left_out : Option Coverage → Seen → Bool
 is_left_out None s = false
 is_left_out (Some coverage) s =
     is_code s.says && not (slice_index_or coverage.executed.now s.address true)
 
--- the first line that draws a random byte
+-- whether a line is the first one that draws a random byte
 abbrev pub draws_first : Flow → Seen → Bool
 draws_first flow s = is_draw s.says && not flow.has_drawn
 
 -- ---- all kinds
 
--- a line has a warning of a kind; W8 only without W3, and W9 on the first line that draws a random byte,
--- where no tape is given
+-- whether a line has a warning of a kind: W8 only without W3, and W9 only on the first line that draws a random byte, if no tape
+-- is given
 abbrev pub has_warning : Asked → Marked → Flow → Seen → WarningCode → Bool
 has_warning asked marked flow s SplitRows = splits_rows flow s
 has_warning asked marked flow s UnusedName = s.unused
@@ -125,23 +125,23 @@ kinds =
     SplitRows ∷ UnusedName ∷ Unreachable ∷ FallsIntoData ∷ JumpsToData ∷ OddAddress ∷ NotInProfile
     ∷ NeverExecuted ∷ AlwaysZero ∷ []
 
--- the kinds of which a line has a warning that isn't switched off
+-- the kinds of the warnings that a line has and that aren't switched off
 unfoldable pub kinds_on : Asked → Marked → Flow → Seen → List WarningCode
 kinds_on asked marked flow s =
     filter
     (λ kind. not (is_switched_off asked.allowed kind) && has_warning asked marked flow s kind) kinds
 
--- those of a line, if there is one, after the lines above it
+-- the kinds of a line's warnings, if there is a line, given the lines above it
 abbrev pub kinds_after : Asked → Marked → (above : List Seen) → Option Seen → List WarningCode
 kinds_after asked marked above None = []
 kinds_after asked marked above (Some s) = kinds_on asked marked (flow_after marked.jumped above) s
 
--- those of the line at a place of these lines, from 0 on
+-- the kinds of the warnings that the line at a place has, where places are counted from 0
 abbrev pub kinds_at : Asked → (lines : List Seen) → (place : ℕ) → List WarningCode
 kinds_at asked lines place =
     kinds_after asked (marked_by lines) (reverse (take place lines)) (slice_get lines place)
 
--- the same, each with the number of that line
+-- those kinds, each with the number of that line, counted from 1
 abbrev pub warned_at : Asked → (lines : List Seen) → (place : ℕ) → List (ℕ × WarningCode)
 warned_at asked lines place = map (λ kind. (place + 1, kind)) (kinds_at asked lines place)
 
@@ -150,13 +150,13 @@ unfoldable pub warned : Asked → (texts : List (List ℕ)) → List (ℕ × War
 warned asked texts =
     flat_map (warned_at asked (seen_lines texts)) (range_with_len 0 (length texts))
 
--- ---- what is told
+-- ---- the warnings that are reported
 
 abbrev pub is_property : WarningCode → Bool
 is_property (Property code) = true
 is_property kind = false
 
--- those among some warnings that aren't of properties, each with the number of its line
+-- the kinds of some warnings, without the warnings about properties, each with the number of its line
 abbrev pub kinds_told : List Warning → List (ℕ × WarningCode)
 kinds_told warnings =
     map (λ (w : Warning). (w.line, w.code)) (filter (λ (w : Warning). not (is_property w.code)) warnings)

@@ -1,20 +1,21 @@
-//! What the warnings of a source depend on beside its lines.
+//! The input that the warnings of a source depend on, besides its lines.
 
 use crate::coverage::Coverage;
 use chip_machine::Quirks;
 
-/// Which warnings of a source are told, and of which machine it is.
+/// The warnings that are switched off, the machine that the source is for, and the addresses at which steps
+/// are made, as far as they are known.
 #[derive(Clone, Copy)]
 pub struct Asked<'a> {
-    /// Bit k is set where Wk is switched off, and bit 9 + k where Pk is.
+    /// The set of warnings that are switched off: bit k stands for Wk, and bit 9 + k for Pk.
     pub allowed: u16,
     /// The quirks of the machine.
     pub quirks: Quirks,
     /// Whether a tape of random bytes is given. Without one, RND gives 0.
     pub has_tape: bool,
-    /// What a search saw executed. Without it, no line has W8.
+    /// The addresses that a search saw executed. Without them, no line has W8.
     pub coverage: Option<Coverage<'a>>,
-    /// Whether a step may be made at an address, by the address, with any keys, random bytes and speed. Without
-    /// it, no line has W3.
+    /// For each address, whether a step may be made there with some keys, random bytes and speed. Without
+    /// this, no line has W3.
     pub reachable: Option<&'a [bool]>,
 }

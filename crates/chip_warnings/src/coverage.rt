@@ -1,17 +1,17 @@
-//! What a search over all key scripts saw executed.
+//! The addresses that a search over all key scripts saw executed.
 
 ghost use Rattle.std.specs.Prelude.{◌≡◌, ◌&&◌, not, true, slice_index_or};
 ghost use Rattle.chip_warnings.specs.Seen.{is_code};
 
 use crate::seen::Seen;
 
-/// What the key scripts of an image execute, as a search over all of them saw it.
+/// The addresses of an image that key scripts execute, as a search over all key scripts saw them.
 #[derive(Clone, Copy)]
 pub struct Coverage<'a> {
-    /// Whether some key script makes a step at an address, by the address. One past its end counts
-    /// as executed.
+    /// For each address, whether some key script makes a step there. Addresses past the end count as
+    /// executed.
     pub executed: &'a [bool],
-    /// The step up to which the search went, or none where it went to the end.
+    /// The step up to which the search went, or `None` if it went to the end.
     pub within: Option<u64>,
 }
 
@@ -25,7 +25,7 @@ impl<'a> Coverage<'a> {
     }
 }
 
-/// Whether an address is one at which no step is made. One past the end counts as executed.
+/// Whether no step is made at an address. Addresses past the end count as executed.
 pub(crate) fn is_never_at(executed: &[bool], address: usize) -> bool
     ensures { result ≡ not (slice_index_or executed.now address true) }
 {

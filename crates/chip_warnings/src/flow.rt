@@ -1,4 +1,4 @@
-//! Where execution comes, line after line.
+//! The places that execution reaches, line by line.
 
 ghost use Rattle.std.specs.Prelude.{◌≡◌, ◌∷◌, ◌||◌, [], List, ℕ, Bool, Some, false, not, is_some};
 ghost use Rattle.chip_warnings.specs.Instructions.{goes_elsewhere, may_skip};
@@ -18,32 +18,32 @@ use crate::warning::WarningCode;
 use chip_lang::limits::IMAGE_START;
 use chip_machine::Quirks;
 
-/// Whether execution comes to a place.
+/// Whether execution reaches a place.
 #[derive(Clone, Copy)]
 pub(crate) enum Reach {
-    /// From the instruction above, or by a jump.
+    /// Execution comes there, from the instruction above or by a jump.
     Comes,
     /// The instruction above goes elsewhere, and no jump leads there.
     Never,
-    /// It can't be told.
+    /// Nothing is known.
     Unsure,
 }
 
-/// What is known at a line from the lines above it.
+/// Everything that is known at a line from the lines above it.
 #[derive(Clone, Copy)]
 pub(crate) struct Flow {
     /// The last line with bytes.
     pub(crate) last: Option<Seen>,
-    /// Whether a label or ORG stands after that line.
+    /// Whether a label or ORG follows that line.
     begins: bool,
-    /// Whether execution comes to the place after it.
+    /// Whether execution reaches the place after that line.
     reach: Reach,
     /// Whether a line above draws a random byte.
     has_drawn: bool,
 }
 
 impl Flow {
-    /// At the first line: the program begins at the start of the image.
+    /// Returns the flow at the first line. The program begins at the start of the image.
     pub(crate) fn start() -> Flow
         ensures { (jumped : ℕ → Bool) → result ≡ flow_after jumped [] }
     {
@@ -55,7 +55,7 @@ impl Flow {
         }
     }
 
-    /// At the line after one.
+    /// Returns the flow at the line after `seen`.
     pub(crate) fn after(&self, marks: &Marks, seen: &Seen) -> Flow
         ensures { (above : List Seen)
             → self.now ≡ flow_after (marked_in marks.now).jumped above
@@ -73,7 +73,7 @@ impl Flow {
         }
     }
 
-    /// Directly after a line with bytes.
+    /// Returns the flow directly after a line with bytes.
     fn past(&self, seen: &Seen, reach: Reach) -> Flow
         ensures { result ≡ record {
           last = Some seen.now;
@@ -90,7 +90,7 @@ impl Flow {
         }
     }
 
-    /// Whether execution comes to the place after an instruction.
+    /// Whether execution reaches the place after an instruction.
     fn reach_past(&self, marks: &Marks, seen: &Seen, base: u16) -> Reach
         ensures { result ≡ reach_past
             (holds_of may_skip (base_before self.now.last seen.now.address)) base
@@ -112,7 +112,7 @@ impl Flow {
         }
     }
 
-    /// Whether execution comes to an instruction.
+    /// Whether execution reaches an instruction.
     fn reach_at(&self, marks: &Marks, seen: &Seen) -> Reach
         ensures { result ≡ reach_at (marked_in marks.now).jumped self.now seen.now }
     {
@@ -125,7 +125,8 @@ impl Flow {
         }
     }
 
-    /// Whether an address is the next one after the line above, if that is an instruction.
+    /// Whether an address is two bytes after the last line with bytes, where the next one is if that line
+    /// is an instruction. Without such a line, whether the address is the start of the image.
     fn comes_next(&self, address: usize) -> bool
         ensures { result ≡ comes_next self.now.last address }
     {
@@ -135,7 +136,8 @@ impl Flow {
         }
     }
 
-    /// The word of the form of the instruction that stands directly before an address.
+    /// The word of the form of the instruction directly before an address, or `None` if no instruction is
+    /// there.
     fn base_before(&self, address: usize) -> Option<u16>
         ensures { result ≡ base_before self.now.last address }
     {
@@ -176,7 +178,7 @@ impl Flow {
         }
     }
 
-    /// Whether nothing reaches an instruction.
+    /// Whether a line is an instruction that nothing reaches.
     fn is_unreachable(&self, asked: &Asked<'_>, marks: &Marks, seen: &Seen) -> bool
         ensures { result ≡ is_unreachable asked.now.reachable (marked_in marks.now) self.now seen.now }
     {
@@ -219,7 +221,7 @@ impl Flow {
             && !marks.writes_code
     }
 
-    /// Whether directly before an address stands an instruction that doesn't go elsewhere.
+    /// Whether an instruction is directly before an address and doesn't go elsewhere.
     fn is_run_past(&self, address: usize) -> bool
         ensures { result ≡ holds_of (λ instr. not (goes_elsewhere instr))
             (base_before self.now.last address) }
@@ -230,7 +232,7 @@ impl Flow {
         }
     }
 
-    /// Whether an instruction stands at an odd address, and none directly before it.
+    /// Whether a line is an instruction at an odd address, with no instruction directly before it.
     fn is_at_odd_address(&self, seen: &Seen) -> bool
         ensures { result ≡ is_at_odd_address self.now seen.now }
     {
@@ -238,7 +240,7 @@ impl Flow {
     }
 }
 
-/// The number of the line of data to which a JP or CALL leads.
+/// The number of the line of data to which a JP or CALL leads, or `None` if the line is no such instruction.
 pub(crate) fn data_line(marks: &Marks, seen: &Seen) -> Option<usize>
     ensures { is_some result ≡ jumps_to_data (marked_in marks.now) seen.now }
 {

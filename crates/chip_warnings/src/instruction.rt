@@ -1,11 +1,11 @@
-//! What instructions do that warnings ask of them, by the word of a form.
+//! The effects of instructions that warnings depend on, given the word of a form.
 ghost use Rattle.std.specs.Prelude.{◌≡◌};
 ghost use Rattle.chip_lang.specs.Decoding.{decode_of};
 ghost use Rattle.chip_warnings.specs.Instructions.{draws, goes_elsewhere, is_super_instruction, jumps_by_table, leads_to_one, may_skip, points, stores};
 
 use chip_lang::{Instr, decode};
 
-/// Whether it goes elsewhere: JP, RET, EXIT.
+/// Whether an instruction goes elsewhere than to the next one: JP, RET, EXIT.
 pub(crate) fn goes_elsewhere(base: u16) -> bool
     ensures { result ≡ goes_elsewhere (decode_of base) }
 {
@@ -15,7 +15,7 @@ pub(crate) fn goes_elsewhere(base: u16) -> bool
     )
 }
 
-/// Whether it may skip the next one: SE, SNE, SKP, SKNP.
+/// Whether an instruction may skip the next one: SE, SNE, SKP, SKNP.
 pub(crate) fn may_skip(base: u16) -> bool
     ensures { result ≡ may_skip (decode_of base) }
 {
@@ -32,28 +32,28 @@ pub(crate) fn may_skip(base: u16) -> bool
     )
 }
 
-/// Whether it leads to one place: JP, CALL.
+/// Whether an instruction leads to one address: JP, CALL.
 pub(crate) fn leads_to_one(base: u16) -> bool
     ensures { result ≡ leads_to_one (decode_of base) }
 {
     matches!(decode(base), Some(Instr::Jump(_) | Instr::Call(_)))
 }
 
-/// Whether it leads to one of 256 places, among which a table may follow: JP V0.
+/// Whether an instruction leads to one of 256 addresses, so that a table may follow it: JP V0.
 pub(crate) fn jumps_by_table(base: u16) -> bool
     ensures { result ≡ jumps_by_table (decode_of base) }
 {
     matches!(decode(base), Some(Instr::JumpOffset(_)))
 }
 
-/// Whether it points at bytes: LD I.
+/// Whether an instruction points at bytes: LD I.
 pub(crate) fn points(base: u16) -> bool
     ensures { result ≡ points (decode_of base) }
 {
     matches!(decode(base), Some(Instr::LoadIndex(_)))
 }
 
-/// Whether it writes into the memory: LD B, Vx and LD [I], Vx.
+/// Whether an instruction writes into the memory: LD B, Vx and LD [I], Vx.
 pub(crate) fn stores(base: u16) -> bool
     ensures { result ≡ stores (decode_of base) }
 {
@@ -63,7 +63,8 @@ pub(crate) fn stores(base: u16) -> bool
     )
 }
 
-/// Whether a word makes a byte of random bits of which some may be 1: RND with a mask other than 0.
+/// Whether a word is an instruction that makes a byte of random bits, some of which may be 1: RND with a mask
+/// other than 0.
 pub(crate) fn draws(word: u16) -> bool
     ensures { result ≡ draws (decode_of word) }
 {
@@ -73,7 +74,7 @@ pub(crate) fn draws(word: u16) -> bool
     }
 }
 
-/// Whether it is one that SUPER-CHIP added: SCD, SCR, SCL, EXIT, LOW, HIGH, LD HF, LD R.
+/// Whether an instruction is one that SUPER-CHIP added: SCD, SCR, SCL, EXIT, LOW, HIGH, LD HF, LD R.
 pub(crate) fn is_super_instruction(base: u16) -> bool
     ensures { result ≡ is_super_instruction (decode_of base) }
 {

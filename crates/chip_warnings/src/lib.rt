@@ -1,4 +1,4 @@
-//! Warnings: what a source says that it may not mean.
+//! Warnings: things in a source that its author may not mean.
 #![tactic(auto)]
 
 mod asked;

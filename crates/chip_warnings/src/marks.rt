@@ -1,4 +1,4 @@
-//! What instructions do with the addresses that they name.
+//! The addresses that the instructions of a source name, and what for.
 
 ghost use Rattle.std.specs.Prelude.{◌≡◌, ◌<◌, ◌≤◌, ◌+◌, ◌&&◌, ◌||◌, ℕ, IfOk, length, nat_lt, slice_index, is_some};
 ghost use Rattle.std.specs.List.{list_any};
@@ -12,23 +12,24 @@ use crate::seen::Seen;
 use chip_lang::limits::MEMORY_BYTES;
 use std::alloc::{AllocError, Global};
 
-/// What the instructions of a source do with the addresses of the memory.
+/// The addresses of the memory that the instructions of a source name, those where its data begins, and
+/// whether it writes into the memory.
 #[derive(Drop)]
 pub(crate) struct Marks {
-    /// The addresses to which some JP or CALL goes, or a JP V0 may go.
+    /// For each address, whether some JP or CALL goes there, or a JP V0 may go there.
     jumped: Vec<bool>,
-    /// The addresses that some `LD I, a` names.
+    /// For each address, whether some `LD I, a` names it.
     pointed: Vec<bool>,
-    /// By its address, the number of the line of data that begins there, or 0.
+    /// For each address, the number of the line of data that begins there, or 0 if none does.
     data: Vec<usize>,
     /// Whether an instruction writes into the memory.
     writes: bool,
-    /// Whether instructions may be written over.
+    /// Whether the source may write over its instructions.
     pub(crate) writes_code: bool,
 }
 
 impl Marks {
-    /// The marks of the lines of a source.
+    /// Returns the marks of the lines of a source.
     pub(crate) fn of(alloc: Global, lines: &[Seen]) -> Result<Marks, AllocError>
         ensures { IfOk result (λ marks. marked_in marks ≡ marked_by lines.now) }
     {
@@ -46,15 +47,15 @@ impl Marks {
         })
     }
 
-    /// Whether a JP or CALL goes to an address.
+    /// Whether a JP or CALL goes to an address, or a JP V0 may go there.
     pub(crate) fn is_jumped(&self, address: usize) -> bool
         ensures { result ≡ (marked_in self.now).jumped address }
     {
         is_set(&self.jumped, address)
     }
 
-    /// The number of the line of data that begins at an address. None where the program may have
-    /// written there.
+    /// The number of the line of data that begins at an address, or `None` if there is none or the program
+    /// may have written there.
     pub(crate) fn data_at(&self, address: usize) -> Option<usize>
         ensures { is_some result ≡ (marked_in self.now).data_at address }
     {
@@ -68,16 +69,16 @@ impl Marks {
     }
 }
 
-/// What an instruction names addresses for.
+/// The purpose for which an instruction names addresses.
 #[derive(Clone, Copy)]
 pub(crate) enum Naming {
-    /// It may go to them.
+    /// The instruction may go to them.
     Jump,
-    /// They are those of bytes.
+    /// The instruction points at bytes there.
     Point,
 }
 
-/// For each address, whether some instruction names it for that.
+/// Returns for each address whether some instruction names it for the purpose `naming`.
 fn places_named(alloc: Global, lines: &[Seen], naming: Naming) -> Result<Vec<bool>, AllocError>
     ensures { IfOk result (λ flags.
         (a : ℕ) → flag flags.items a ≡ list_any (names_at naming a) lines.now) }
@@ -89,7 +90,7 @@ fn places_named(alloc: Global, lines: &[Seen], naming: Naming) -> Result<Vec<boo
     Ok(flags)
 }
 
-/// For each address, the number of the line of data that begins there, or 0.
+/// Returns for each address the number of the line of data that begins there, or 0 if none does.
 fn places_of_data(alloc: Global, lines: &[Seen]) -> Result<Vec<usize>, AllocError>
     ensures { IfOk result (λ numbers.
         (a : ℕ) → nat_lt 0 (slice_index numbers.items a) ≡ list_any (is_data_at a) lines.now) }
@@ -101,7 +102,7 @@ fn places_of_data(alloc: Global, lines: &[Seen]) -> Result<Vec<usize>, AllocErro
     Ok(numbers)
 }
 
-/// Notes the number of a line at its address, where it is data.
+/// Notes the number of a line at its address, if the line is data and the address lies in the memory.
 fn note_data(numbers: &mut [usize], number: usize, seen: &Seen)
     requires size { length numbers.old ≡ MEMORY_BYTES }
     requires counted { 0 < number }
@@ -114,7 +115,7 @@ fn note_data(numbers: &mut [usize], number: usize, seen: &Seen)
     }
 }
 
-/// How many addresses an instruction names for something, from the one in its word on.
+/// The number of addresses that an instruction names for a purpose, from the one in its word on.
 fn places_of(naming: Naming, seen: &Seen) -> usize
     ensures value { result ≡ places_of (places_named naming) (base_of seen.now.says) }
     ensures bound { result ≤ 256 }
@@ -144,7 +145,7 @@ fn is_store(seen: &Seen) -> bool
     }
 }
 
-/// Whether some line is an instruction of which some byte is flagged.
+/// Whether some line is an instruction with a byte at a flagged address.
 fn has_code_pointed(flags: &[bool], lines: &[Seen]) -> bool
     ensures { result ≡ list_any (λ s. is_code s.says
         && (flag flags.now s.address || flag flags.now (s.address + 1))) lines.now }
@@ -152,7 +153,7 @@ fn has_code_pointed(flags: &[bool], lines: &[Seen]) -> bool
     lines.iter().any(|seen| is_code_pointed(flags, seen))
 }
 
-/// Whether a line is an instruction of which some byte is flagged.
+/// Whether a line is an instruction with a byte at a flagged address.
 fn is_code_pointed(flags: &[bool], seen: &Seen) -> bool
     ensures { result ≡ (is_code seen.now.says
         && (flag flags.now seen.now.address || flag flags.now (seen.now.address + 1))) }
@@ -162,14 +163,14 @@ fn is_code_pointed(flags: &[bool], seen: &Seen) -> bool
         && (is_set(flags, seen.address) || is_set(flags, seen.address + 1))
 }
 
-/// Whether an address is flagged.
+/// Whether an address is flagged. Addresses past the last flag aren't.
 fn is_set(flags: &[bool], address: usize) -> bool
     ensures { result ≡ flag flags.now address }
 {
     address < flags.len() && flags[address]
 }
 
-/// Sets the flags of so many addresses, from one on.
+/// Sets the flags of `count` addresses, from `first` on, as far as there are flags.
 fn mark(flags: &mut [bool], first: usize, count: usize)
     requires size { length flags.old ≡ MEMORY_BYTES }
     requires first { first < 4096 }

@@ -18,8 +18,9 @@ use chip_lang::Span;
 use chip_properties::{PropertyFault, properties_of};
 use std::alloc::{AllocError, Global};
 
-/// The warnings of a source, in the order of the lines; none where a line has a fault. Properties that
-/// can't be read are among them, as P1 to P6. `asked.coverage` and `asked.reachable` are those of the source's image.
+/// Returns the warnings of a source in the order of its lines, or none if a line has a fault. They include P1
+/// to P6, for properties that can't be read. The caller passes the `asked.coverage` and `asked.reachable` of
+/// the source's image.
 ///
 /// # Errors
 ///
@@ -60,7 +61,7 @@ pub fn warnings(
     Ok(warnings)
 }
 
-/// What the warnings of a line follow from.
+/// Everything that the warnings of a line depend on, besides the line.
 #[derive(Clone, Copy)]
 pub(crate) struct Judge<'a> {
     pub(crate) marks: &'a Marks,
@@ -104,7 +105,7 @@ impl<'a> Judge<'a> {
             && self.flow.has(code, &self.asked, self.marks, seen)
     }
 
-    /// The warning of a kind of a line.
+    /// Returns the warning of the kind `code` for a line.
     fn warning(
         &self,
         alloc: Global,
@@ -129,8 +130,8 @@ impl<'a> Judge<'a> {
         })
     }
 
-    /// Adds the first of some faults of properties, where it stands on the line, and tells which ones
-    /// stand on later lines.
+    /// Adds the first of some faults of properties if it is on the line, and returns the faults that are
+    /// left, which are on later lines.
     #[tactic(auto, using(crate::proofs::Placed::adds_none))]
     fn push_fault_at<'b>(
         &self,
@@ -155,7 +156,7 @@ impl<'a> Judge<'a> {
         Ok(later)
     }
 
-    /// Adds the fault of a property that stands on the line, unless it is switched off.
+    /// Adds the fault of a property on the line, unless warnings of its code are switched off.
     #[tactic(auto, using(crate::proofs::Placed::adds_none))]
     fn push_fault(
         &self,

@@ -1,4 +1,4 @@
-//! What a line is to the lines around it.
+//! The parts of a line that matter to the lines around it.
 
 ghost use Rattle.std.specs.Prelude.{◌≡◌, ◌<◌, ◌+◌, ◌==◌, ◌&&◌, if◌then◌else◌};
 ghost use Rattle.chip_lang.specs.Line.{reading_of};
@@ -11,30 +11,30 @@ use crate::instruction::draws;
 use chip_asm::LineView;
 use chip_lang::{Body, Line, decode};
 
-/// What the bytes of a line are.
+/// The kind of bytes that a line has.
 #[derive(Clone, Copy)]
 pub(crate) enum Says {
-    /// The line has none.
+    /// The line has no bytes.
     Nothing,
-    /// An instruction: the word of its form without operands, and its own.
+    /// An instruction: `base` is the word of its form without operands, and `word` its own word.
     Code { base: u16, word: u16 },
-    /// So many values of DB.
+    /// DB with this number of values.
     Rows(usize),
-    /// DW that begins with the word of an instruction, or SYS.
+    /// SYS, or DW whose first word is the word of an instruction.
     PerhapsCode,
     /// Other data.
     Data,
 }
 
 impl Says {
-    /// Whether it is an instruction.
+    /// Whether the bytes are an instruction.
     pub(crate) fn is_code(self) -> bool
         ensures { result ≡ is_code self }
     {
         matches!(self, Says::Code { .. })
     }
 
-    /// The word of the form of an instruction.
+    /// The word of the instruction's form, or `None` if the bytes are no instruction.
     pub(crate) fn base(self) -> Option<u16>
         ensures { result ≡ base_of self }
     {
@@ -44,7 +44,7 @@ impl Says {
         }
     }
 
-    /// Whether it is an instruction that draws a random byte.
+    /// Whether the bytes are an instruction that draws a random byte.
     pub(crate) fn is_draw(self) -> bool
         ensures { result ≡ is_draw self }
     {
@@ -54,7 +54,7 @@ impl Says {
         }
     }
 
-    /// The address in an instruction's word.
+    /// The address in the instruction's word, or 0 if the bytes are no instruction.
     pub(crate) fn target(self) -> usize
         ensures value { result ≡ target_of self }
         ensures bound { result < 4096 }
@@ -65,7 +65,7 @@ impl Says {
         }
     }
 
-    /// Whether it is data.
+    /// Whether the bytes are data.
     pub(crate) fn is_data(self) -> bool
         ensures { result ≡ is_data self }
     {
@@ -73,29 +73,30 @@ impl Says {
     }
 }
 
-/// What a line is to the lines around it.
+/// The parts of a line that matter to the lines around it.
 #[derive(Clone, Copy)]
 pub(crate) struct Seen {
-    /// Counted from 1.
+    /// The number of the line, counted from 1.
     pub(crate) number: usize,
-    /// Where it stands, or would if it were active.
+    /// The address of the line, or the one that it would have if it were active.
     pub(crate) address: usize,
-    /// Whether a label or ORG stands here.
+    /// Whether the line is active and has a label or ORG.
     pub(crate) begins: bool,
-    /// Whether it gives a name that is never used.
+    /// Whether the line gives a name that is never used.
     pub(crate) unused: bool,
     pub(crate) says: Says,
 }
 
 impl Seen {
-    /// Whether it stands two bytes before an address.
+    /// Whether the line's address is two bytes before the given one.
     pub(crate) fn is_two_before(&self, address: usize) -> bool
         ensures { result ≡ (self.now.address + 2 == address) }
     {
         address >= 2 && address - 2 == self.address
     }
 
-    /// Whether one byte stands between an odd number of values of DB here and an odd number below.
+    /// Whether this line and the one below are DB with an odd number of values each, and one byte lies
+    /// between them.
     pub(crate) fn splits(&self, below: &Seen) -> bool
         ensures { result ≡ splits_from self.now.says self.now.address below.now }
     {
@@ -109,14 +110,14 @@ impl Seen {
     }
 }
 
-/// Whether a label or ORG stands on an active line.
+/// Whether a line is active and has a label or ORG.
 pub(crate) fn begins(line: &LineView<'_>) -> bool
     ensures { result ≡ (line.now.active && begins (reading_of line.now.text)) }
 {
     line.is_active() && is_begun_by(line.reading())
 }
 
-/// Whether a label or ORG stands on a line.
+/// Whether a line has a label or ORG.
 fn is_begun_by(line: &Line) -> bool
     ensures { result ≡ begins (seen_line line.now) }
 {
@@ -130,7 +131,7 @@ fn is_begun_by(line: &Line) -> bool
     }
 }
 
-/// What the bytes of an active line are.
+/// Returns the kind of bytes that a line has. A line that isn't active counts as one without bytes.
 pub(crate) fn says_of(line: &LineView<'_>) -> Says
     ensures { result ≡ (if line.now.active
         then says_by_reading (reading_of line.now.text) line.now.bytes
@@ -142,7 +143,7 @@ pub(crate) fn says_of(line: &LineView<'_>) -> Says
     said(line.reading(), line.bytes())
 }
 
-/// What the bytes of a line are.
+/// Returns the kind of bytes that a line has, given its reading.
 fn said(line: &Line, bytes: &[u8]) -> Says
     ensures { result ≡ says_by_reading (seen_line line.now) bytes.now }
 {
@@ -153,7 +154,7 @@ fn said(line: &Line, bytes: &[u8]) -> Says
     }
 }
 
-/// What the bytes of a body are that begin with a word.
+/// Returns the kind of a statement's bytes, given the word that they begin with.
 fn said_by(body: &Body, word: u16) -> Says
     ensures { result ≡ says_by_body (seen_body body.now) word }
 {
@@ -170,7 +171,7 @@ fn said_by(body: &Body, word: u16) -> Says
     }
 }
 
-/// The word that the first two bytes make, and 0 of fewer bytes.
+/// The word that the first two bytes make, or 0 if there are fewer.
 fn first_word(bytes: &[u8]) -> u16
     ensures { result ≡ first_word bytes.now }
 {

@@ -1,4 +1,4 @@
-//! What is known of a source before its lines are judged.
+//! The survey of a source, which is made before its lines are judged.
 
 ghost use Rattle.std.specs.Prelude.{◌≡◌, ◌<◌, ◌∷◌, [], List, ℕ, IfOk, OnOk, Some, slice_get, vec_len};
 ghost use Rattle.chip_lang.specs.SeenLine.{seen_line};
@@ -27,7 +27,7 @@ pub(crate) struct Survey {
 }
 
 impl Survey {
-    /// The survey of a source without faults.
+    /// Returns the survey of a source without faults.
     pub(crate) fn of(alloc: Global, source: &Source) -> Result<Survey, AllocError>
         ensures lines { IfOk result (λ survey.
             survey.lines.items ≡ seen_lines source.now.lines) }
@@ -40,7 +40,7 @@ impl Survey {
         Ok(Survey { lines, marks })
     }
 
-    /// The line at a place, from 0 on.
+    /// The line at a place, counted from 0.
     pub(crate) fn line(&self, place: usize) -> Seen
         requires { place < vec_len self.now.lines }
         ensures { slice_get self.now.lines.items place ≡ Some result }
@@ -49,7 +49,7 @@ impl Survey {
     }
 }
 
-/// The names that the lines of a source use.
+/// Returns the names that the lines of a source use.
 fn names_of(alloc: Global, source: &Source) -> Result<Names, AllocError>
     ensures { IfOk result (λ used.
         (name : List ℕ) → Has used name (is_used source.now.lines name)) }
@@ -87,7 +87,7 @@ fn note_expressions(alloc: Global, used: &mut Names, line: &Line) -> Result<(), 
     Ok(())
 }
 
-/// Adds the name of which a line asks.
+/// Adds the name after the IFDEF or IFUND of a line, if it has one.
 fn note_asked(alloc: Global, used: &mut Names, line: &Line) -> Result<(), AllocError>
     ensures { OnOk result (Knows (names_asked (seen_line line.now)) used.old used.new) }
 {
@@ -100,7 +100,7 @@ fn note_asked(alloc: Global, used: &mut Names, line: &Line) -> Result<(), AllocE
     }
 }
 
-/// Adds a name.
+/// Adds a name, unless it is there already.
 fn note_name(alloc: Global, used: &mut Names, name: &[u8]) -> Result<(), AllocError>
     ensures { OnOk result (Knows (name.now ∷ []) used.old used.new) }
 {
@@ -110,7 +110,7 @@ fn note_name(alloc: Global, used: &mut Names, name: &[u8]) -> Result<(), AllocEr
     Ok(())
 }
 
-/// The lines of a source that uses these names.
+/// Returns the lines of a source, given the names that it uses.
 fn lines_of(alloc: Global, source: &Source, used: &Names) -> Result<Vec<Seen>, AllocError>
     requires { (name : List ℕ) → Has used.now name (is_used source.now.lines name) }
     ensures { IfOk result (λ lines. lines.items ≡ seen_lines source.now.lines) }
@@ -124,7 +124,7 @@ fn lines_of(alloc: Global, source: &Source, used: &Names) -> Result<Vec<Seen>, A
     Ok(lines)
 }
 
-/// A line of a source that uses these names.
+/// Returns a line of a source, given the names that the source uses.
 fn seen_of(line: &LineView<'_>, used: &Names) -> Seen
     ensures { (texts : List (List ℕ))
         → ((name : List ℕ) → Has used.now name (is_used texts name))
@@ -139,7 +139,8 @@ fn seen_of(line: &LineView<'_>, used: &Names) -> Seen
     }
 }
 
-/// Whether a line gives a name that is never used.
+/// Whether an active line gives a name that is never used and isn't meant to stay. A label at the start of
+/// the image counts as used.
 fn is_unused(line: &LineView<'_>, used: &Names) -> bool
     ensures { (texts : List (List ℕ))
         → ((name : List ℕ) → Has used.now name (is_used texts name))
@@ -154,7 +155,7 @@ fn is_unused(line: &LineView<'_>, used: &Names) -> bool
     }
 }
 
-/// Whether a name is meant to stay though no line uses it.
+/// Whether a name is meant to stay even if no line uses it, because it begins with `_`.
 fn is_meant(name: &[u8]) -> bool
     ensures { result ≡ is_meant name.now }
 {

@@ -13,7 +13,7 @@ use chip_lang::{Fault, Span, show};
 use chip_machine::{Profile, Quirks};
 use std::alloc::{AllocError, Global};
 
-/// A fault that has the place of a warning: the name that the line defines, its operands, or the
+/// Returns a fault whose place is that of the warning: the name that the line defines, its operands, or the
 /// first word of its statement.
 pub(crate) fn fault_there(code: WarningCode) -> Fault {
     match code {
@@ -23,7 +23,8 @@ pub(crate) fn fault_there(code: WarningCode) -> Fault {
     }
 }
 
-/// The sentence of a warning of a line that was seen so, after the lines above it.
+/// Returns the sentence of a warning for a line. `seen` is what the survey has of the line, and `judge` knows
+/// the lines above it.
 pub(crate) fn sentence(
     alloc: Global,
     code: WarningCode,
@@ -64,7 +65,7 @@ pub(crate) fn sentence(
     Ok(text.into_bytes())
 }
 
-/// Says where a JP or CALL leads.
+/// Returns the sentence that says where a JP or CALL leads.
 fn jump_sentence(alloc: Global, seen: &Seen, marks: &Marks) -> Result<String, AllocError> {
     let name = match seen.says.base() {
         Some(base) if goes_elsewhere(base) => "JP",
@@ -74,13 +75,13 @@ fn jump_sentence(alloc: Global, seen: &Seen, marks: &Marks) -> Result<String, Al
     format!(in alloc; "{name} leads to data on line {target}")
 }
 
-/// Says at which address an instruction stands.
+/// Returns the sentence that says which odd address an instruction has.
 fn odd_sentence(alloc: Global, seen: &Seen) -> Result<String, AllocError> {
     let address = seen.address;
     format!(in alloc; "an instruction at the odd address 0x{address:X}")
 }
 
-/// Says which instruction the machine doesn't have.
+/// Returns the sentence that says which instruction the machine doesn't have.
 fn missing_sentence(alloc: Global, seen: &Seen, quirks: Quirks) -> Result<String, AllocError> {
     let word = match seen.says {
         Says::Code { word, .. } => word,
@@ -96,7 +97,8 @@ fn missing_sentence(alloc: Global, seen: &Seen, quirks: Quirks) -> Result<String
     }
 }
 
-/// Says up to which step no key script executes an instruction, or that none ever does.
+/// Returns the sentence that says up to which step no key script executes an instruction, or that none ever
+/// does.
 fn never_sentence(alloc: Global, coverage: Option<Coverage<'_>>) -> Result<String, AllocError> {
     match coverage {
         Some(
@@ -109,7 +111,7 @@ fn never_sentence(alloc: Global, coverage: Option<Coverage<'_>>) -> Result<Strin
     }
 }
 
-/// What helps with a warning.
+/// Returns the help for a warning: what to write instead, or nothing.
 pub(crate) fn help(code: WarningCode) -> &'static [u8] {
     match code {
         WarningCode::SplitRows => {

@@ -1,4 +1,4 @@
-//! A warning, and where it stands.
+//! Warnings: their kinds, and their places in a source.
 
 ghost use Rattle.std.specs.Prelude.{◌≡◌, ◌≤◌};
 ghost use Rattle.chip_warnings.specs.Warnings.{bit_of_warning, is_switched_off, letter_of_warning, number_of_warning};
@@ -6,10 +6,10 @@ ghost use Rattle.chip_warnings.specs.Warnings.{bit_of_warning, is_switched_off, 
 use chip_lang::Span;
 use chip_properties::FaultCode;
 
-/// What a source says that it may not mean.
+/// The kind of a warning: something in a source that its author may not mean.
 #[derive(Clone, Copy)]
 pub enum WarningCode {
-    /// W1: a zero byte of ALIGN ON stands between two rows of data.
+    /// W1: ALIGN ON puts a zero byte between two rows of data.
     SplitRows,
     /// W2: a name that no line uses.
     UnusedName,
@@ -25,14 +25,14 @@ pub enum WarningCode {
     NotInProfile,
     /// W8: an instruction that no key script executes.
     NeverExecuted,
-    /// W9: RND, where no tape of random bytes is given.
+    /// W9: RND, although no tape of random bytes is given.
     AlwaysZero,
     /// P1 to P6: a property that can't be read.
     Property(FaultCode),
 }
 
 impl WarningCode {
-    /// The letter before its number: P where a property can't be read, else W.
+    /// The letter before the number: P for a property that can't be read, and W for all others.
     pub fn letter(self) -> char
         ensures { result ≡ letter_of_warning self }
     {
@@ -42,7 +42,7 @@ impl WarningCode {
         }
     }
 
-    /// The number that a warning has: 1 to 9.
+    /// The number after the letter: 1 to 9 for W, and 1 to 6 for P.
     pub fn number(self) -> u32
         ensures value { result ≡ number_of_warning self }
         ensures bound { result ≤ 9 }
@@ -61,7 +61,7 @@ impl WarningCode {
         }
     }
 
-    /// Its bit in a set of warnings: k for Wk, and 9 + k for Pk.
+    /// The place of the warning's bit in a set of warnings: k for Wk, and 9 + k for Pk.
     fn bit(self) -> u32
         ensures value { result ≡ bit_of_warning self }
         ensures bound { result ≤ 15 }
@@ -72,7 +72,7 @@ impl WarningCode {
         }
     }
 
-    /// Whether its bit is set.
+    /// Whether the warning's bit is set in `allowed`, the set of warnings that are switched off.
     pub(crate) fn is_switched_off(self, allowed: u16) -> bool
         ensures { result ≡ is_switched_off allowed self }
     {
@@ -93,17 +93,17 @@ pub(crate) const CODES: &[WarningCode] = &[
     WarningCode::AlwaysZero,
 ];
 
-/// A warning, and where it stands.
+/// A warning and its place in a source.
 #[derive(Drop)]
 pub struct Warning {
-    /// The number of its line, from 1.
+    /// The number of the line, counted from 1.
     pub line: usize,
-    /// The bytes of the line at which it is.
+    /// The bytes of the line that the warning points at.
     pub span: Span,
-    /// Which warning it is.
+    /// The kind of the warning.
     pub code: WarningCode,
-    /// What it says, in one sentence without a newline.
+    /// The message: one sentence without a newline.
     pub sentence: Vec<u8>,
-    /// What to write, or nothing.
+    /// The text that says what to write instead, or nothing.
     pub help: Vec<u8>,
 }

@@ -1,4 +1,4 @@
--- What is kept of a source while its lines are judged.
+-- The data that is kept about a source while its lines are judged.
 use Rattle.std.specs.Prelude.{◌≡◌, ℕ, ◌&&◌, ◌||◌, not, Bool, false, nat_lt, List, slice_index, slice_index_or}
 use Rattle.std.specs.List.{list_any}
 use Rattle.std.specs.Global.{Vec}
@@ -8,21 +8,21 @@ use Rattle.chip_symbols.specs.declared.name_hasher.NameHasher.{NameHasher}
 use Rattle.chip_warnings.specs.declared.marks.Marks.{Marks}
 use Rattle.chip_warnings.specs.Marked.{Marked}
 
--- a set has a name exactly where this says so
+-- a set contains a name exactly if the answer is true
 abbrev pub Has : IndexSet (Vec ℕ) NameHasher → (name : List ℕ) → Bool → Type 0
 Has set name answer = list_any (λ (key : Vec ℕ). bytes_eq name key.items) set.keys ≡ answer
 
--- the new set has some names beside those of the old one
+-- the new set contains the names of the old one and these names, and no others
 abbrev pub Knows : (names : List (List ℕ)) (old new : IndexSet (Vec ℕ) NameHasher) → Type 0
 Knows names old new =
     (name : List ℕ)
     → Has new name (list_any (λ (key : Vec ℕ). bytes_eq name key.items) old.keys || list_any (bytes_eq name) names)
 
--- a flag by its address; false past the last
+-- the flag of an address; false for addresses past the last flag
 abbrev pub flag : (flags : List Bool) (address : ℕ) → Bool
 flag flags address = slice_index_or flags address false
 
--- what the flags say
+-- the marks that the flags stand for
 abbrev pub marked_in : Marks → Marked
 marked_in marks =
     record {
