@@ -1,4 +1,4 @@
--- What the program of calls needs.
--- Source: own.
---     Toy    the small machine that a replay is tried on
+-- The definitions that the program of calls needs.
+-- Source: chosen by this project.
+--     Toy    the small machine on which a replay is tried
 pub mod Toy

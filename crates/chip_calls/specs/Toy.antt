@@ -1,8 +1,8 @@
--- The small machine that a replay is tried on.
--- Source: own.
---     ToyState, toy_after, toy_touches     a step adds the byte at the counter to a sum, and counts
---                                          on
---     toy_framed                           the frame law of it
+-- The small machine on which a replay is tried.
+-- Source: chosen by this project.
+--     ToyState, toy_after, toy_touches     the machine, whose step adds the byte at the counter to a
+--                                          sum and 1 to the counter
+--     toy_framed                           the frame law of the machine
 use Rattle.std.specs.Prelude.{◌≡◌, ℕ, ◌+◌, ◌%◌, ◌^◌, Bool, List, [], ◌∷◌, All, IsFalse, length, slice_index, refl}
 use Rattle.std.specs.Coded.{Coded, code_by, coded×, coded_ℕ, coded_list}
 use Rattle.std.proofs.Common.{ap, ◌∙◌, sym, arith}
@@ -40,7 +40,7 @@ toy_after s keys tick =
       sum = (s.sum + slice_index s.bytes (s.counter % memory_size)) % 256;
     }
 
--- a step of one of two states that agree off a set
+-- the frame law for a step of two states that agree off a set
 abbrev pub ToyFramed : (ℕ → Bool) → ℕ → Bool → ToyState → ToyState → Type 0
 ToyFramed set keys tick a b =
     IsFramed toy_memory toy_with_memory (λ s. toy_after s keys tick) toy_touches set a b

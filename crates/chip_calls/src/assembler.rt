@@ -1,12 +1,12 @@
-//! Commands about a whole source: what chip_asm answers.
+//! Commands about a whole source, which chip_asm answers.
 //!
 //! - `ins N LINE`, `rep N LINE`, `del N`: edits, answered with `ok` or the refusal.
 //! - `lines`, `parsed`, `work`: how many lines there are, how many were read, and how many were
-//!   read and encoded. `encoded N`: whether at most so many were encoded.
-//! - `image`: its bytes in hexadecimal, `empty` or `none`; of a long one, how many bytes there are
-//!   and how many of them are not 0.
-//! - `fault N`, `faults`: the fault of a line, or all with their lines. `symbol NAME`, `symbols`: a
-//!   name's value and line, or all names with theirs. `listing`: the listing.
+//!   read and encoded. `encoded N`: whether at most N lines were encoded.
+//! - `image`: the bytes of the image in hexadecimal, `empty` or `none`; for an image of more than 32
+//!   bytes, how many bytes there are and how many of them are not 0.
+//! - `fault N`, `faults`: the fault of a line, or all faults with their lines. `symbol NAME`, `symbols`:
+//!   the value and the line of a name, or all names with theirs. `listing`: the listing.
 //! - `line N`: the number, address and size of a line, whether it is active, its bytes, its value, the
 //!   value that it defines, its fault and its text.
 
@@ -17,7 +17,7 @@ use chip_asm::{LineView, OpenError, Refusal, Source, Symbol};
 use chip_lang::Fault;
 use std::alloc::{AllocError, Global};
 
-/// Opens a source: by its bytes for `open-bytes`, else by a copy of them.
+/// Opens a source. For `open-bytes` the source takes the bytes themselves, otherwise a copy of them.
 pub(crate) fn opened(alloc: Global, word: &str, text: &[u8]) -> Result<Box<Source>, OpenError> {
     let source = if word == "open-bytes" {
         Source::open_bytes(alloc, Vec::from_slice(alloc, text)?)?
@@ -27,7 +27,7 @@ pub(crate) fn opened(alloc: Global, word: &str, text: &[u8]) -> Result<Box<Sourc
     Ok(boxed(alloc, source)?)
 }
 
-/// A source in a box, so that each caller lets it go by a call.
+/// Returns a source in a box, so that each caller drops it by one call.
 pub(crate) fn boxed(alloc: Global, source: Source) -> Result<Box<Source>, AllocError> {
     Ok(Box::new(alloc, source)?)
 }
@@ -50,7 +50,7 @@ pub(crate) fn edited(
     }
 }
 
-/// Makes an edit, and answers it.
+/// Makes an edit, and adds `ok` or the refusal to the answer.
 pub(crate) fn edit(
     alloc: Global,
     out: &mut Reply,

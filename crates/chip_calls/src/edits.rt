@@ -1,6 +1,6 @@
-//! `edits SEED COUNT` makes so many generated edits, from the source without lines on: after each
-//! all answers are those of the lines opened anew. It answers `ok` with the number of edits of each
-//! kind, or the first edit after which an answer differs.
+//! `edits SEED COUNT` makes COUNT generated edits, beginning with a source without lines. After each
+//! edit, all answers have to be those of the same lines opened anew. The command answers `ok` with the
+//! number of edits of each kind, or the first edit after which an answer differs.
 
 use crate::assembler::{boxed, edited, opened};
 use crate::output::{Refused, Reply};
@@ -8,11 +8,12 @@ use crate::text::{number, split_word};
 use chip_asm::Source;
 use std::alloc::{AllocError, Global};
 
-/// A source has no more lines than this.
+/// With this number of lines or more, an edit inserts a line only at the end. With more, an edit
+/// anywhere else deletes a line.
 const MOST_LINES: usize = 24;
 
-/// First data, instructions and lines without effect; then as many lines that move others, give
-/// names or open and close blocks.
+/// The lines of edits: 16 that are data, instructions or without effect, and then 16 that move other
+/// lines, give names, or open and close blocks.
 const LINES: &[&str] = &[
     "",
     "; a comment",
@@ -48,13 +49,13 @@ const LINES: &[&str] = &[
     "DS 3000",
 ];
 
-/// The next number of a sequence, below 65,536.
+/// Returns the next number of the sequence, below 65,536.
 pub(crate) fn next(state: &mut u32) -> u32 {
     *state = state.wrapping_mul(1_664_525).wrapping_add(1_013_904_223);
     *state / 65_536
 }
 
-/// A line of either kind, mostly one of the first.
+/// Returns some line of `LINES`; three times in four, one of the first 16.
 fn some_line(state: &mut u32) -> &'static str {
     let pick = next(state) % 16;
     let is_moving = next(state) % 4 == 0;
@@ -62,7 +63,7 @@ fn some_line(state: &mut u32) -> &'static str {
     LINES.get(place as usize).copied().unwrap_or("")
 }
 
-/// Adds all answers of a source but its work, one after another.
+/// Adds all answers of a source except for its work, one after another.
 fn push_answers(alloc: Global, out: &mut Reply, source: &Source) -> Result<(), AllocError> {
     out.debug(&source.faults(alloc)?);
     out.debug(&source.symbols(alloc)?);
@@ -71,7 +72,7 @@ fn push_answers(alloc: Global, out: &mut Reply, source: &Source) -> Result<(), A
     Ok(())
 }
 
-/// Whether a source answers as its lines opened anew do.
+/// Whether a source gives the answers that its lines give when they are opened anew.
 fn answers_alike(alloc: Global, source: &Source, lines: &[&str]) -> Result<bool, AllocError> {
     let mut text = Reply::new(alloc);
     for line in lines {
@@ -86,7 +87,7 @@ fn answers_alike(alloc: Global, source: &Source, lines: &[&str]) -> Result<bool,
     Ok(ours.is_whole && ours.text == theirs.text)
 }
 
-/// A source and its lines, and how many edits of each kind were made.
+/// A source, its lines, and the numbers of edits of each kind that were made.
 #[derive(Drop)]
 struct Edited {
     source: Box<Source>,
@@ -97,7 +98,7 @@ struct Edited {
 }
 
 impl Edited {
-    /// Makes some edit in the source and in its lines, and says whether it was accepted.
+    /// Makes some edit in the source and in its lines, and returns whether the source accepted it.
     fn edit_once(&mut self, alloc: Global, state: &mut u32) -> Result<bool, AllocError> {
         let line = some_line(state);
         let count = self.lines.len();
@@ -115,7 +116,7 @@ impl Edited {
         Ok(edited(alloc, &mut *self.source, word, number, line.as_bytes()).is_ok())
     }
 
-    /// Makes the edit of a command in the lines.
+    /// Makes the edit of a command in the lines, and counts it.
     fn edit_lines(
         &mut self,
         word: &str,
@@ -144,7 +145,8 @@ impl Edited {
         Ok(())
     }
 
-    /// Makes so many edits, and gives the number of the first after which an answer differs.
+    /// Makes `count` edits, and returns the number, from 0, of the first one that is refused or after which
+    /// an answer differs.
     fn first_difference(
         &mut self,
         alloc: Global,

@@ -1,9 +1,9 @@
-//! Commands about all states that a machine may come to: what chip_facts answers.
+//! Commands about all states that a machine may come to, which chip_facts answers.
 //!
-//! - `facts MACHINE BYTES`: what holds of all states that a machine with this image may come to. Each stop
-//!   that isn't excluded, as its address and cause, and how many addresses steps may be made at. MACHINE is
-//!   as in `start`. `unknown` where nothing is found.
-//! - `executed MACHINE BYTES`: the addresses.
+//! - `facts MACHINE BYTES`: the facts about all states that a machine with this image may come to: the
+//!   address and the cause of each stop that isn't excluded, and the number of addresses at which steps may
+//!   be made. MACHINE is as in `start`. The answer is `unknown` if no facts are found.
+//! - `executed MACHINE BYTES`: the addresses at which steps may be made, or `unknown`.
 
 use crate::machine::quirks_named;
 use crate::output::{Refused, Reply};
@@ -12,7 +12,7 @@ use chip_facts::{Facts, facts_of};
 use chip_lang::limits::IMAGE_BYTES;
 use std::alloc::Global;
 
-/// How many steps the search makes at most.
+/// The greatest number of steps that the search makes.
 const MOST_STEPS: usize = 400_000;
 
 /// Answers a command.

@@ -1,16 +1,17 @@
-//! Commands about one line of a source: what chip_lang answers, under no names.
+//! Commands about one line of a source, which chip_lang answers without a definition of any name.
 //!
-//! A LINE is the rest of the command, or `@text` for the text that was built.
+//! A LINE is the rest of the command, or `@text` for the built text.
 //!
 //! - `read LINE`: the name that the line defines (`-` for none), the kind of its statement, and its
-//!   value, name or code; or the fault of its reading. `read-length LINE`: how long that answer is.
-//! - `tokens LINE`: each token with its first byte and the place after its last one.
-//! - `defines LINE`, `name PLACE LINE`: the name that it defines, and the name that it uses at a
+//!   value, name or code; or the fault of its reading. `read-length LINE`: the length of that answer.
+//! - `tokens LINE`: each token with the place of its first byte and the place after its last one.
+//! - `defines LINE`, `name PLACE LINE`: the name that the line defines, and the name that it uses at a
 //!   place.
-//! - `constant LINE`: the value of an EQU without names. `nothing LINE`: how many lines were read
-//!   where only a line without a statement is. `copy LINE`: a copy of its bytes.
-//! - `place FAULT LINE`: the bytes at which such a fault of it lies. `mnemonic LINE`: its mnemonic.
-//! - `sentence FAULT`: what a fault says.
+//! - `constant LINE`: the value of an EQU without names. `nothing LINE`: how many lines are read if
+//!   only lines that say nothing are: 1 or 0. `copy LINE`: a copy of the bytes of the line.
+//! - `place FAULT LINE`: the bytes of the line at which such a fault lies. `mnemonic LINE`: the mnemonic
+//!   of the line.
+//! - `sentence FAULT`: the sentence that describes a fault.
 
 ghost use Rattle.chip_lang.specs.Value.{Symbols};
 ghost use Rattle.std.specs.FinMap as map;
@@ -23,7 +24,7 @@ use chip_lang::{
 };
 use std::alloc::{AllocError, Global};
 
-/// No names.
+/// A table without names.
 pub(crate) struct NoNames;
 
 impl Names for NoNames {
@@ -59,13 +60,13 @@ pub(crate) fn answer(
     Ok(())
 }
 
-/// A line as it is read, in a box, so that each caller lets it go by a call.
+/// Returns a line as it is read, in a box, so that each caller drops it by one call.
 pub(crate) fn read(alloc: Global, meter: &mut Meter, line: &[u8]) -> Result<Box<Line>, AllocError> {
     let line = read_line(alloc, meter, line)?;
     Ok(Box::new(alloc, line)?)
 }
 
-/// What there is to say of a line.
+/// Adds the answer to a command about a line that was read.
 fn push_said(alloc: Global, out: &mut Reply, word: &str, line: &Line) -> Result<(), AllocError> {
     match word {
         "read" => push_line(alloc, out, line)?,
@@ -84,7 +85,7 @@ pub(crate) fn push_fault(out: &mut Reply, fault: Fault) {
     out.show(&format_args!("F{}", fault.number()));
 }
 
-/// The label, the kind of the statement, and what its operand says.
+/// Adds the label, the kind of the statement, and the value, name or code of its operand; or the fault.
 fn push_line(alloc: Global, out: &mut Reply, line: &Line) -> Result<(), AllocError> {
     match line {
         Line::Bad(fault) => push_fault(out, *fault),
@@ -104,7 +105,7 @@ fn label_of(label: &Option<Bytes>) -> &[u8] {
     }
 }
 
-/// The kind of a statement, between two blanks.
+/// Returns the kind of a statement, between two blanks.
 fn kind_of(body: &Body) -> &'static str {
     match body {
         Body::Empty => " Empty ",
@@ -128,7 +129,7 @@ fn kind_of(body: &Body) -> &'static str {
     }
 }
 
-/// What the operand of a statement says.
+/// Adds the value, name or code of the operand of a statement, or its fault.
 fn push_operand(
     alloc: Global,
     out: &mut Reply,
@@ -166,7 +167,7 @@ fn push_used_name(alloc: Global, out: &mut Reply, built: &[u8], rest: &str) -> R
     Ok(())
 }
 
-/// The value of the expression of an EQU, where it is constant.
+/// Returns the value of the expression of an EQU, if it is constant.
 fn constant_of(line: &Line) -> Option<i32> {
     match line {
         Line::Read {
@@ -177,7 +178,7 @@ fn constant_of(line: &Line) -> Option<i32> {
     }
 }
 
-/// How many lines were read where a line without a statement is, which this one may not be.
+/// Returns how many lines `read_nothing` reads: 1 for a line that says nothing, and 0 for any other.
 fn count_of_nothing(bytes: &[u8]) -> u64 {
     let mut meter = Meter::new();
     if read_nothing(&mut meter, bytes) {
@@ -216,7 +217,7 @@ const FAULTS: &[Fault] = &[
     Fault::NotInProfile,
 ];
 
-/// The fault of a number, as `F4`.
+/// Returns the fault of a code such as `F4`, and fails if there is none.
 fn fault_of(name: &str) -> Result<Fault, Refused> {
     let place = match name.strip_prefix("F") {
         Some(digits) => number(digits)?.wrapping_sub(1),
@@ -228,7 +229,7 @@ fn fault_of(name: &str) -> Result<Fault, Refused> {
     }
 }
 
-/// Where in a line a fault lies: its first byte, and the place after its last one.
+/// Adds the place of a fault in a line: the place of its first byte, and the place after its last one.
 fn push_place(alloc: Global, out: &mut Reply, built: &[u8], rest: &str) -> Result<(), Refused> {
     let (fault, line) = split_word(rest);
     let span = fault_span(alloc, line_bytes(built, line), fault_of(fault)?)?;

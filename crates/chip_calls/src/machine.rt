@@ -1,20 +1,22 @@
-//! Commands about a machine: what chip_machine does and answers. Numbers are hexadecimal, but those
-//! of steps, rows, places and counts.
+//! Commands that chip_machine carries out or answers. Numbers are hexadecimal, except for those of
+//! steps, rows, places and counts.
 //!
-//! - `start MACHINE BYTES`: a machine with this image and the tape a5 5a. MACHINE is a profile, or one
-//!   and choices of quirks, with commas between them. `start-zeros IMAGE TAPE`: a machine with so
-//!   many zeros as its image and as its tape. Both answer `ok` or the error.
-//! - `run COUNT [KEYS]`: so many steps with these keys down, of which each tenth ticks. `step`,
-//!   `step-tick`: one step with no key down, after which `touches` and `touch-count` ask for the
-//!   addresses that it touched. `steps FROM COUNT KEYS`: so many steps at once, of which the first
-//!   has the number FROM and each tenth ticks; `first-touch ADDRESS` asks which touched it first.
-//! - `forgotten PARTS [KEYS]`: what is forgotten after the next step with these keys down, where
-//!   these parts are before it: `i`, or `near` where it is known to be where digits stand, `screen`, a
-//!   register's digit or `all`. Where that step needs some of them, `needs` with these.
-//! - `poke ADDRESS BYTE`, `exchange ADDRESS OLD NEW`: other bytes in the memory.
-//! - `keep`: keeps a copy. `swap`: goes on with the kept machine, and keeps this one. `take`: takes
-//!   the state of the kept one. `same-memory`: whether both have the same memory.
-//! - `touch-add ADDRESS`, `touch-clear`, `touch-empty`: the list of touched addresses alone.
+//! - `start MACHINE BYTES`: starts a machine with this image and the tape a5 5a. MACHINE is a profile, or
+//!   a profile and choices of quirks, with commas between them. `start-zeros IMAGE TAPE`: starts a machine
+//!   with IMAGE zeros as its image and TAPE zeros as its tape. Both answer `ok` or the error.
+//! - `run COUNT [KEYS]`: makes COUNT steps with these keys down; each tenth step ticks. `step`,
+//!   `step-tick`: makes one step with no key down, without or with a tick; `touches` and `touch-count`
+//!   then ask for the addresses that it touched. `steps FROM COUNT KEYS`: makes COUNT steps at once; the
+//!   first has the number FROM, and each tenth ticks. `first-touch ADDRESS` then asks which step touched
+//!   the address first.
+//! - `forgotten PARTS [KEYS]`: what is forgotten after the next step with these keys down, if PARTS are
+//!   forgotten before it: `i` for I, `near` for I if it is known to point at digits, `screen`, the digit of
+//!   a register, or `all`. If the step needs some of them, the answer is `needs` with these.
+//! - `poke ADDRESS BYTE`, `exchange ADDRESS OLD NEW`: changes bytes of the memory.
+//! - `keep`: keeps a copy of the machine. `swap`: goes on with the kept machine, and keeps this one.
+//!   `take`: takes the state of the kept machine. `same-memory`: whether both have the same memory.
+//! - `touch-add ADDRESS`, `touch-clear`, `touch-empty`: changes or asks for the list of touched addresses
+//!   alone.
 
 use crate::output::{Refused, Reply};
 use crate::state;
@@ -25,12 +27,12 @@ use chip_machine::{Forgotten, Machine, Profile, Quirks, SameKeys, Touch};
 use std::alloc::{AllocError, Global};
 use std::mem;
 
-/// A machine, one that is kept, and what their steps touched.
+/// A machine, a kept machine, and the addresses that their steps touched.
 #[derive(Drop)]
 pub(crate) struct Machines {
     machine: Option<Box<Machine>>,
     kept: Option<Box<Machine>>,
-    /// The steps that `run` made since the start.
+    /// The number of steps that `run` made since the start.
     steps: u32,
     touch: Touch,
     first_touch: Vec<u32>,
@@ -72,7 +74,7 @@ impl Machines {
         Ok(())
     }
 
-    /// What the machine does or answers.
+    /// Answers a command that the machine carries out or answers.
     fn answer_machine(
         &mut self,
         alloc: Global,
@@ -133,7 +135,7 @@ impl Machines {
         Ok(())
     }
 
-    /// Copies machines.
+    /// Keeps, takes or swaps machines.
     fn copy(&mut self, alloc: Global, word: &str) -> Result<(), AllocError> {
         match (word, &mut self.machine, &mut self.kept) {
             ("keep", Some(machine), kept) => *kept = Some(Box::new(alloc, machine.copy_of()?)?),
@@ -151,12 +153,12 @@ impl Machines {
     }
 }
 
-/// The keys that are down, none where a command names none.
+/// Returns the keys that are down: none if the command names none.
 fn keys_down(keys: &str) -> Result<u16, Refused> {
     hex_number(if keys.is_empty() { "0" } else { keys })
 }
 
-/// Makes so many steps, where the command says how many.
+/// Makes as many steps as the command says.
 fn run(
     machine: &mut Machine,
     touch: &mut Touch,
@@ -172,7 +174,7 @@ fn run(
     Ok(())
 }
 
-/// Makes steps at once.
+/// Makes several steps at once.
 fn make_steps(machine: &mut Machine, first_touch: &mut [u32], rest: &str) -> Result<(), Refused> {
     let (from, rest) = split_word(rest);
     let (count, keys) = split_word(rest);
@@ -222,7 +224,7 @@ fn push_first_touch(out: &mut Reply, first_touch: &[u32], address: u16) {
     }
 }
 
-/// Which parts some words with commas between them name.
+/// Returns the parts that words with commas between them name.
 fn parts_of(words: &str) -> Result<Forgotten, Refused> {
     let mut parts = Forgotten::nothing();
     for word in words.split(',') {
@@ -238,7 +240,7 @@ fn parts_of(words: &str) -> Result<Forgotten, Refused> {
     Ok(parts)
 }
 
-/// The register of a digit.
+/// Returns the register of a hexadecimal digit.
 fn register_of(word: &str) -> Result<Reg, Refused> {
     match Reg::new(hex_number(word)?.min(16) as u8) {
         Some(register) => Ok(register),
@@ -246,7 +248,7 @@ fn register_of(word: &str) -> Result<Reg, Refused> {
     }
 }
 
-/// What is forgotten after the next step, or what that step needs.
+/// Adds the parts that are forgotten after the next step, or those that the step needs.
 fn push_forgotten(out: &mut Reply, machine: &mut Machine, rest: &str) -> Result<(), Refused> {
     let (words, keys) = split_word(rest);
     match machine.forgotten_after(parts_of(words)?, keys_down(keys)?) {
@@ -259,7 +261,7 @@ fn push_forgotten(out: &mut Reply, machine: &mut Machine, rest: &str) -> Result<
     Ok(())
 }
 
-/// The names of some parts.
+/// Adds the names of some parts.
 fn push_parts(out: &mut Reply, parts: Forgotten) {
     if parts.is_nothing() {
         out.text("nothing");
@@ -285,7 +287,8 @@ fn push_parts(out: &mut Reply, parts: Forgotten) {
     }
 }
 
-/// The quirks of a profile, but for the choices that follow its name.
+/// Returns the quirks of a profile, except for the choices that follow its name, or `None` if there is
+/// no such profile or the choices are wrong.
 pub(crate) fn quirks_named(machine: &str) -> Option<Quirks> {
     match machine.split_once(',') {
         Some((name, list)) => Profile::from_name(name)?

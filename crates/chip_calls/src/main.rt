@@ -1,11 +1,11 @@
 //! Calls of chip_lang, chip_asm, chip_machine, chip_replay and chip_facts, as text: each line of the standard
-//! input is a command, and its answer is printed. The modules list the commands.
+//! input is a command, and the program prints its answer. The modules list the commands.
 //!
-//! - `text LINE`, `text-hex BYTES`: the built text is this line, or these bytes in hexadecimal.
-//!   `add COUNT LINE`, `add-hex COUNT BYTES`: so many times the same after it. `@text` stands for
-//!   the built text where a command ends with a line.
-//! - `source`: the lines up to `end` are the built text, and are opened. `open`, `open-bytes`: opens
-//!   the built text, by a copy or as a whole. All answer `ok` or the error.
+//! - `text LINE`, `text-hex BYTES`: makes this line, or these bytes in hexadecimal, the built text.
+//!   `add COUNT LINE`, `add-hex COUNT BYTES`: adds the line or the bytes to the built text COUNT times.
+//!   In a command that ends with a line, `@text` stands for the built text.
+//! - `source`: makes the lines up to `end` the built text, and opens it. `open`, `open-bytes`: opens
+//!   the built text, from a copy of its bytes or from the bytes themselves. All answer `ok` or the error.
 #![tactic(auto)]
 
 mod assembler;
@@ -30,12 +30,12 @@ use std::alloc::{AllocError, Global};
 use std::io;
 use std::io::{BufRead, BufReader};
 
-/// What the commands so far made.
+/// The state that the commands so far made.
 #[derive(Drop)]
 struct Calls {
     alloc: Global,
     built: Vec<u8>,
-    /// Whether the lines are those of a source.
+    /// Whether the next lines are those of a source, up to `end`.
     is_source: bool,
     source: Box<Source>,
     machines: Machines,
@@ -96,7 +96,7 @@ impl Calls {
         Ok(())
     }
 
-    /// Adds a line or bytes in hexadecimal so many times to the built text.
+    /// Adds a line, or bytes in hexadecimal, to the built text `count` times.
     fn add(&mut self, word: &str, count: u32, line: &str) -> Result<(), Refused> {
         if !word.ends_with("-hex") {
             return Ok(add_bytes(&mut self.built, count, line.as_bytes())?);
@@ -116,7 +116,7 @@ impl Calls {
         }
     }
 
-    /// Has the layer answer whose command it is.
+    /// Asks each layer in turn, until one answers the command.
     fn ask(&mut self, out: &mut Reply, word: &str, rest: &str) -> Result<(), Refused> {
         match language::answer(self.alloc, out, &self.built, word, rest) {
             Err(Refused::BadCommand) => (),
@@ -145,7 +145,7 @@ fn add_bytes(built: &mut Vec<u8>, count: u32, bytes: &[u8]) -> Result<(), AllocE
     Ok(())
 }
 
-/// The answer to a line of the input, without the blanks at its end.
+/// Returns the answer to a line of the input. Fails if memory runs out.
 fn answered(calls: &mut Calls, line: &str) -> Result<String, AllocError> {
     let mut out = Reply::new(calls.alloc);
     match calls.take(&mut out, line) {
@@ -160,7 +160,7 @@ fn answered(calls: &mut Calls, line: &str) -> Result<String, AllocError> {
     }
 }
 
-/// Answers each line of the input.
+/// Prints the answer to each line of the input, without the blanks at its end.
 fn answer_all(rt: &(impl Input + Print + AllocGlobal), calls: &mut Calls) -> io::Result<()> {
     for line in BufReader::new(rt.alloc(), rt.reader())?.lines(rt.alloc()) {
         let answer = answered(calls, line?.as_str())?;

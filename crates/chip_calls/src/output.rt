@@ -1,4 +1,4 @@
-//! The answer to a command, as it is written.
+//! The answer to a command, which is written part by part.
 
 use std::alloc::{AllocError, Global};
 use std::fmt::{Debug, Display};
@@ -6,7 +6,7 @@ use std::fmt::{Debug, Display};
 /// Why a command has no answer.
 #[derive(Drop)]
 pub(crate) enum Refused {
-    /// It is none of a layer's, or its words don't fit.
+    /// The layer has no such command, or the words of the command don't fit.
     BadCommand,
     OutOfMemory,
 }
@@ -17,8 +17,8 @@ impl From<AllocError> for Refused {
     }
 }
 
-/// The answer to a command. Its parts are added without a look at each: where memory runs out
-/// `is_whole` says at the end that some are missing.
+/// The answer to a command. Adding a part reports no error: if memory runs out, `is_whole` is false at
+/// the end, because some parts are missing.
 #[derive(Drop)]
 pub(crate) struct Reply {
     pub(crate) text: String,
@@ -39,13 +39,13 @@ impl Reply {
         self.is_whole &= added.is_ok();
     }
 
-    /// Adds what is shown of a value, as of `format_args!`.
+    /// Adds the text that `Display` shows for a value, such as one of `format_args!`.
     pub(crate) fn show<T: Display>(&mut self, value: &T) {
         let added = write!(self.text, "{value}");
         self.is_whole &= added.is_ok();
     }
 
-    /// Adds what is shown of a value to a programmer.
+    /// Adds the text that `Debug` shows for a value.
     pub(crate) fn debug<T: Debug>(&mut self, value: &T) {
         let added = write!(self.text, "{value:?}");
         self.is_whole &= added.is_ok();

@@ -1,16 +1,16 @@
-//! Commands about key events and about the replay of a small machine: what chip_replay answers.
+//! Commands about key events and about the replay of a small machine, which chip_replay answers.
 //!
-//! - `keys`: no key events. `toy SPACING`: the replay of a small machine whose memory has zeros
-//!   alone, at the rate 10. `toy-image WAY`: such a one with the spacing 1000, which is asked for
-//!   the step 5000 and then has another image: `whole` and `within` make the first byte 5, the
-//!   second by saying that only this byte changed, and `same` changes none.
+//! - `keys`: begins anew without key events. `toy SPACING`: makes the replay of a small machine whose
+//!   memory has only zeros, at the rate 10. `toy-image WAY`: makes such a replay with the spacing 1000,
+//!   asks for its step 5000 and then gives it another image: `whole` and `within` make the first byte 5,
+//!   `within` by saying that only this byte changed, and `same` changes no byte.
 //! - `insert STEP KEY down|up`, `replace STEP KEY down|up`, `delete STEP KEY`: edits of the key
 //!   events, answered with `ok` or the refusal. `fill STEP KEY down|up` inserts an event at each
-//!   step from 1 to that one. `held STEP`: the keys that are down, as a number.
-//! - `at STEP`: the sum of the small machine; `at-each STEP` asks for each step up to that one.
-//!   `counts`: the steps made, the last step that is known and how many checkpoints are kept.
-//!   `made`: the steps that the machine and its copies made. `is-counted`: whether the replay counts
-//!   as many.
+//!   step from 1 to STEP. `held STEP`: the keys that are down, as a number.
+//! - `at STEP`: the sum of the small machine at a step; `at-each STEP` asks for each step up to that one.
+//!   `counts`: how many steps the replay made, the last step that is known, and how many checkpoints are
+//!   kept. `made`: how many steps the machine and its copies made. `is-counted`: whether the replay
+//!   counts as many.
 
 ghost use Rattle.std.specs.Prelude.{◌≡◌, ◌≤◌, [], drop, IfOk};
 ghost use Rattle.chip_replay.specs.Image.{padded};
@@ -24,14 +24,14 @@ use std::alloc::{AllocError, Global};
 use std::cell::Cell;
 use std::rc::Rc;
 
-/// The replay of a small machine, and the steps that the machine and its copies made.
+/// The replay of a small machine, and the number of steps that the machine and its copies made.
 #[derive(Drop)]
 struct ToyRun {
     replay: Replay<Toy>,
     made: Rc<Cell<u64>>,
 }
 
-/// Key events: those of a replay where there is one.
+/// Key events, and the replay of a small machine. If there is a replay, commands are about its key events.
 #[derive(Drop)]
 pub(crate) struct Run {
     keys: Keys,
@@ -65,7 +65,7 @@ impl Run {
         Ok(())
     }
 
-    /// Makes an edit, and answers it.
+    /// Makes an edit, and adds `ok` or the refusal to the answer.
     fn edit(&mut self, out: &mut Reply, word: &str, rest: &str) -> Result<(), Refused> {
         let (step, rest) = split_word(rest);
         let (key, state) = split_word(rest);
@@ -81,7 +81,7 @@ impl Run {
         Ok(())
     }
 
-    /// The keys that are down at a step.
+    /// Adds the keys that are down at a step, as a number.
     fn push_held(&self, out: &mut Reply, step: u32) {
         let keys = match &self.toy {
             None => &self.keys,
@@ -145,7 +145,7 @@ pub(crate) fn edit_replay<M: Traced>(
     }
 }
 
-/// The sum at the last of these steps, or the first error at one of them.
+/// Adds the sum at the last of these steps, or the first error at one of them.
 fn push_sum(out: &mut Reply, replay: &mut Replay<Toy>, first: u32, last: u32) {
     let mut sum = 0;
     for step in first..=last {
@@ -157,8 +157,8 @@ fn push_sum(out: &mut Reply, replay: &mut Replay<Toy>, first: u32, last: u32) {
     out.show(&sum);
 }
 
-/// The replay of a small machine with checkpoints after so many steps each, or the nearest number
-/// that is allowed.
+/// Returns the replay of a small machine with this spacing of checkpoints, or the nearest spacing that is
+/// allowed.
 fn toy_run(alloc: Global, spacing: u32) -> Result<Box<ToyRun>, AllocError> {
     let made = Rc::new(alloc, Cell::new(0))?;
     let toy = Toy::new(alloc, made.clone()?)?;
@@ -167,7 +167,7 @@ fn toy_run(alloc: Global, spacing: u32) -> Result<Box<ToyRun>, AllocError> {
     Ok(Box::new(alloc, ToyRun { replay, made })?)
 }
 
-/// A replay that was asked about the step 5000; an error where the sum there is not 0.
+/// Returns a replay that was asked for the step 5000, and fails if the sum there is not 0.
 fn asked(alloc: Global, made: Rc<Cell<u64>>) -> Result<Replay<Toy>, AllocError>
     ensures { IfOk result (λ replay. drop image_start replay.start.bytes ≡ padded []) }
 {
@@ -179,7 +179,7 @@ fn asked(alloc: Global, made: Rc<Cell<u64>>) -> Result<Replay<Toy>, AllocError>
     }
 }
 
-/// Changes an image without bytes, in one of the three ways.
+/// Changes the image of a replay, which has no bytes, in one of the three ways of `toy-image`.
 fn change_image(replay: &mut Replay<Toy>, way: &str)
     requires { drop image_start replay.old.start.bytes ≡ padded [] }
 {
@@ -190,7 +190,7 @@ fn change_image(replay: &mut Replay<Toy>, way: &str)
     }
 }
 
-/// A replay that was asked and then has another image.
+/// Returns a replay that was asked for a step and then got another image.
 fn toy_with_image(alloc: Global, way: &str) -> Result<Box<ToyRun>, AllocError> {
     let made = Rc::new(alloc, Cell::new(0))?;
     let mut replay = asked(alloc, made.clone()?)?;

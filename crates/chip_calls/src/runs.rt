@@ -1,7 +1,7 @@
-//! `runs SEED COUNT` makes replays of so many generated programs, by the seeds from that one on,
-//! with questions in any order and edits of key events between: each answer has to be the state of
-//! a bare machine that makes every step from the start. It answers `ok` with the count, or the
-//! first difference.
+//! `runs SEED COUNT` makes replays of COUNT generated programs, whose seeds are SEED and the numbers
+//! after it. Each replay is asked about steps in any order, with edits of key events between the
+//! questions. Each answer has to be the state of a bare machine that makes every step from the start.
+//! The command answers `ok` with the count, or the first difference.
 
 use crate::edits::next;
 use crate::output::{Refused, Reply};
@@ -12,33 +12,33 @@ use chip_machine::{Machine, Profile, Touch};
 use chip_replay::{LEAST_SPACING, Replay};
 use std::alloc::{AllocError, Global};
 
-/// How many edits and questions each program has.
+/// How many times each program gets some edits and then a question.
 const COMMANDS: u32 = 12;
 
-/// Questions are about earlier steps than this, which is past a checkpoint.
+/// The first step of a question is below this one, which is past a checkpoint.
 const STEPS: u32 = 2000;
 
-/// A question is about so many steps in order.
+/// The number of successive steps that a question is about.
 const NEAR: u32 = 4;
 
-/// The keys that have events, each at steps that are multiples of `APART`.
+/// The number of keys that have events. Events are at steps that are multiples of `APART`.
 const KEYS: u32 = 4;
 
 const APART: u32 = 16;
 
-/// A replay, and what it was made of as edited so far.
+/// A replay, and the parts that it was made from, with the edits so far.
 #[derive(Drop)]
 struct Run {
     start: Box<Machine>,
     rate: u32,
-    /// For each step that can have events each key, and whether it is down from then on.
+    /// The event of each key at each step that can have events: whether the key is down from then on.
     events: Vec<Option<bool>>,
     replay: Replay<Machine>,
 }
 
-/// The words of each kind: the first one, how far apart so many of them stand, and how far apart
-/// those of 16 registers. Mostly they are instructions that stay in the program, write into it or
-/// read the keys.
+/// The words of each kind: the first one, the distance from one to the next, how many there are, and the
+/// distance from those of one register to those of the next of 16. Most words are instructions that stay
+/// in the program, write into it or read the keys.
 const WORDS: &[(u32, u32, u32, u32)] = &[
     (0x6000, 1, 0x1000, 0),
     (0x6000, 1, 0x1000, 0),
@@ -62,7 +62,7 @@ const WORDS: &[(u32, u32, u32, u32)] = &[
     (0xf007, 0x100, 16, 0),
 ];
 
-/// A word of a kind, with these digits.
+/// Returns a word of a kind, with these digits.
 fn word_of(kind: u32, digits: u32) -> u16 {
     let (first, apart, count, register) = match WORDS.get((kind % 20) as usize) {
         Some(words) => *words,
@@ -73,7 +73,7 @@ fn word_of(kind: u32, digits: u32) -> u16 {
     (first.wrapping_add(place).wrapping_add(of_register) % 65_536) as u16
 }
 
-/// A machine with a generated program.
+/// Returns a machine with a generated program.
 fn some_machine(alloc: Global, state: &mut u32) -> Result<Box<Machine>, AllocError> {
     let mut image = Vec::new(alloc);
     for _ in 0..24u32 {
@@ -86,7 +86,7 @@ fn some_machine(alloc: Global, state: &mut u32) -> Result<Box<Machine>, AllocErr
     }
 }
 
-/// A run of a generated program.
+/// Returns a run of a generated program.
 fn opened(alloc: Global, state: &mut u32) -> Result<Box<Run>, AllocError> {
     let events = vec![in alloc; None; (STEPS / APART * KEYS) as usize]?;
     let start = some_machine(alloc, state)?;
@@ -101,7 +101,7 @@ fn opened(alloc: Global, state: &mut u32) -> Result<Box<Run>, AllocError> {
     Ok(Box::new(alloc, run)?)
 }
 
-/// The keys that are down in a step, by those that were down in the one before it.
+/// Returns the keys that are down in a step, from those that were down in the step before it.
 fn keys_in_step(events: &[Option<bool>], step: u32, before: u16) -> u16 {
     let mut keys = before;
     if step % APART == 0 {
@@ -133,8 +133,8 @@ fn have_same_lists(one: &Machine, other: &Machine) -> bool {
         & (one.memory() == other.memory())
 }
 
-/// The counters and the timers of a machine, whether its screen has the high size, and why it
-/// stopped.
+/// Returns the counters and the timers of a machine, whether its screen has the high size, and the
+/// number of its stop cause.
 fn counts(machine: &Machine) -> [u64; 7] {
     [
         u64::from(machine.pc()),
@@ -147,7 +147,8 @@ fn counts(machine: &Machine) -> [u64; 7] {
     ]
 }
 
-/// Whether the replay answers some steps from one on as a machine that makes each step.
+/// Whether, for `NEAR` steps from `first` on, the replay gives the states of a machine that makes each
+/// step.
 fn answers_from(run: &mut Run, first: u32) -> Result<bool, AllocError> {
     let mut machine = run.start.copy_of()?;
     let mut touch = Touch::new();
@@ -162,7 +163,7 @@ fn answers_from(run: &mut Run, first: u32) -> Result<bool, AllocError> {
     Ok(true)
 }
 
-/// Whether the state that a replay answers is that of a machine.
+/// Whether the replay gives the state of this machine at a step.
 fn is_at(replay: &mut Replay<Machine>, step: u32, machine: &Machine) -> bool {
     match replay.at(step) {
         Ok(state) => are_alike(state, machine),
@@ -170,8 +171,8 @@ fn is_at(replay: &mut Replay<Machine>, step: u32, machine: &Machine) -> bool {
     }
 }
 
-/// Some edit of a key event, and whether it was accepted: one that is there is changed or taken
-/// out.
+/// Makes some edit of a key event, and returns whether it was accepted. An event that is there is
+/// replaced or deleted.
 fn edit(run: &mut Run, state: &mut u32) -> bool {
     let step = next(state) % STEPS / APART * APART;
     let key = next(state) % KEYS;
@@ -193,7 +194,7 @@ fn edit(run: &mut Run, state: &mut u32) -> bool {
     edit_replay(&mut run.replay, word, step, key, down).is_ok()
 }
 
-/// Makes some edits, and says whether the replay then answers as it should.
+/// Makes some edits, and returns whether all were accepted and the replay then answers as it should.
 fn goes_on(run: &mut Run, state: &mut u32) -> Result<bool, AllocError> {
     for _ in 0..next(state) % 4 {
         if !edit(run, state) {
@@ -203,7 +204,8 @@ fn goes_on(run: &mut Run, state: &mut u32) -> Result<bool, AllocError> {
     answers_from(run, next(state) % STEPS)
 }
 
-/// Makes the run of a seed, and gives the first command after which an answer differs.
+/// Makes the run of a seed, and returns the number, from 0, of the first command after which an answer
+/// differs.
 fn first_difference(alloc: Global, seed: u32) -> Result<Option<u32>, AllocError> {
     let mut state = seed;
     let mut run = opened(alloc, &mut state)?;

@@ -1,14 +1,15 @@
-//! Pieces of commands.
+//! The parts of commands.
 
 use crate::output::Refused;
 use std::alloc::Global;
 
-/// The text up to the first blank, and what stands after it.
+/// Returns the text before the first blank, and the text after it.
 pub(crate) fn split_word(text: &str) -> (&str, &str) {
     text.split_once(" ").unwrap_or((text, ""))
 }
 
-/// The bytes that a line of a command stands for: the text that was built, for `@text`.
+/// Returns the bytes that the line of a command stands for: the built text for `@text`, otherwise the
+/// bytes of the line.
 pub(crate) fn line_bytes<'a>(built: &'a [u8], line: &'a str) -> &'a [u8] {
     if line == "@text" {
         built
@@ -17,7 +18,7 @@ pub(crate) fn line_bytes<'a>(built: &'a [u8], line: &'a str) -> &'a [u8] {
     }
 }
 
-/// A decimal number.
+/// Returns the number of 32 bits that a text is in decimal, and fails if it is none.
 pub(crate) fn number(text: &str) -> Result<u32, Refused> {
     match text.parse::<u32>() {
         Ok(number) => Ok(number),
@@ -25,7 +26,7 @@ pub(crate) fn number(text: &str) -> Result<u32, Refused> {
     }
 }
 
-/// A hexadecimal number.
+/// Returns the number of 16 bits that a text is in hexadecimal, and fails if it is none.
 pub(crate) fn hex_number(text: &str) -> Result<u16, Refused> {
     match u16::from_str_radix(text, 16) {
         Ok(number) => Ok(number),
@@ -33,7 +34,8 @@ pub(crate) fn hex_number(text: &str) -> Result<u16, Refused> {
     }
 }
 
-/// The bytes of a text in hexadecimal, with blanks between them.
+/// Returns the bytes of a text in hexadecimal, which may have blanks between them. Fails if the text has
+/// other characters, or an odd number of digits.
 pub(crate) fn bytes_of_hex(alloc: Global, text: &str) -> Result<Vec<u8>, Refused> {
     let digits = text.replace(alloc, " ", "")?;
     match hex::decode(alloc, digits.as_str()) {

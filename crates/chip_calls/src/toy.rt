@@ -1,5 +1,5 @@
-//! A small machine for a replay, which has the steps that a machine is given where it makes one
-//! step alone.
+//! A small machine for a replay. The machine defines one step alone, and so it has the `steps` that
+//! the trait gives by default.
 
 ghost use Rattle.std.specs.Prelude.{◌≡◌};
 
@@ -11,8 +11,8 @@ use std::cell::Cell;
 use std::marker::Model;
 use std::rc::Rc;
 
-/// A machine whose step adds the byte at the counter to the sum, and counts on. Its copies share a
-/// count of their steps.
+/// A machine whose step adds the byte at the counter to the sum, and 1 to the counter. A machine and
+/// its copies share one count of their steps.
 #[derive(Drop)]
 pub(crate) struct Toy {
     alloc: Global,
@@ -39,7 +39,7 @@ impl Model for Toy {
 impl Toy {
     ghost use Rattle.std.specs.Prelude.{IfOk, replicate};
 
-    /// A machine with a memory of zeros, whose steps are counted there.
+    /// Returns a machine with a memory of zeros. The machine and its copies count their steps in `made`.
     pub(crate) fn new(alloc: Global, made: Rc<Cell<u64>>) -> Result<Toy, AllocError>
         ensures { IfOk result (λ toy. toy
             ≡ record { bytes = replicate MEMORY_BYTES 0; counter = 0; sum = 0 }) }
@@ -53,7 +53,7 @@ impl Toy {
         })
     }
 
-    /// The sum.
+    /// Returns the sum.
     pub(crate) fn sum(&self) -> u8 {
         self.sum
     }

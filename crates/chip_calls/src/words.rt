@@ -1,10 +1,10 @@
 //! Commands about words of instructions.
 //!
-//! - `decode WORD`: the word of the instruction that a word is, or `none`. `show WORD`: its source
-//!   text, once as a new text and once added to another.
+//! - `decode WORD`: the word of the instruction that WORD encodes, or `none`. `show WORD`: the source
+//!   text of WORD, once as a new text and once added to another.
 //! - `decode-all`: how many words are instructions; each has to be the word of its instruction.
-//! - `show-all`: how many lines were read and encoded, where the source text of each word is; each
-//!   has to have the word as its code, and to be one of data where the word is not an instruction.
+//! - `show-all`: how many lines were read and encoded when the source text of every word is. Each line
+//!   has to have the word as its code, and to be one of data exactly if the word is not an instruction.
 
 use crate::language::{NoNames, read};
 use crate::output::{Refused, Reply};
@@ -29,7 +29,7 @@ pub(crate) fn answer(
     Ok(())
 }
 
-/// The word of the instruction that a word is.
+/// Returns the word of the instruction that a word encodes, or `None` if it encodes none.
 fn decoded(word: u16) -> Option<u16> {
     decode(word).map(word_of)
 }
@@ -74,8 +74,8 @@ fn show_all(alloc: Global, out: &mut Reply) -> Result<(), AllocError> {
     Ok(())
 }
 
-/// Whether the source text of a word is one of data where it has to be, and has the word as its
-/// code.
+/// Whether the source text of a word has the word as its code, and is one of data exactly if the word is
+/// not an instruction.
 fn gives_back(alloc: Global, meter: &mut Meter, word: u16) -> Result<bool, AllocError> {
     let text = show(alloc, word)?;
     let is_data = text.as_str().starts_with("DW");
