@@ -56,7 +56,7 @@ pub pair_is : (digits : List ℕ) (byte : ℕ) → digits ≡ hex_byte byte → 
 unfolding encode_with
 pair_is digits byte h = (ap (λ l. slice_index l 0) h, ap (λ l. slice_index l 1) h)
 
--- what is left of the text, from one byte on
+-- the rest of the text, from one byte on
 spaced-drop : (xs : List ℕ) (i : ℕ) → i < length xs → spaced hex_byte (drop i xs) ≡
     32 ∷ slice_index lower_digits (slice_index xs i / 16) ∷ slice_index lower_digits (slice_index xs i % 16) ∷ spaced hex_byte (drop (i + 1) xs)
 unfolding encode_with

@@ -8,13 +8,13 @@ pub joined_is : {A : Type 0} (between : ℕ) (f : A → List ℕ) (x : A) (xs : 
 joined_is between f x [] = sym (append-nil (f x))
 joined_is between f x (y ∷ ys) = ap (λ rest. f x ++ (between ∷ rest)) (joined_is between f y ys)
 
--- the same after a front
+-- pieces with a byte between each two, after a front
 pub joined_more : {A : Type 0} (between : ℕ) (f : A → List ℕ) (front : List ℕ) (x : A) (xs : List A) →
     (front ++ f x) ++ flat_map (λ y. between ∷ f y) xs ≡ front ++ join_with_byte between (map f (x ∷ xs))
 joined_more between f front x xs =
     append_assoc front (f x) (flat_map (λ y. between ∷ f y) xs) ∙ ap (λ l. front ++ l) (sym (joined_is between f x xs))
 
--- the same with a byte before the first piece, and one after the last
+-- pieces with a byte between each two, one before the first piece, and one after the last
 pub enclosed_more : {A : Type 0} (before between after : ℕ) (f : A → List ℕ) (front : List ℕ) (x : A) (xs : List A) →
     ((front ++ before ∷ f x) ++ flat_map (λ y. between ∷ f y) xs) ++ after ∷ []
     ≡ front ++ (before ∷ join_with_byte between (map f (x ∷ xs)) ++ after ∷ [])

@@ -23,7 +23,7 @@ pub names_without : (q : Quirks) (choices : List (Bor (List ℕ) × Choice)) (pl
     has_choice q (get_or choices place d).1 ≡ false → names_in (values (drop place choices)) q ≡ names_in (values (drop (place + 1) choices)) q
 names_without q choices place d below hasn't = rw (drop_more choices place d below, hasn't) refl
 
--- one that it has adds its name
+-- a choice that the machine has adds its name
 pub names_with : (q : Quirks) (choices : List (Bor (List ℕ) × Choice)) (place : ℕ) (d : Bor (List ℕ) × Choice) → place < length choices →
     has_choice q (get_or choices place d).1 ≡ true →
     names_in (values (drop place choices)) q ≡ (get_or choices place d).0.now ∷ names_in (values (drop (place + 1) choices)) q

@@ -27,7 +27,7 @@ none_registered p a (suc n) none =
     ap (λ t. cond t (Some (Register a)) (find p (map (λ x. Register x) (range_with_len (a + 1) n)))) (none a (omega arith))
     ∙ none_registered p (a + 1) n (λ k lt. none k (omega arith))
 
--- what is found passes
+-- an element that `find` returns passes the test
 find_passes : (p : Column → Bool) (xs : List Column) (column : Column) → find p xs ≡ Some column → p column ≡ true
 find_passes p [] column e = absurd (cc)
 find_passes p (x ∷ xs) column e = first_or (p x) refl (find p xs) e (λ rest. find_passes p xs column rest)
@@ -102,7 +102,7 @@ line_is line e =
     let front = (bytes_eq-Decides (codes "# ") (take 2 line)).0 e in
     sym (take-append-drop 2 line) ∙ ap (λ l. l ++ drop 2 line) (sym front)
 
--- columns whose names are those of a line
+-- the header line of columns whose names are those of a line
 pub header_is : (line : List ℕ) (columns : List Column) → begins line ≡ true → map Some columns ≡ columns_named line → header_line columns ≡ str_to_ascii_lowercase line
 header_is line columns e named =
     let names : List (List ℕ) = slice_split is_space (drop 2 line) in

@@ -89,7 +89,7 @@ lines_more form columns state from to more =
     ap (λ last. lines_to form columns state from to from (last - from) last) (end_later form columns state from to more)
     ∙ ap (λ n. lines_to form columns state from to from n end) one
 
--- the states of a run that is the same
+-- the same run has the same states
 pub same_states : (a b : History State) → SameRun a b → states_of b ≡ states_of a
 same_states a b same = rw (same.start, same.rate, same.keys) refl
 

@@ -1,4 +1,4 @@
--- The columns of a trace, their names, and the line that names them (own).
+-- The columns of a trace, their names, and the line that names them (chosen by this project).
 use Rattle.std.specs.Prelude.{ℕ, Bool, List, [], ◌∷◌, ◌++◌, map, codes, slice_index, if◌then◌else◌}
 use Rattle.std.specs.List.{join_with_byte, range_with_len}
 use Rattle.hex.specs.Hex.{lower_digits}
@@ -19,17 +19,17 @@ column_name Screen = codes "screen"
 column_name Memory = codes "memory"
 column_name Text = codes "text"
 
--- V0 to VF
+-- the columns of V0 to VF
 abbrev pub register_columns : List Column
 register_columns = map (λ x. Register x) (range_with_len 0 16)
 
--- the columns of a trace for which none are asked, with those of the sums or without them
+-- the default columns of a trace, with or without the two sums
 abbrev pub usual_columns : (sums : Bool) → List Column
 usual_columns sums =
     (Step ∷ Pc ∷ Word ∷ []) ++ register_columns
     ++ (Index ∷ Delay ∷ Sound ∷ Depth ∷ Draws ∷ [])
     ++ (if sums then Screen ∷ Memory ∷ [] else []) ++ (Text ∷ [])
 
--- the line that names the columns: a `#`, and the names, with a space before each
+-- the line that names the columns: a `#`, and the names with a space before each
 abbrev pub header_line : List Column → List ℕ
 header_line columns = codes "# " ++ join_with_byte 32 (map column_name columns)

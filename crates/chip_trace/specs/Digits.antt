@@ -1,4 +1,4 @@
--- Numbers in hexadecimal (own).
+-- Numbers in hexadecimal (chosen by this project).
 use Rattle.std.specs.Prelude.{ℕ, ◌/◌, ◌%◌, ◌^◌, List, [], ◌∷◌, ◌++◌}
 use Rattle.std.specs.List.{flat_map}
 use Rattle.hex.specs.Hex.{encode_lower}

@@ -1,4 +1,4 @@
--- What the lines of a trace are in each form (own).
+-- The lines of a trace in each form (chosen by this project).
 use Rattle.std.specs.Prelude.{ℕ, Bool, List, [], ◌∷◌, ◌++◌}
 use Rattle.chip_machine.specs.State.{State}
 use Rattle.chip_machine.specs.declared.quirks.Quirks.{Quirks}
@@ -10,13 +10,13 @@ use Rattle.chip_trace.specs.declared.column.Column.{Column}
 use Rattle.chip_trace.specs.declared.form.Form.{Form}
 use Rattle.chip_trace.specs.declared.form.Form.TheVariants.{Fields, Json}
 
--- the line of a step, as a form has it
+-- the line of a step in a form
 unfoldable pub row_of : Form → List Column → (step : ℕ) → State → (is_last : Bool) → List ℕ
 row_of Fields columns step s is_last = line_of columns step s is_last
 row_of Json columns step s is_last = json_line_of columns step s is_last
 
--- the lines above those of the steps of a machine: the one that names the machine, where there is
--- one, and the one that names the columns; none as JSON
+-- the header lines of a trace of a machine: the line that names the machine, if there is one, and the line that
+-- names the columns; none as JSON
 abbrev pub header_lines : Form → Quirks → List Column → List (List ℕ)
 header_lines Fields quirks columns = machine_lines quirks ++ header_line columns ∷ []
 header_lines Json quirks columns = []

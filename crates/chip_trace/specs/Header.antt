@@ -1,4 +1,4 @@
--- The line that names the columns of a trace, read (own).
+-- Reading the line that names the columns of a trace (chosen by this project).
 use Rattle.std.specs.Prelude.{ℕ, ◌+◌, ◌-◌, ◌==◌, nat_eq, Bool, true, false, not, List, [], ◌∷◌, ◌++◌, drop, take, length, map, codes, Option, Some, None, is_none, if◌then◌else◌}
 use Rattle.std.specs.List.{find, list_any, position_or_len, slice_split, starts_with}
 use Rattle.std.specs.Str.{str_eq_ignore_ascii_case}
@@ -8,23 +8,23 @@ use Rattle.chip_trace.specs.declared.column.Column.TheVariants.{Step, Pc, Word, 
 use Rattle.chip_trace.specs.declared.header.HeaderError.{HeaderError}
 use Rattle.chip_trace.specs.declared.header.HeaderError.TheVariants.{NotAHeader, UnknownColumn, TextNotLast}
 
--- the columns that show no register
+-- the columns other than those of the registers
 abbrev pub other_columns : List Column
 other_columns =
     Step ∷ Pc ∷ Word ∷ Index ∷ Delay ∷ Sound ∷ Depth ∷ Draws ∷ Screen ∷ Memory ∷ Text ∷ []
 
--- whether a column has a name, letters' case ignored
+-- whether a column has a name, ignoring the case of letters
 abbrev pub is_named : List ℕ → Column → Bool
 is_named name column = str_eq_ignore_ascii_case name (column_name column)
 
--- the column of a name
+-- the column with a name
 unfoldable pub column_of : List ℕ → Option Column
 column_of name = find (is_named name) (other_columns ++ register_columns)
 
 abbrev pub is_space : ℕ → Bool
 is_space byte = byte == 32
 
--- the columns of the names after the first two bytes of a line, with a space between each two
+-- the columns whose names follow the first two bytes of a line, with a space between each two names
 abbrev pub columns_named : List ℕ → List (Option Column)
 columns_named line = map column_of (slice_split is_space (drop 2 line))
 
@@ -32,15 +32,15 @@ abbrev pub is_text : Option Column → Bool
 is_text (Some Text) = true
 is_text _ = false
 
--- whether the column of the text stands before the last one
+-- whether the column `text` comes before the last column
 abbrev pub has_text : List (Option Column) → Bool
 has_text columns = list_any is_text (take (length columns - 1) columns)
 
--- the number, from 1, of the first name that is no column's
+-- the number, from 1, of the first name that is not the name of a column
 abbrev pub first_unknown : List (Option Column) → ℕ
 first_unknown columns = position_or_len is_none columns + 1
 
--- the first reason, in the order of the tests, for which a line does not name columns
+-- the first reason why a line does not name columns, in the order of these tests
 unfoldable pub header_fault : List ℕ → Option HeaderError
 header_fault line =
     if not (starts_with nat_eq line (codes "# ")) then Some NotAHeader

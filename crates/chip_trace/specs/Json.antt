@@ -1,4 +1,4 @@
--- The line of a step as a JSON object (own; the form of an object is that of JSON).
+-- The line of a step as a JSON object (the members were chosen by this project; the syntax is that of JSON).
 use Rattle.std.specs.Prelude.{ℕ, Bool, List, [], ◌∷◌, ◌++◌, length, map, slice_index}
 use Rattle.std.specs.Fmt.{decimal}
 use Rattle.std.specs.List.{join_with_byte}
@@ -10,11 +10,11 @@ use Rattle.chip_trace.specs.Sums.{fnv_of, screen_bytes}
 use Rattle.chip_trace.specs.declared.column.Column.{Column}
 use Rattle.chip_trace.specs.declared.column.Column.TheVariants.{Step, Pc, Word, Register, Index, Delay, Sound, Depth, Draws, Screen, Memory, Text}
 
--- a text in quotes; no text of a trace has a quote, a backslash or a control byte in it
+-- a text in quotes; no text of a trace contains a quote, a backslash or a control byte
 abbrev pub quoted : List ℕ → List ℕ
 quoted text = 34 ∷ text ++ 34 ∷ []
 
--- what a column shows in JSON: a number in decimal, or a text for a sum and for the last column
+-- the value of a column in JSON: a text for the two sums and for `text`, and a number in decimal for the others
 abbrev pub json_value : Column → (step : ℕ) → State → (is_last : Bool) → List ℕ
 json_value Step step s is_last = decimal step
 json_value Pc step s is_last = decimal s.core.pc
@@ -29,12 +29,12 @@ json_value Screen step s is_last = quoted (hex_sum (fnv_of (screen_bytes s.core.
 json_value Memory step s is_last = quoted (hex_sum (fnv_of s.memory))
 json_value Text step s is_last = quoted (text_of s is_last)
 
--- a member of the object: the name of a column in quotes, a colon, and what the column shows
+-- a member of the object: the name of a column in quotes, a colon, and the column's value
 abbrev pub json_member : Column → (step : ℕ) → State → (is_last : Bool) → List ℕ
 json_member column step s is_last =
     quoted (column_name column) ++ 58 ∷ json_value column step s is_last
 
--- a JSON object with a member for each column, by its name, with a comma between each two
+-- a JSON object with a member for each column, and a comma between each two members
 unfoldable pub json_line_of : List Column → (step : ℕ) → State → (is_last : Bool) → List ℕ
 json_line_of columns step s is_last =
     123 ∷ join_with_byte 44 (map (λ column. json_member column step s is_last) columns) ++ 125 ∷ []

@@ -1,5 +1,5 @@
--- The line of a step (own; the state is that of the COSMAC VIP manual and the SUPER-CHIP 1.1
--- documentation).
+-- The line of a step, as fields (chosen by this project; the state is that of the COSMAC VIP manual and the
+-- SUPER-CHIP 1.1 documentation).
 use Rattle.std.specs.Prelude.{ℕ, Bool, true, false, List, ◌∷◌, length, map, codes, slice_index, Option, Some, None}
 use Rattle.std.specs.Fmt.{decimal}
 use Rattle.std.specs.List.{join_with_byte}
@@ -13,21 +13,21 @@ use Rattle.chip_trace.specs.Sums.{fnv_of, screen_bytes}
 use Rattle.chip_trace.specs.declared.column.Column.{Column}
 use Rattle.chip_trace.specs.declared.column.Column.TheVariants.{Step, Pc, Word, Register, Index, Delay, Sound, Depth, Draws, Screen, Memory, Text}
 
--- the word at pc: past the end of the memory there are zeros
+-- the word at pc, with zeros past the end of the memory
 abbrev pub word_of : State → ℕ
 word_of s = word_at s.memory s.core.pc
 
--- why a machine stopped, or that it did not
+-- why a machine stopped, as `S` and a number, or `run` if it has not stopped
 abbrev pub stop_name : Option Stop → List ℕ
 stop_name None = codes "run"
 stop_name (Some stop) = 83 ∷ decimal (stop_number stop)
 
--- what the last column says: the instruction, or in the last line why the machine stopped
+-- the field of the column `text`: the instruction, or, in the last line, why the machine stopped
 abbrev pub text_of : State → (is_last : Bool) → List ℕ
 text_of s true = stop_name s.core.stopped
 text_of s false = show_of (word_of s)
 
--- what a column shows of a step and the state before it
+-- the field of a column, for a step and the state before it
 abbrev pub field_of : Column → (step : ℕ) → State → (is_last : Bool) → List ℕ
 field_of Step step s is_last = decimal step
 field_of Pc step s is_last = hex_word s.core.pc

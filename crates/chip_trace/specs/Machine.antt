@@ -1,4 +1,4 @@
--- The line of a trace that names the machine (own).
+-- The line of a trace that names the machine (chosen by this project).
 use Rattle.std.specs.Prelude.{◌||◌, ℕ, Bool, true, false, nat_eq, List, [], ◌∷◌, ◌++◌, map, codes, Option, Some, None, if◌then◌else◌}
 use Rattle.std.specs.List.{filter, join_with_byte, starts_with}
 use Rattle.chip_machine.specs.Profile.{profile_name, profile_with}
@@ -9,25 +9,25 @@ use Rattle.chip_machine.specs.declared.quirks.Choice.{Choice}
 use Rattle.chip_machine.specs.declared.quirks.Quirks.{Quirks}
 use Rattle.chip_machine.specs.declared.quirks.TheConstants.{CHOICES}
 
--- the names of the choices that a machine has, of those of a list, and of all
+-- the names of the choices that a machine has: among those of a list, and among all
 abbrev pub names_in : List (List ℕ × Choice) → Quirks → List (List ℕ)
 names_in choices q = map (λ c. c.0) (filter (λ c. has_choice q c.1) choices)
 
 abbrev pub choice_names : Quirks → List (List ℕ)
 choice_names = names_in (map (λ c. (c.0.now, c.1)) CHOICES)
 
--- whether a line names the profile: not the two that had no other beside them when the first traces
--- were written
+-- whether a trace has a line that names the profile: true except for the two that were the only profiles when the
+-- first traces were written
 abbrev pub has_line : Profile → Bool
 has_line profile.Schip = false
 has_line profile.Vip = false
 has_line _ = true
 
--- the line that names a profile, if it has one
+-- the line that names a profile, if the profile has such a line
 unfoldable pub profile_lines : Profile → List (List ℕ)
 profile_lines p = if has_line p then (codes "# profile " ++ profile_name p) ∷ [] else []
 
--- the line that names the choices of a machine that is no profile
+-- the line that names the choices of a machine that has no profile
 unfoldable pub choice_lines : Quirks → List (List ℕ)
 choice_lines q = (codes "# quirks " ++ join_with_byte 44 (choice_names q)) ∷ []
 
@@ -39,7 +39,7 @@ named_lines None q = choice_lines q
 abbrev pub machine_lines : Quirks → List (List ℕ)
 machine_lines q = named_lines (profile_with q) q
 
--- whether a line names a machine, and so no columns
+-- whether a line names a machine, and therefore does not name columns
 abbrev pub names_machine : List ℕ → Bool
 names_machine line =
     starts_with nat_eq line (codes "# profile ") || starts_with nat_eq line (codes "# quirks ")

@@ -1,4 +1,9 @@
--- How the models are stored as data (Codes), and how far a comparison has come (Comparing), the names that are left to be read (Naming), rows as numbers (Rows), and the usual first columns (Usual).
+-- Definitions for the proofs inside.
+--     Codes      the encoding of a trace's progress as data
+--     Comparing  the progress of a comparison
+--     Naming     the names of columns that are still to be read
+--     Rows       rows of a screen as numbers
+--     Usual      the first columns of a trace with the default columns
 pub mod Codes
 pub mod Comparing
 pub mod Naming

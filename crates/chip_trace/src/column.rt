@@ -8,14 +8,14 @@ ghost use Rattle.chip_trace.specs.inner.Usual.{first_columns};
 
 use chip_lang::Reg;
 
-/// What a column of a trace shows of the state before a step.
+/// A column of a trace, which shows a part of the state before a step.
 #[derive(Clone, Copy, PartialEq, Eq)]
 pub enum Column {
     /// The number of the step, in decimal.
     Step,
-    /// Where the next instruction stands, in four hexadecimal digits.
+    /// The address of the next instruction, in four hexadecimal digits.
     Pc,
-    /// The word there, in four hexadecimal digits.
+    /// The word at that address, in four hexadecimal digits.
     Word,
     /// A register, in two hexadecimal digits.
     Register(Reg),
@@ -27,9 +27,9 @@ pub enum Column {
     Sound,
     /// How many calls are open, in decimal.
     Depth,
-    /// How many random bytes were used, in decimal.
+    /// How many random bytes the machine has used, in decimal.
     Draws,
-    /// The FNV-1a sum of the screen's points, in sixteen hexadecimal digits.
+    /// The FNV-1a sum of the screen's pixels, in sixteen hexadecimal digits.
     Screen,
     /// The FNV-1a sum of the memory's bytes, in sixteen hexadecimal digits.
     Memory,
@@ -64,14 +64,14 @@ impl Column {
         }
     }
 
-    /// Whether the column has this name, letters' case ignored.
+    /// Whether the column has this name, ignoring the case of letters.
     pub(crate) fn is_named(self, name: &[u8]) -> bool
         ensures { result ≡ is_named name.now self }
     {
         name.eq_ignore_ascii_case(self.name())
     }
 
-    /// Whether the column stands at this place of those with which a usual trace begins.
+    /// Whether a usual trace has this column at this place (from 0) among its first columns.
     #[tactic(auto, using(crate::proofs::Usual::usual_register), unfolding(crate::specs::inner::Usual::first_columns))]
     pub(crate) fn is_usual_at(self, place: usize) -> bool
         ensures { IsTrue result → slice_get first_columns place ≡ Some self }

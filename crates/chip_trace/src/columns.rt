@@ -1,4 +1,4 @@
-//! The columns that a trace has.
+//! The columns of a trace.
 
 ghost use Rattle.std.specs.Prelude.{◌≡◌, ◌++◌, ◌⊎◌, Some, None, IfOk, IfErr, IfSome, IsTrue, OnOk};
 ghost use Rattle.std.specs.Str.{str_to_ascii_lowercase};
@@ -41,8 +41,7 @@ impl Model for Columns {
 }
 
 impl Columns {
-    /// The columns of a trace for which none are asked: all of them, but those of the sums only if
-    /// `sums` says so.
+    /// The default columns of a trace: all columns, but the two sums only if `sums` is true.
     ///
     /// # Errors
     ///
@@ -66,13 +65,13 @@ impl Columns {
         Ok(Columns::of(columns))
     }
 
-    /// The columns that a line names: a `#`, and the names with a space before each, where letters'
-    /// case is ignored.
+    /// Reads the columns that a line names: a `#`, and the names with a space before each. The case of
+    /// letters is ignored.
     ///
     /// # Errors
     ///
-    /// The line does not begin with `# `; a name is no column's; `text` is not the last one. Where
-    /// memory runs out, that error may come in the place of another.
+    /// The line does not begin with `# `, a name is not the name of a column, or `text` is not the last
+    /// column. If memory runs out, that error may replace another one.
     pub fn read_header(alloc: Global, line: &[u8]) -> Result<Columns, HeaderError>
         ensures named { IfOk result (λ columns.
             header_line columns ≡ str_to_ascii_lowercase line.now) }
@@ -86,7 +85,7 @@ impl Columns {
         }
     }
 
-    /// These columns, in their order.
+    /// A value that has these columns, in their order.
     fn of(columns: Vec<Column>) -> Columns
         ensures { result ≡ columns.items }
     {
@@ -97,7 +96,7 @@ impl Columns {
         }
     }
 
-    /// The columns after those with which a usual trace begins, if it begins with them.
+    /// The columns after the first columns of a usual trace; none if these columns don't begin with those.
     pub(crate) fn after_usual(&self) -> Option<&[Column]>
         ensures { IfSome result (λ others. self.now ≡ first_columns ++ others.now) }
     {
@@ -118,7 +117,7 @@ impl Columns {
     ///
     /// # Errors
     ///
-    /// Out of memory; a part of the line may be added then.
+    /// Out of memory; part of the line may have been added.
     pub fn push_header(&self, text: &mut Vec<u8>) -> Result<(), AllocError>
         ensures { OnOk result (text.new.items ≡ text.old.items ++ header_line self.now) }
     {
@@ -134,12 +133,12 @@ impl Columns {
         Ok(())
     }
 
-    /// Adds the lines that stand above those of the steps of a machine in a form, each with a
-    /// newline.
+    /// Adds the header lines of a trace of a machine in a form, which come before the lines of the
+    /// steps, each with a newline.
     ///
     /// # Errors
     ///
-    /// Out of memory; a part of the lines may be added then.
+    /// Out of memory; part of the lines may have been added.
     pub fn push_header_lines(
         &self,
         form: Form,
@@ -161,7 +160,7 @@ impl Columns {
     }
 }
 
-/// Whether columns begin with those with which a usual trace begins.
+/// Whether columns begin with the first columns of a usual trace.
 fn begins_as_usual(columns: &[Column]) -> bool
     ensures { IsTrue result → BeginsAsUsual columns.now }
 {

@@ -1,4 +1,4 @@
-//! Where a trace differs from another one first.
+//! The first place at which a trace differs from another one.
 
 ghost use Rattle.std.specs.Prelude.{◌≡◌, ◌↔◌, ◌+◌, ◌<◌, ◌≤◌, ◌++◌, ◌∷◌, length, map, max, IsTrue, IfErr, IfOk, OnOk, Err, vec_len};
 ghost use Rattle.std.specs.Str.{str_to_ascii_lowercase};
@@ -18,23 +18,23 @@ use std::alloc::{AllocError, Global};
 /// The first place at which two traces differ.
 #[derive(Drop)]
 pub struct Difference {
-    /// How many lines stand before it.
+    /// The number of lines before it.
     pub index: usize,
     /// Our line there, if there is one.
     pub ours: Option<Vec<u8>>,
     /// Their line there, if there is one.
     pub theirs: Option<Vec<u8>>,
-    /// Our last lines before it, five at most.
+    /// Our last lines before it, at most five.
     pub before: Vec<Vec<u8>>,
 }
 
-/// The first difference between the lines of a trace that remain and those of another trace, which
-/// follow its header. Letters' case is ignored. A line ends with a newline, which the last may
-/// lack, and a carriage return before the newline does not belong to it.
+/// The first difference between the remaining lines of a trace and the lines of another trace that
+/// follow its header. The case of letters is ignored. A line ends with a newline, which the last line
+/// may lack, and a carriage return before the newline is not part of the line.
 ///
 /// # Errors
 ///
-/// A step is above the last one that a replay answers; memory ran out.
+/// A step is above the last step that a replay answers, or memory ran out.
 pub fn first_difference(
     alloc: Global,
     replay: &mut Replay<Machine>,
@@ -91,7 +91,7 @@ pub fn first_difference(
     }))
 }
 
-/// Whether two lines are the same, letters' case ignored. Most are the same byte for byte.
+/// Whether two lines are the same, ignoring the case of letters. Most are the same byte for byte.
 fn are_alike(ours: &[u8], theirs: &[u8]) -> bool
     ensures test { IsTrue result
         ↔ (str_to_ascii_lowercase ours.now ≡ str_to_ascii_lowercase theirs.now) }
@@ -110,7 +110,8 @@ fn copied(alloc: Global, line: &[u8]) -> Result<Vec<u8>, AtError>
     Vec::from_slice(alloc, line).map_err(|_| AtError::OutOfMemory)
 }
 
-/// Keeps a line as the last one, and gives an empty one that has the room of an earlier one.
+/// Appends a line to the kept lines, and returns an empty line. When all places are taken, the oldest
+/// kept line goes, and the returned line reuses its room.
 fn keep(alloc: Global, kept: &mut Vec<Vec<u8>>, line: Vec<u8>) -> Result<Vec<u8>, AtError>
     ensures kept { OnOk result (map bytes_of kept.new.items
         ≡ with_line (map bytes_of kept.old.items) line.items) }

@@ -5,6 +5,6 @@
 pub enum Form {
     /// Fields with spaces between them, below a line that names the columns.
     Fields,
-    /// A JSON object a line, with a member for each column, by its name.
+    /// One JSON object per line, with a member for each column, by its name.
     Json,
 }

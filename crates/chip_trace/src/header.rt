@@ -1,4 +1,4 @@
-//! The line that names the columns of a trace, read.
+//! Reading the line that names the columns of a trace.
 
 ghost use Rattle.std.specs.Prelude.{◌≡◌, ◌<◌, ◌≤◌, ◌∷◌, ◌⊎◌, ◌-◌, Some, None, IfOk, IfErr, length, take};
 ghost use Rattle.std.specs.List.{find, list_any, position_or_len, slice_split};
@@ -15,10 +15,10 @@ use thiserror::Error;
 /// Why a line does not name the columns of a trace.
 #[derive(Clone, Copy, Debug, PartialEq, Eq, Error)]
 pub enum HeaderError {
-    /// The line is missing, or doesn't begin with a `#` and a space.
+    /// The line is missing, or does not begin with a `#` and a space.
     #[error("its first line has to name its columns, as `# step pc v0 text` does")]
     NotAHeader,
-    /// The name at this position, counted from 1, is no column's.
+    /// The name at this position, counted from 1, is not the name of a column.
     #[error("column {0} has an unknown name; expected step, pc, word, v0 to vf, i, dt, st, depth, draws, screen, memory or text")]
     UnknownColumn(usize),
     /// Another column follows `text`.
@@ -29,7 +29,7 @@ pub enum HeaderError {
     OutOfMemory,
 }
 
-/// The columns that show no register.
+/// The columns other than those of the registers.
 const OTHERS: [Column; 11] = [
     Column::Step,
     Column::Pc,
@@ -74,7 +74,7 @@ pub(crate) fn read_header(alloc: Global, line: &[u8]) -> Result<Vec<Column>, Hea
     Ok(columns)
 }
 
-/// Whether `Text` stands before the last of the columns.
+/// Whether `Text` comes before the last column.
 fn has_early_text(columns: &[Column]) -> bool
     ensures { result ≡ list_any (λ column. is_text (Some column))
         (take (length columns.now - 1) columns.now) }
@@ -89,7 +89,7 @@ fn is_text(column: Column) -> bool
     matches!(column, Column::Text)
 }
 
-/// The first of some names, and those after the space behind it, if one is there.
+/// The first of some names, and the names after the next space, if there is one.
 fn first_name(names: &[u8]) -> (&[u8], Option<&[u8]>)
     ensures names { slice_split is_space names.now ≡ result.0.now ∷ names_left result.1 }
     ensures shorter { bytes_left result.1 ≤ length names.now }
@@ -102,7 +102,7 @@ fn first_name(names: &[u8]) -> (&[u8], Option<&[u8]>)
     }
 }
 
-/// How many bytes stand before the first space, or how many there are.
+/// The number of bytes before the first space, or of all bytes if there is no space.
 fn name_length(names: &[u8]) -> usize
     ensures value { result ≡ position_or_len is_space names.now }
     ensures within { result ≤ length names.now }
@@ -115,7 +115,7 @@ fn name_length(names: &[u8]) -> usize
     names.len()
 }
 
-/// The column of a name, its letters' case ignored.
+/// The column with a name, ignoring the case of letters.
 fn column_of(name: &[u8]) -> Option<Column>
     ensures { result ≡ column_of name.now }
 {
@@ -125,14 +125,14 @@ fn column_of(name: &[u8]) -> Option<Column>
     }
 }
 
-/// The column of a name that shows no register, the name's letters' case ignored.
+/// The column with a name, if it is not the column of a register; ignores the case of letters.
 fn other_of(name: &[u8]) -> Option<Column>
     ensures { result ≡ find (is_named name.now) other_columns }
 {
     OTHERS.iter().copied().find(|column| column.is_named(name))
 }
 
-/// The column of a register's name, its letters' case ignored.
+/// The column of the register with a name, ignoring the case of letters.
 fn register_of(name: &[u8]) -> Option<Column>
     ensures { result ≡ find (is_named name.now) register_columns }
 {

@@ -1,4 +1,4 @@
-//! The line of a step as a JSON object.
+//! The line of a step, as a JSON object.
 
 ghost use Rattle.std.specs.Prelude.{◌≡◌, ◌++◌, ◌∷◌, [], Bool, OnOk, map, slice_index};
 ghost use Rattle.std.specs.List.{flat_map, join_with_byte, range_with_len};
@@ -12,10 +12,10 @@ use crate::line::{Workspace, push_field, word_of};
 use chip_machine::Machine;
 use std::alloc::AllocError;
 
-/// Room for most objects.
+/// Enough bytes for most objects.
 const OBJECT_ROOM: usize = 400;
 
-/// Adds the line of a step, by the state before it, as a JSON object, without a newline.
+/// Adds the line of a step as a JSON object, without a newline. The line shows the state before the step.
 ///
 /// # Errors
 ///
@@ -44,7 +44,7 @@ pub(crate) fn push_object(
     push_others(text, workspace, others, machine, step, is_last)
 }
 
-/// Adds, for each of some columns, a comma and its member, and then the end of the object.
+/// Adds a comma and a member for each of some columns, and then the end of the object.
 fn push_others(
     text: &mut Vec<u8>,
     workspace: &mut Workspace,
@@ -83,7 +83,7 @@ fn push_member(
     push_value(text, workspace, *column, machine, step, is_last)
 }
 
-/// Adds the beginning of an object, with the members with which a usual one begins.
+/// Adds the beginning of an object, with the first members of a usual trace.
 fn push_first_members(text: &mut Vec<u8>, machine: &Machine, step: u32) -> Result<(), AllocError>
     ensures { (is_last : Bool) → OnOk result (text.new.items ≡ text.old.items ++ 123 ∷
         join_with_byte 44
@@ -124,7 +124,7 @@ fn push_register_members(text: &mut Vec<u8>, machine: &Machine) -> Result<(), Al
     Ok(())
 }
 
-/// Adds what a column shows.
+/// Adds the value of a column.
 fn push_value(
     text: &mut Vec<u8>,
     workspace: &mut Workspace,

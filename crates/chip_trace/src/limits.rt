@@ -1,7 +1,7 @@
-//! The limits of a comparison, and the size of a usual trace, each with its one name.
+//! The limits of a comparison, and the number of first columns of a usual trace.
 
-/// How many of the lines before a difference are kept.
+/// The most lines before a difference that are kept.
 pub(crate) const LINES_BEFORE: usize = 5;
 
-/// How many columns a usual trace has before those of the sums, or before the text.
+/// The number of columns that a usual trace has before the sums, or before the text if it has no sums.
 pub(crate) const FIRST_COLUMNS: usize = 24;

@@ -1,4 +1,4 @@
-//! The line of a step.
+//! The line of a step, as fields.
 
 ghost use Rattle.std.specs.Prelude.{◌≡◌, ◌++◌, ◌∷◌, Bool, OnOk, replicate};
 ghost use Rattle.std.specs.List.{flat_map};
@@ -15,13 +15,15 @@ use chip_lang::push_shown;
 use chip_machine::{Machine, Stop};
 use std::alloc::{AllocError, Global};
 
-/// Room for most lines.
+/// Enough bytes for most lines.
 const LINE_ROOM: usize = 160;
 
-/// The length of the fields that are as long in each line, with the spaces around them.
+/// The length of the fields from pc to the sound timer, which is the same in every line, with the spaces
+/// around them.
 const FIXED_LEN: usize = 70;
 
-/// What is kept from one line to the next so that it is not made anew. What it holds means nothing.
+/// The screen and the memory that were summed last, with their sums, so that a sum is only recomputed
+/// after a change. The lines don't depend on the contents.
 #[derive(Drop)]
 pub(crate) struct Workspace {
     screen: SummedRows,
@@ -37,7 +39,7 @@ impl Workspace {
     }
 }
 
-/// Adds the line of a step, by the state before it, as fields, without a newline.
+/// Adds the line of a step as fields, without a newline. The line shows the state before the step.
 ///
 /// # Errors
 ///
@@ -66,7 +68,7 @@ pub(crate) fn push_line(
     push_others(text, workspace, others, machine, step, is_last)
 }
 
-/// Adds, for each of some columns, a space and what it shows.
+/// Adds a space and a field for each of some columns.
 fn push_others(
     text: &mut Vec<u8>,
     workspace: &mut Workspace,
@@ -85,7 +87,7 @@ fn push_others(
     Ok(())
 }
 
-/// Adds the fields with which a usual line begins.
+/// Adds the first fields of a usual trace.
 fn push_first_fields(text: &mut Vec<u8>, machine: &Machine, step: u32) -> Result<(), AllocError>
     ensures { (is_last : Bool) → OnOk result (text.new.items
         ≡ text.old.items ++ line_of first_columns step machine.now is_last) }
@@ -98,8 +100,8 @@ fn push_first_fields(text: &mut Vec<u8>, machine: &Machine, step: u32) -> Result
     Ok(())
 }
 
-/// Adds the fields from that of pc to that of the sound timer, with spaces around them. They are
-/// written in place, since bytes that were just written elsewhere are slow to copy.
+/// Adds the fields from pc to the sound timer, with spaces around them. The fields are written in
+/// place, because bytes that were just written elsewhere are slow to copy.
 fn push_fixed_fields(text: &mut Vec<u8>, machine: &Machine) -> Result<(), AllocError>
     ensures { OnOk result (text.new.items ≡ text.old.items ++ fixed_fields machine.now) }
 {
@@ -109,7 +111,7 @@ fn push_fixed_fields(text: &mut Vec<u8>, machine: &Machine) -> Result<(), AllocE
     Ok(())
 }
 
-/// Writes these fields over spaces, which stay around them.
+/// Writes the fields from pc to the sound timer over spaces, and leaves one space on each side of a field.
 #[inline(always)]
 fn write_fixed_fields(machine: &Machine, fields: &mut [u8])
     requires { fields.old ≡ replicate FIXED_LEN 32 }
@@ -122,7 +124,7 @@ fn write_fixed_fields(machine: &Machine, fields: &mut [u8])
     write_spaced_bytes(&[machine.delay(), machine.sound()], &mut fields[63..69]);
 }
 
-/// Adds what a column shows.
+/// Adds the field of a column.
 pub(crate) fn push_field(
     text: &mut Vec<u8>,
     workspace: &mut Workspace,
@@ -164,7 +166,7 @@ pub(crate) fn word_of(machine: &Machine) -> u16
     u16::from(high) * 256 + u16::from(low)
 }
 
-/// Adds the instruction, or in the last line why the machine stopped.
+/// Adds the instruction, or, in the last line, why the machine stopped.
 fn push_text(text: &mut Vec<u8>, machine: &Machine, is_last: bool) -> Result<(), AllocError>
     ensures { OnOk result (text.new.items ≡ text.old.items ++ text_of machine.now is_last) }
 {
@@ -174,7 +176,7 @@ fn push_text(text: &mut Vec<u8>, machine: &Machine, is_last: bool) -> Result<(),
     push_shown(text, word_of(machine))
 }
 
-/// Adds why a machine stopped, or that it did not.
+/// Adds why a machine stopped, as `S` and a number, or `run` if it has not stopped.
 fn push_stop_name(text: &mut Vec<u8>, stopped: Option<Stop>) -> Result<(), AllocError>
     ensures { OnOk result (text.new.items ≡ text.old.items ++ stop_name stopped) }
 {

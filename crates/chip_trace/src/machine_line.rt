@@ -13,19 +13,19 @@ const PROFILE: &[u8] = b"# profile ";
 
 const QUIRKS: &[u8] = b"# quirks ";
 
-/// Whether a line names a machine, and so no columns.
+/// Whether a line names a machine, and therefore does not name columns.
 pub fn names_machine(line: &[u8]) -> bool
     ensures { result ≡ names_machine line.now }
 {
     line.starts_with(PROFILE) || line.starts_with(QUIRKS)
 }
 
-/// Adds the line that names a machine, with a newline: its profile, or all its choices where it has
-/// none. It adds nothing for `schip` and `vip`.
+/// Adds the line that names a machine, with a newline: its profile, or all its choices if it has no
+/// profile. Adds nothing for `schip` and `vip`.
 ///
 /// # Errors
 ///
-/// Out of memory; a part of the line may be added then.
+/// Out of memory; part of the line may have been added.
 pub(crate) fn push_machine(quirks: Quirks, text: &mut Vec<u8>) -> Result<(), AllocError>
     ensures { OnOk result (text.new.items
         ≡ text.old.items ++ newline_ended (machine_lines quirks)) }
@@ -55,8 +55,8 @@ fn push_profile(profile: Profile, text: &mut Vec<u8>) -> Result<(), AllocError>
     Ok(())
 }
 
-/// Whether a line names the profile. `schip` and `vip` had none beside them when the first traces
-/// were written.
+/// Whether a trace has a line that names the profile: true except for `schip` and `vip`, which were the
+/// only profiles when the first traces were written.
 fn has_line(profile: Profile) -> bool
     ensures { result ≡ has_line profile }
 {
@@ -66,7 +66,7 @@ fn has_line(profile: Profile) -> bool
     }
 }
 
-/// Adds the names of those of some choices that a machine has, with a comma between each two.
+/// Adds the names of the choices in a list that a machine has, with a comma between each two.
 fn push_choices(
     choices: &[(&str, Choice)],
     quirks: Quirks,

@@ -9,9 +9,9 @@ use crate::difference::Difference;
 use itoa::Buffer;
 use std::alloc::{AllocError, Global};
 
-/// The text of a difference of traces that begin at the step `from`: its step, then the columns that
-/// differ or which of the two has ended, our lines before it, our line there after `< `, and theirs
-/// after `> `. Ours is the trace of a run, and theirs that of a file.
+/// The text of a difference between traces that begin at the step `from`: its step, then the columns
+/// that differ or which of the two has ended, our lines before it, our line there after `< `, and their
+/// line there after `> `. Ours is the trace of a run, and theirs is the trace in a file.
 ///
 /// # Errors
 ///
@@ -38,7 +38,7 @@ pub fn difference_text(
     Ok(text)
 }
 
-/// The colon behind the step, and which of the traces has ended, if one has.
+/// The text after the step: a colon, and which of the traces has ended, if one has.
 fn ended_text(found: &Difference) -> &'static [u8]
     ensures { result.now ≡ ended_text found.now.ours found.now.theirs }
 {
@@ -49,8 +49,8 @@ fn ended_text(found: &Difference) -> &'static [u8]
     }
 }
 
-/// Adds the names of the columns whose fields differ, and the end of the line. The last field takes the
-/// rest of its line.
+/// Adds the names of the columns whose fields differ, and the end of the line. The last field extends to
+/// the end of its line.
 fn push_changed_names(
     text: &mut Vec<u8>,
     columns: &[Column],
@@ -72,8 +72,8 @@ fn push_changed_names(
     Ok(())
 }
 
-/// Says which of two traces ends at these lines while the other one goes on: the last line of a trace whose machine runs
-/// has the text `run`.
+/// A note on which of two traces ends at these lines while the other one goes on; empty if neither or
+/// both end. The last line of a trace whose machine has not stopped ends with the text `run`.
 fn early_end(ours: &[u8], theirs: &[u8]) -> &'static [u8] {
     match (ours.ends_with(b"run"), theirs.ends_with(b"run")) {
         (false, true) => b" (the file ends here)",

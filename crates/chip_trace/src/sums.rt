@@ -1,4 +1,4 @@
-//! FNV-1a sums of 64 bits, which are kept while the bytes stay the same.
+//! FNV-1a sums of 64 bits. A sum is kept as long as its bytes stay the same.
 
 ghost use Rattle.std.specs.Prelude.{◌≡◌, fold, length, IsTrue, IfOk};
 ghost use Rattle.chip_trace.specs.Sums.{fnv_step, fnv_of, row_bytes, screen_bytes};
@@ -8,13 +8,13 @@ use chip_machine::Machine;
 use std::alloc::{AllocError, Global};
 use std::marker::Model;
 
-/// The sum of no byte.
+/// The sum of no bytes.
 const BASIS: u64 = 0xcbf2_9ce4_8422_2325;
 
 /// The prime of FNV for 64 bits.
 const PRIME: u64 = 0x100_0000_01b3;
 
-/// How many rows a screen has.
+/// The number of rows of a screen.
 const HEIGHT: usize = 64;
 
 /// Bytes, and their sum.
@@ -36,7 +36,7 @@ impl Model for Summed {
 }
 
 impl Summed {
-    /// No byte.
+    /// No bytes.
     pub(crate) fn new(alloc: Global) -> Self {
         Summed {
             bytes: Vec::new(alloc),
@@ -44,7 +44,7 @@ impl Summed {
         }
     }
 
-    /// The sum of these bytes, which are kept.
+    /// The sum of these bytes. The bytes are kept for the next call.
     ///
     /// # Errors
     ///
@@ -63,7 +63,7 @@ impl Summed {
     }
 }
 
-/// The sum of bytes after those that have the sum `sum`.
+/// The sum of some bytes that follow bytes with the sum `sum`.
 fn fnv_after(sum: u64, bytes: &[u8]) -> u64
     ensures { result ≡ fold fnv_step sum bytes.now }
 {
@@ -74,7 +74,7 @@ fn fnv_after(sum: u64, bytes: &[u8]) -> u64
     sum
 }
 
-/// A sum with one byte more.
+/// The sum after one more byte.
 #[inline(always)]
 #[tactic(auto, unfolding(crate::specs::Sums::fnv_step))]
 fn fnv_step(sum: u64, byte: u8) -> u64
@@ -103,14 +103,14 @@ impl Model for SummedRows {
 }
 
 impl SummedRows {
-    /// Rows with no lit pixel.
+    /// Rows without a lit pixel.
     pub(crate) fn new() -> Self {
         let rows = [0; HEIGHT];
         let sum = sum_of_rows(&rows);
         SummedRows { rows, sum }
     }
 
-    /// The sum of the points of a machine's screen, whose rows are kept.
+    /// The sum of the pixels of a machine's screen. The rows are kept for the next call.
     pub(crate) fn sum_of(&mut self, machine: &Machine) -> u64
         ensures { result ≡ fnv_of (screen_bytes machine.now.core.lit) }
     {
@@ -122,7 +122,7 @@ impl SummedRows {
     }
 }
 
-/// Puts the rows of a machine's screen in the place of these, and says whether none differs.
+/// Replaces the rows by those of a machine's screen, and returns whether all were the same.
 fn take_rows(rows: &mut [u128], machine: &Machine) -> bool
     requires { length rows.old ≡ HEIGHT }
     ensures shown { bytes_of_rows rows.new ≡ screen_bytes machine.now.core.lit }
@@ -139,15 +139,15 @@ fn take_rows(rows: &mut [u128], machine: &Machine) -> bool
     is_same
 }
 
-/// The points of a row of a machine's screen from the left, eight to a byte, the leftmost the highest
-/// bit.
+/// The pixels of a row of a machine's screen from the left, eight per byte; the leftmost pixel is the
+/// highest bit.
 pub fn row_bytes(machine: &Machine, row: usize) -> [u8; 16]
     ensures { result ≡ row_bytes machine.now.core.lit row }
 {
     machine.row(row).to_be_bytes()
 }
 
-/// The sum of the bytes of rows, from the top, the highest byte of a row first.
+/// The sum of the bytes of rows from the top, with the highest byte of each row first.
 fn sum_of_rows(rows: &[u128]) -> u64
     ensures { result ≡ fnv_of (bytes_of_rows rows.now) }
 {

@@ -1,4 +1,4 @@
-//! The lines of a trace, one after another.
+//! The lines of a trace, which are made one at a time.
 
 ghost use Rattle.std.specs.Prelude.{◌≡◌, ◌<◌, ◌≤◌, ◌++◌, ◌↔◌, ℕ, false, max, IfOk, OnErr, OnOk, Err};
 ghost use Rattle.chip_machine.specs.State.{State};
@@ -14,7 +14,7 @@ use chip_replay::{AtError, LAST_STEP, Replay};
 use std::alloc::{AllocError, Global};
 use std::marker::Model;
 
-/// The lines of a trace that remain to be taken.
+/// A trace, from the next line on.
 #[derive(Drop)]
 pub struct Trace<'a> {
     columns: &'a Columns,
@@ -43,8 +43,8 @@ impl<'a> Model for Trace<'a> {
 }
 
 impl<'a> Trace<'a> {
-    /// The trace of a run from a step on: it ends at the step `to`, or where the machine stopped.
-    /// Each call takes the replay of the run.
+    /// The trace of a run from the step `from` to the step `to`, or to the step at which the machine has
+    /// stopped. Each later call takes the replay of the run.
     pub fn new(alloc: Global, columns: &'a Columns, form: Form, from: u32, to: u32) -> Trace<'a>
         ensures value { result ≡ record {
           columns = columns.now;
@@ -66,12 +66,12 @@ impl<'a> Trace<'a> {
         }
     }
 
-    /// Adds the next line, without a newline, and says whether there was one.
+    /// Adds the next line, without a newline, and returns whether there was one.
     ///
     /// # Errors
     ///
-    /// The next step is above the last one that a replay answers; memory ran out, where a part of
-    /// the line may be added. What remains is then as before.
+    /// The next step is above the last step that a replay answers, or memory ran out, when part of the
+    /// line may have been added. The remaining lines are then as before.
     pub fn next_line(
         &mut self,
         replay: &mut Replay<Machine>,
@@ -111,11 +111,11 @@ impl<'a> Trace<'a> {
         Ok(true)
     }
 
-    /// Adds up to `most` of the next lines, each with a newline, and says whether more remain.
+    /// Adds up to `most` of the next lines, each with a newline, and returns whether more remain.
     ///
     /// # Errors
     ///
-    /// As `next_line`: lines before the one that failed may be added then.
+    /// The errors of `next_line`. Lines before the one that failed may have been added.
     #[tactic(auto, using(crate::proofs::Comparing::same_runs))]
     pub fn push_lines(
         &mut self,
@@ -142,7 +142,7 @@ impl<'a> Trace<'a> {
     }
 }
 
-/// Adds the line of a step, by the state before it, as a form has it, without a newline.
+/// Adds the line of a step in a form, without a newline. The line shows the state before the step.
 #[tactic(auto, unfolding(crate::specs::Form::row_of))]
 fn push_row(
     text: &mut Vec<u8>,

@@ -1,4 +1,4 @@
--- The columns with which a trace begins for which none are asked (own).
+-- The first columns of a trace with the default columns (chosen by this project).
 use Rattle.std.specs.Prelude.{◌≡◌, ℕ, List, [], ◌∷◌, ◌++◌, codes, drop, map, slice_index}
 use Rattle.std.specs.Fmt.{decimal}
 use Rattle.std.specs.List.{range_with_len}
@@ -11,13 +11,13 @@ use Rattle.chip_trace.specs.declared.column.Column.{Column}
 use Rattle.chip_trace.specs.declared.column.Column.TheVariants.{Step, Pc, Word, Index, Delay, Sound, Depth, Draws}
 use Rattle.chip_trace.specs.declared.limits.TheConstants.{FIRST_COLUMNS}
 
--- all but those of the sums and the text
+-- all columns except the sums and the text
 unfoldable pub first_columns : List Column
 first_columns =
     (Step ∷ Pc ∷ Word ∷ []) ++ register_columns
     ++ (Index ∷ Delay ∷ Sound ∷ Depth ∷ Draws ∷ [])
 
--- the fields of `pc` to `st`, each after a space, and a space: they are as long in each line
+-- the fields of `pc` to `st`, with a space before each and after the last; their length is the same in every line
 abbrev pub fixed_fields : State → List ℕ
 fixed_fields s =
     32 ∷ hex_word s.core.pc ++ 32 ∷ hex_word (word_of s)
@@ -29,6 +29,6 @@ abbrev pub register_member : (number value : ℕ) → List ℕ
 register_member number value =
     codes ",\"v" ++ slice_index lower_digits number ∷ codes "\":" ++ decimal value
 
--- columns that begin with these
+-- whether a list of columns begins with the first columns
 abbrev pub BeginsAsUsual : List Column → Type 0
 BeginsAsUsual columns = columns ≡ first_columns ++ drop FIRST_COLUMNS columns
