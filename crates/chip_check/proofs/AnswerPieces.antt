@@ -8,7 +8,7 @@ use Rattle.chip_check.specs.Answer.{answer_members}
 pub then_piece : (old x y z w : List ℕ) → z ≡ old ++ x → w ≡ z ++ y → w ≡ old ++ (x ++ y)
 then_piece old x y z w before more = more ∙ ap (λ (text : List ℕ). text ++ y) before ∙ append_assoc old x y
 
--- the last one, where it could be added
+-- the last piece, if it could be added
 pub last_piece : {T E : Type 0} (old x y z w : List ℕ) (result : Result T E) → z ≡ old ++ x → w ≡ (if is_ok result then z ++ y else z) →
     OnOk result (w ≡ old ++ (x ++ y))
 last_piece old x y z w (Ok value) before more = then_piece old x y z w before more

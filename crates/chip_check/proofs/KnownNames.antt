@@ -1,4 +1,4 @@
--- The names that help looks up, and their symbols.
+-- The names that lines of help look up, and their symbols.
 use Rattle.std.proofs.Common.{◌≡◌, ◌∙◌, ℕ, cond, Bool, true, false, true≢false, is_some, List, [], ◌∷◌, ◌++◌, length, map, refl, ap, sym, subst, Option, None, Some, option_map, not, ◌&&◌, nat_le, if◌then◌else◌}
 use Rattle.std.specs.FinMap as finite
 use Rattle.std.specs.Global.{Vec}
@@ -21,7 +21,7 @@ use Rattle.chip_check.specs.inner.Known.{Agree, listed}
 
 pub ruleset known_names = (value-of-name)
 
--- what a map gives for a name is what stands first among its entries
+-- a map returns the symbol of the first of its entries with a name
 pub lookup-listed : (entries : List (Vec ℕ × Symbol)) (name : Name) → lookup (λ (key : Vec ℕ). bytes_eq name key.items) entries ≡ lookup_name (listed entries) name
 lookup-listed [] name = refl
 lookup-listed (e ∷ es) name = ap (cond (bytes_eq name e.0.items) (Some e.1)) (lookup-listed es name)
@@ -32,7 +32,7 @@ lookup-behind (x ∷ xs) ys name =
     elim (bytes_eq name x.0) as (λ b. cond b (Some x.1) (lookup_name (xs ++ ys) name) ≡ option_or (cond b (Some x.1) (lookup_name xs name)) (lookup_name ys name))
     [ true ↦ refl | false ↦ lookup-behind xs ys name ]
 
--- lists that agree do so with the same symbols behind them
+-- lists that agree still agree if the same symbols are appended to both
 pub agree-behind : (xs ys zs : List (Name × Symbol)) → Agree xs ys → Agree (xs ++ zs) (ys ++ zs)
 agree-behind xs ys zs agree name = lookup-behind xs zs name ∙ ap (λ o. option_or o (lookup_name zs name)) (agree name) ∙ sym (lookup-behind ys zs name)
 
@@ -44,7 +44,7 @@ or-none : (o : Option Symbol) → option_or o None ≡ o
 or-none None = refl
 or-none (Some s) = refl
 
--- a symbol behind others of its name changes nothing
+-- a symbol after another one with its name changes nothing
 pub agree-known : (xs : List (Name × Symbol)) (e : Name × Symbol) → is_some (lookup_name xs e.0) ≡ true → Agree xs (xs ++ e ∷ [])
 agree-known xs e known other = sym (lookup-behind xs (e ∷ []) other ∙ by (bytes_eq other e.0) refl)
   where
@@ -62,13 +62,13 @@ unknown-name : (xs ys : List (Name × Symbol)) (last : ℕ) → Agree xs ys → 
 unknown-name xs ys last agree None = refl
 unknown-name xs ys last agree (Some name) = ap (λ s. not (is_seen_symbol last s)) (agree (map upper name))
 
--- and have the same unknown names
+-- lists that agree have the same first unknown name
 pub same-unknown : (xs ys : List (Name × Symbol)) (last : ℕ) (line : List ℕ) (place : ℕ) (tokens : List Token) → Agree xs ys → first_unknown xs last line place tokens ≡ first_unknown ys last line place tokens
 same-unknown xs ys last line place [] agree = refl
 same-unknown xs ys last line place (t ∷ ts) agree =
     λ j. if nat_le place t.start && unknown-name xs ys last agree (name_of_token line t) j then Some (record { start = t.start; end = t.end }) else same-unknown xs ys last line place ts agree j
 
--- and so the same place of the first one
+-- the place of an undefined name, found by a list that agrees with the symbols of the lines
 pub place_by : (names : List (Name × Symbol)) (lines : List (List ℕ)) (number : ℕ) (line : List ℕ) (span : Span) (found : Option Span) → Agree names (symbols_of lines)
     → first_unknown names (last_seen number (length lines) (reading_of line)) line span.start (tokens_of line) ≡ found → or_span found span ≡ undefined_place lines number line span
 place_by names lines number line span found agree is =

@@ -1,5 +1,5 @@
--- The faults of a source as compilers print them: place, sentence, line and marks, and below them
--- lines of help, of which only the beginnings are told (own).
+-- The faults of a source as compilers print them: place, sentence, line and marks, and below them lines of help,
+-- of which only the beginnings are stated (chosen by this project).
 use Rattle.std.specs.Prelude.{◌≡◌, ℕ, ◌+◌, ◌-◌, ◌==◌, Bool, true, false, List, [], ◌∷◌, ◌++◌, drop, take, if◌then◌else◌, Option, Some, None, codes}
 use Rattle.std.specs.Fmt.{decimal}
 use Rattle.std.specs.List.{flat_map, position_or_len}
@@ -38,7 +38,7 @@ sentence_of StrayBranch = codes "stray ELSE or ENDIF"
 sentence_of UnclosedIf = codes "IF without ENDIF"
 sentence_of NotInProfile = codes "not in this profile"
 
--- the sentence of operands that don't fit names the instruction, where there is one
+-- the sentence for a fault; for operands that don't fit, it names the instruction if there is one
 unfoldable pub sentence_with : Fault → Option (List ℕ) → List ℕ
 sentence_with WrongOperands (Some mnemonic) = codes "the operands fit no form of " ++ mnemonic
 sentence_with fault mnemonic = sentence_of fault
@@ -47,8 +47,8 @@ sentence_with fault mnemonic = sentence_of fault
 abbrev pub code_of : Fault → List ℕ
 code_of fault = codes "F" ++ decimal (number_of_fault fault)
 
--- How a part of a text is painted: from its style on, and reset at its end. A style is the numbers
--- of ECMA-48's Select Graphic Rendition; 27 is ESC.
+-- Painting a part of a text: its style comes first, and a reset after it. A style is a list of numbers of
+-- ECMA-48's Select Graphic Rendition; 27 is ESC.
 abbrev pub opening : (is_painted : Bool) (style : List ℕ) → List ℕ
 opening false style = []
 opening true style = 27 ∷ codes "[" ++ style ++ codes "m"
@@ -60,74 +60,74 @@ closing true = 27 ∷ codes "[0m"
 abbrev pub painted : (is_painted : Bool) (style text : List ℕ) → List ℕ
 painted is_painted style text = opening is_painted style ++ text ++ closing is_painted
 
--- a code is bold: that of a warning yellow, as in `W1`, and that of a fault red
+-- the style of a code: bold and yellow for a warning such as `W1`, and bold and red for a fault
 abbrev pub code_style : (code : List ℕ) → List ℕ
 code_style [] = codes "1;31"
 code_style (c ∷ cs) = if c == 87 then codes "1;33" else codes "1;31"
 
--- marks are bold and blue
+-- the style of marks: bold and blue
 abbrev pub mark_style : List ℕ
 mark_style = codes "1;34"
 
--- file, line and column, each counted from 1, the column in bytes; the code, and the sentence
+-- file, line and column (both counted from 1, the column in bytes), code and sentence
 unfoldable pub head : (is_painted : Bool) (name : List ℕ) (number : ℕ) → Span
     → (code sentence : List ℕ) → List ℕ
 head is_painted name number span code sentence =
     name ++ codes ":" ++ decimal number ++ codes ":" ++ decimal (span.start + 1) ++ codes ": "
     ++ painted is_painted (code_style code) code ++ codes ": " ++ sentence ++ codes "\n"
 
--- what stands below a byte before the place: a tab stays, the further bytes of a character in UTF-8
--- take no place, and an escape takes four
+-- the blanks below a byte before the place: a tab below a tab, none below a further byte of a character in UTF-8,
+-- and four below an escape
 abbrev pub blank_of : ShownByte → List ℕ
 blank_of (Plain b) = if b == 9 then 9 ∷ [] else (if is_between 128 191 b then [] else 32 ∷ [])
 blank_of (Escaped b) = codes "    "
 
--- what stands below a byte of the place, as wide as an escape where it is one
+-- the tildes below a byte of the place: four below an escape, and one below another byte
 abbrev pub tildes_of : ShownByte → List ℕ
 tildes_of (Plain b) = codes "~"
 tildes_of (Escaped b) = codes "~~~~"
 
--- the mark below the bytes of a place: a caret in the place of the first tilde
+-- the mark below the bytes of a place: tildes, with a caret instead of the first one
 abbrev pub mark_text : List ShownByte → List ℕ
 mark_text [] = codes "^"
 mark_text (first ∷ others) = codes "^" ++ drop 1 (tildes_of first) ++ flat_map tildes_of others
 
--- the mark stands below the place of the line
+-- the line of marks: blanks, and the mark below the place of the line
 unfoldable pub marks : (is_painted : Bool) (shown : List ShownByte) → Span → List ℕ
 marks is_painted shown span =
     flat_map blank_of (take span.start shown)
     ++ painted is_painted mark_style (mark_text (take (span.end - span.start) (drop span.start shown)))
     ++ codes "\n"
 
--- how a line of help begins
+-- the word that a line of help begins with
 abbrev pub beginning : HintKind → List ℕ
 beginning Help = codes "help:"
 beginning Note = codes "note:"
 
--- that beginning is bold: green, and cyan for a note
+-- the style of that word: bold and green for help, and bold and cyan for a note
 abbrev pub hint_style : HintKind → List ℕ
 hint_style Help = codes "1;32"
 hint_style Note = codes "1;36"
 
--- a line of help: its beginning, and a sentence up to a newline
+-- a line of help: its beginning, and its sentence up to the first newline
 abbrev pub hint_line : (is_painted : Bool) → Hint → List ℕ
 hint_line is_painted hint =
     painted is_painted (hint_style hint.kind) (beginning hint.kind) ++ codes " "
     ++ take (position_or_len is_newline hint.sentence.items) hint.sentence.items ++ codes "\n"
 
--- How a place of a line is printed: from the line's number and text, the place, the code, the
--- sentence, and lines of help.
+-- A way to print a place of a line, given the line's number and text, the place, the code, the sentence, and
+-- lines of help.
 abbrev pub Print : Type 0
 Print = (number : ℕ) (line : List ℕ) → Span → (code sentence : List ℕ) → List Hint → List ℕ
 
--- as text: the head, the line with its escapes, the marks below the place, and the lines of help; the
--- line itself is never painted
+-- printing as text: the head, the line with its escapes, the marks below the place, and the lines of help; the line
+-- itself is never painted
 unfoldable pub report : (is_painted : Bool) (name : List ℕ) → Print
 report is_painted name number line span code sentence hints =
     head is_painted name number span code sentence ++ quoted_line line ++ codes "\n"
     ++ marks is_painted (shown_bytes line) span ++ flat_map (hint_line is_painted) hints
 
--- what is printed of a line: its fault, with some lines of help; nothing where it has no fault
+-- the text for a line: its fault with some lines of help, or nothing if it has no fault
 abbrev pub report_of : Print → (all : List (List ℕ)) (number : ℕ) (line : List ℕ)
     → Option Fault → (hints : List Hint) → List ℕ
 report_of print all number line None hints = []
@@ -135,8 +135,8 @@ report_of print all number line (Some fault) hints =
     print number line (place_in fault all number line) (code_of fault)
     (sentence_with fault (mnemonic_of line)) hints
 
--- a text is what is printed of the lines from a number on: of the first one, with some lines of
--- help, and then of the others
+-- whether a text is the text for the lines from `number` on: that of the first line, with some lines of help, and
+-- then that of the others
 abbrev pub AreReports : Print → (all : List (List ℕ)) (number : ℕ) → (lines : List (List ℕ))
     → (text : List ℕ) → Type 0
 AreReports print all number [] text = text ≡ []
@@ -145,19 +145,18 @@ AreReports print all number (line ∷ lines) text =
     × (text ≡ report_of print all number line (fault_at all number) hints ++ others)
     × AreReports print all (number + 1) lines others
 
--- a text begins with what is printed of the faults of a source's lines, and ends with anything else,
--- as the warnings are
+-- whether a text begins with the text for a source's lines; anything may follow, such as the warnings
 abbrev pub IsCheckedIn : Print → (lines : List (List ℕ)) (text : List ℕ) → Type 0
 IsCheckedIn print lines text =
     (reports : List ℕ) × (others : List ℕ) × AreReports print lines 1 lines reports
     × (text ≡ reports ++ others)
 
--- a text is the reports of a source's faults, in the order of the lines
+-- whether a text is the reports of a source's faults, in the order of the lines
 abbrev pub IsCheck : (is_painted : Bool) (name : List ℕ) (lines : List (List ℕ)) (text : List ℕ)
     → Type 0
 IsCheck is_painted name lines text = AreReports (report is_painted name) lines 1 lines text
 
--- a text begins with those reports
+-- whether a text begins with the reports of a source's faults, in the order of the lines
 abbrev pub IsChecked : (is_painted : Bool) (name : List ℕ) (lines : List (List ℕ)) (text : List ℕ)
     → Type 0
 IsChecked is_painted name lines text = IsCheckedIn (report is_painted name) lines text

@@ -1,4 +1,4 @@
--- The faults of a source as JSON, an object on a line of its own for each faulty line (own).
+-- The faults of a source as JSON: an object on a line of its own for each faulty line (chosen by this project).
 use Rattle.std.specs.Prelude.{ℕ, ◌+◌, ◌==◌, ◌||◌, nat_lt, List, [], ◌∷◌, ◌++◌, if◌then◌else◌, codes}
 use Rattle.std.specs.Fmt.{decimal}
 use Rattle.std.specs.List.{flat_map}
@@ -10,23 +10,23 @@ use Rattle.chip_check.specs.declared.hint.HintKind.{HintKind}
 use Rattle.chip_check.specs.declared.hint.HintKind.TheVariants.{Help, Note}
 use Rattle.chip_check.specs.Check.{Print, AreReports, IsCheckedIn}
 
--- a byte inside a string: a backslash stands before a quote and a backslash, and a control byte is
--- written by its number
+-- a byte inside a string: a backslash comes before a quote and before a backslash, and a control byte is written by
+-- its number
 abbrev pub escaped : ℕ → List ℕ
 escaped b =
     if (b == 34) || (b == 92) then 92 ∷ b ∷ []
     else (if nat_lt b 32 then codes "\\u00" ++ two_hex_digits b else b ∷ [])
 
--- a string: bytes that are not UTF-8 become U+FFFD
+-- a string in quotes, where U+FFFD replaces bytes that are not UTF-8
 unfoldable pub quoted : List ℕ → List ℕ
 quoted bytes = codes "\"" ++ flat_map escaped (utf8_lossy bytes) ++ codes "\""
 
--- what stands before the sentence of a line of help
+-- the text before the sentence of a line of help
 abbrev pub hint_prefix : HintKind → List ℕ
 hint_prefix Help = []
 hint_prefix Note = codes "note: "
 
--- a line of help as a string, and the same after a comma
+-- a line of help as a string, without and with a comma before it
 abbrev pub hint_string : Hint → List ℕ
 hint_string hint = quoted (hint_prefix hint.kind ++ hint.sentence.items)
 
@@ -38,9 +38,9 @@ abbrev pub hint_strings : List Hint → List ℕ
 hint_strings [] = []
 hint_strings (hint ∷ hints) = hint_string hint ++ flat_map further_hint hints
 
--- The object of a place, and a newline. The column and the end count from 1, in bytes, and the end
--- is one past the last byte; a code has no byte that is written otherwise in a string. The lines of
--- help are strings with a comma between each two.
+-- The object of a place, and a newline. The column and the end count from 1, in bytes, and the end is one past the
+-- last byte. A code has no byte that needs an escape in a string. `help` is the lines of help, as strings with a comma
+-- between each two.
 unfoldable pub object_with : (name : List ℕ) (number : ℕ) → Span → (code sentence help : List ℕ)
     → List ℕ
 object_with name number span code sentence help =
@@ -54,14 +54,14 @@ abbrev pub object : (name : List ℕ) (number : ℕ) → Span → (code sentence
 object name number span code sentence hints =
     object_with name number span code sentence (hint_strings hints)
 
--- how a place is printed as JSON: the text of the line is left out
+-- printing a place as JSON, without the text of the line
 abbrev pub as_object : (name : List ℕ) → Print
 as_object name number line span code sentence hints = object name number span code sentence hints
 
--- a text is the objects of the faults of a source's lines, in their order
+-- whether a text is the objects of the faults of a source's lines, in their order
 abbrev pub AreObjects : (name : List ℕ) (lines : List (List ℕ)) (text : List ℕ) → Type 0
 AreObjects name lines text = AreReports (as_object name) lines 1 lines text
 
--- a text begins with those objects, and ends with anything else, as the objects of warnings are
+-- whether a text begins with the objects of those faults; anything may follow, such as the objects of warnings
 abbrev pub IsCheckJson : (name : List ℕ) (lines : List (List ℕ)) (text : List ℕ) → Type 0
 IsCheckJson name lines text = IsCheckedIn (as_object name) lines text

@@ -1,10 +1,10 @@
--- What is printed of faulty lines, and of properties (own).
+-- Printing faulty lines and the answers to properties (chosen by this project).
 --     Answer    the answer to a property
 --     Check     the faults of a source as compilers print them
---     Json      the same as JSON
+--     Json      the faults of a source as JSON
 --     Place     the place of a fault in a source
 --     Quoted    the line of a finding, as it is quoted
---     Unopened  why a source doesn't open, in both ways
+--     Unopened  why a source doesn't open, as text and as JSON
 --     inner     which of the two is printed; no public clause cites it, and a reader may skip it
 pub mod Answer
 pub mod Check

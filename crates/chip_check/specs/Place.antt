@@ -1,5 +1,5 @@
--- The place of a fault in a source: that of its line, but that of F9 is the name that has no value
--- there, and that of F10 the operand whose value is out of range (own).
+-- The place of a fault in a source: for F9 the name that has no value there, for F10 the operand whose value is out
+-- of range, and for other faults the place that depends on the line alone (chosen by this project).
 use Rattle.std.specs.Prelude.{ℕ, zero, suc, ◌+◌, ◌-◌, ◌==◌, ◌&&◌, not, Bool, true, false, if◌then◌else◌, nat_le, List, [], ◌∷◌, map, length, Option, Some, None, Result, Err}
 use Rattle.chip_lang.specs.declared.fault.Fault.{Fault}
 use Rattle.chip_lang.specs.declared.fault.Fault.TheVariants.{UndefinedName, OutOfRange}
@@ -20,7 +20,7 @@ use Rattle.chip_symbols.specs.declared.table.Symbol.{Symbol}
 use Rattle.chip_symbols.specs.Names.{Name, lookup_name, values_of}
 use Rattle.chip_asm.specs.Program.{symbols_of}
 
--- EQU, ORG and DS see the names of earlier lines alone
+-- whether a line sees only the names of earlier lines: EQU, ORG and DS do
 abbrev pub sees_earlier : Reading → Bool
 sees_earlier (read name (equ e)) = true
 sees_earlier (read name (org e)) = true
@@ -35,19 +35,19 @@ abbrev pub is_seen_symbol : (last : ℕ) → Option Symbol → Bool
 is_seen_symbol last None = false
 is_seen_symbol last (Some s) = nat_le s.line last
 
--- a name that no line up to the last one seen gives a value
+-- whether a token's name is one that no line up to the line `last` gives a value
 abbrev pub is_unknown_name : List (Name × Symbol) → (last : ℕ) → Option (List ℕ) → Bool
 is_unknown_name names last None = false
 is_unknown_name names last (Some name) =
     not (is_seen_symbol last (lookup_name names (map upper name)))
 
--- a token from a place on that is such a name
+-- whether a token is such a name, and begins at a place or after it
 abbrev pub is_unknown : List (Name × Symbol) → (last : ℕ) → (line : List ℕ) (place : ℕ) → Token
     → Bool
 is_unknown names last line place t =
     nat_le place t.start && is_unknown_name names last (name_of_token line t)
 
--- the first one
+-- the span of the first such token
 abbrev pub first_unknown : List (Name × Symbol) → (last : ℕ) → (line : List ℕ) (place : ℕ)
     → List Token → Option Span
 first_unknown names last line place [] = None
@@ -59,7 +59,7 @@ abbrev pub or_span : Option Span → Span → Span
 or_span None span = span
 or_span (Some found) span = found
 
--- the first name without a value among the operands, of the line of a number
+-- the first name without a value among the operands of the line `number`; `span` if there is none
 abbrev pub undefined_place : (lines : List (List ℕ)) (number : ℕ) (line : List ℕ) → Span → Span
 undefined_place lines number line span =
     or_span (first_unknown (symbols_of lines)
@@ -71,24 +71,24 @@ abbrev pub is_out : Result ℕ Fault → Bool
 is_out (Err OutOfRange) = true
 is_out outcome = false
 
--- a value from 0 up to below a limit
+-- a value that has to lie from 0 to below a limit
 abbrev pub number_in : (limit : ℕ) → Tree → Symbols → Result ℕ Fault
 number_in limit e symbols = value e symbols >>= number_below limit
 
--- how many values of DB or DW stand before the first that is out of range
+-- the number of values of DB or DW before the first that is out of range
 abbrev pub first_data_out : (limit : ℕ) → List Tree → Symbols → ℕ
 first_data_out limit [] symbols = 0
 first_data_out limit (e ∷ es) symbols =
     if is_out (datum_of limit e symbols) then 0 else first_data_out limit es symbols + 1
 
--- how many operands stand before the first whose value is out of its place's range
+-- the number of operands before the first whose value is out of its place's range
 abbrev pub first_out : List Pattern → List Operand → Symbols → ℕ
 first_out [] os symbols = 0
 first_out (p ∷ ps) [] symbols = 0
 first_out (p ∷ ps) (o ∷ os) symbols =
     if is_out (field_of p o symbols) then 0 else first_out ps os symbols + 1
 
--- the same of a line: DS has one operand
+-- the index, from 0, of the first operand of a line whose value is out of range; 0 for DS, which has one operand
 abbrev pub out_operand : Reading → Symbols → ℕ
 out_operand (read name (db es)) symbols = first_data_out 256 es symbols
 out_operand (read name (dw es)) symbols = first_data_out 65536 es symbols
@@ -112,14 +112,13 @@ abbrev pub operand_end : (place : ℕ) → List Token → ℕ
 operand_end place [] = place
 operand_end place (t ∷ ts) = if is_comma t then place else operand_end t.end ts
 
--- the operand of an index, where these tokens begin with the first operand: its tokens up to the
--- comma
+-- the span of the operand of an index, if the given tokens begin with the first operand; it ends before the comma
 abbrev pub operand_span : (index : ℕ) → List Token → Option Span
 operand_span index [] = None
 operand_span zero (t ∷ ts) = Some (record { start = t.start; end = operand_end t.end ts })
 operand_span (suc index) (t ∷ ts) = operand_span (if is_comma t then index else suc index) ts
 
--- the first operand whose value is out of range
+-- the span of the first operand whose value is out of range; `span` if there is none
 abbrev pub out_of_range_place : Symbols → (line : List ℕ) → Span → Span
 out_of_range_place symbols line span =
     or_span (operand_span (out_operand (reading_of line) symbols)

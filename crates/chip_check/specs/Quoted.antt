@@ -1,7 +1,7 @@
--- How the line of a finding is quoted: byte by byte, with what a terminal may take for something
--- else written by its number (own; UTF-8 as in the Unicode Standard).
---     ShownByte     a byte as it stands, or one that is escaped
---     shown_bytes   what is shown of each byte of a line
+-- Quoting the line of a finding byte by byte: bytes that a terminal may misread are written by their numbers (chosen
+-- by this project; UTF-8 as in the Unicode Standard).
+--     ShownByte     a byte as it is shown: the byte itself, or an escape
+--     shown_bytes   the bytes of a line as they are shown
 --     quoted_line   the line, as it is printed
 use Rattle.std.specs.Prelude.{ℕ, zero, suc, ◌-◌, ◌==◌, ◌&&◌, ◌||◌, Bool, true, not, nat_lt, List, [], ◌∷◌, ◌++◌, codes, if◌then◌else◌}
 use Rattle.std.specs.List.{flat_map}
@@ -10,16 +10,16 @@ use Rattle.chip_lang.specs.Show.{two_hex_digits}
 use Rattle.chip_check.specs.declared.quoted.ShownByte.{ShownByte}
 use Rattle.chip_check.specs.declared.quoted.ShownByte.TheVariants.{Plain, Escaped}
 
--- a byte below 32 but the tab, or 127
+-- whether a byte is a control byte: below 32 except the tab, or 127
 abbrev pub is_control : ℕ → Bool
 is_control b = (nat_lt b 32 && not (b == 9)) || (b == 127)
 
--- a byte of text stands as it is, but for a control byte; one that is not of text is escaped
+-- a byte of text is shown as it is, unless it is a control byte; a byte that is not part of text is escaped
 abbrev pub shown_byte : (is_text : Bool) → ℕ → ShownByte
 shown_byte is_text b = if is_text && not (is_control b) then Plain b else Escaped b
 
--- How each byte is shown, where so many of the first are text. The longest front of what follows them
--- that is UTF-8 is text, and where no front is, the next byte is not.
+-- The bytes as they are shown, if the first `text` of them are text. Of the bytes after those, the longest prefix
+-- that is valid UTF-8 is text; if no prefix is, the next byte is not text.
 abbrev pub shown_after : (text : ℕ) → List ℕ → List ShownByte
 shown_after text [] = []
 shown_after zero (b ∷ bs) =
@@ -30,7 +30,7 @@ shown_after (suc text) (b ∷ bs) = shown_byte true b ∷ shown_after text bs
 unfoldable pub shown_bytes : List ℕ → List ShownByte
 shown_bytes line = shown_after 0 line
 
--- an escape is `\x` and two digits in lower case
+-- the text of a shown byte; an escape is `\x` and two hexadecimal digits in lower case
 abbrev pub byte_text : ShownByte → List ℕ
 byte_text (Plain b) = b ∷ []
 byte_text (Escaped b) = codes "\\x" ++ two_hex_digits b

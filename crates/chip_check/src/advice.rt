@@ -1,4 +1,4 @@
-//! What may help with a fault.
+//! The lines of help for a fault.
 
 use crate::forms::{near_heading, push_forms, stands_alone};
 use crate::hint::{Hint, push_formatted, push_help, push_note, push_sentence};
@@ -24,11 +24,11 @@ struct FaultyLine<'a> {
     /// The text from the place of the fault on.
     text: &'a [u8],
     words: &'a [Word<'a>],
-    /// Those from the place of the fault on.
+    /// The words from the place of the fault on.
     rest: &'a [Word<'a>],
 }
 
-/// The help for a fault of a line of these tokens, which lies at a place of the line.
+/// The lines of help for a fault at a place of a line, whose tokens are given.
 pub(crate) fn advice_on(
     alloc: Global,
     known: &Known,
@@ -78,7 +78,7 @@ fn push_fault_advice(
     }
 }
 
-/// Adds how an address is used that stands in the place of a smaller value.
+/// Adds how to use an address, if the line has a name of an address where a smaller value belongs.
 fn push_address_help(
     alloc: Global,
     hints: &mut Vec<Hint>,
@@ -112,7 +112,7 @@ fn push_address_help(
     }
 }
 
-/// Help with a fault that no other line has a part in.
+/// Adds help with a fault that depends on its own line only.
 fn push_line_advice(
     alloc: Global,
     hints: &mut Vec<Hint>,
@@ -138,7 +138,7 @@ fn push_line_advice(
     }
 }
 
-/// What helps with a fault whatever the line says.
+/// The help with a fault that is the same for every line, if there is one.
 fn sentence_for(fault: Fault) -> Option<&'static str> {
     match fault {
         Fault::UnfinishedString => Some("a text ends with the quote that it begins with"),
@@ -151,7 +151,7 @@ fn sentence_for(fault: Fault) -> Option<&'static str> {
     }
 }
 
-/// Help with bytes that begin no token.
+/// Adds help with bytes that begin no token.
 fn bad_character(
     alloc: Global,
     hints: &mut Vec<Hint>,
@@ -186,8 +186,8 @@ fn bad_character(
     }
 }
 
-/// What helps with a byte that begins no token by the first word of its statement, if that says more:
-/// `text` is the line from the byte on.
+/// The help with a byte that begins no token, if the first word of its statement says more than the byte
+/// does. `text` is the line from the byte on.
 fn sentence_for_statement(text: &[u8], first: &[u8]) -> Option<&'static str> {
     match (first, text) {
         (b"*", _) => Some(ORIGIN),
@@ -200,7 +200,7 @@ fn sentence_for_statement(text: &[u8], first: &[u8]) -> Option<&'static str> {
     }
 }
 
-/// What helps where a line shows that the file is no plain text.
+/// The help if a line shows that the file is not plain text.
 fn sentence_for_file(line: &[u8]) -> Option<&'static str> {
     if line.starts_with(&[239, 187, 191]) {
         return Some("the file begins with a byte order mark; save it without one");
@@ -213,7 +213,7 @@ fn sentence_for_file(line: &[u8]) -> Option<&'static str> {
     None
 }
 
-/// Whether a text begins with some letters of either case.
+/// Whether a text begins with `front`, ignoring the case of letters.
 fn begins_with(text: &[u8], front: &[u8]) -> bool {
     match text.get(..front.len()) {
         Some(first) => first.eq_ignore_ascii_case(front),
@@ -221,7 +221,8 @@ fn begins_with(text: &[u8], front: &[u8]) -> bool {
     }
 }
 
-/// What helps with a byte that begins no token: `text` is the line from it on, `rest` its words.
+/// The help with a byte that begins no token. `text` is the line from that byte on, and `rest` the words
+/// of `text`.
 fn sentence_for_character(text: &[u8], rest: &[Word<'_>]) -> Option<&'static str> {
     match (text, rest) {
         ([b'#', ..], _) if begins_with(text, b"#define") => {
@@ -265,7 +266,7 @@ fn sentence_for_character(text: &[u8], rest: &[Word<'_>]) -> Option<&'static str
     }
 }
 
-/// Help with a byte in the name that a line defines.
+/// Adds help with a byte that a name can't have, in the name that a line defines.
 fn push_wrong_byte(alloc: Global, hints: &mut Vec<Hint>, byte: u8) -> Result<(), AllocError> {
     let parts: &[&[u8]] = &[
         b"a name has letters, digits and `_`, and no `",
@@ -275,7 +276,7 @@ fn push_wrong_byte(alloc: Global, hints: &mut Vec<Hint>, byte: u8) -> Result<(),
     push_help(alloc, hints, parts)
 }
 
-/// Help with a number that another assembler would write with these digits.
+/// Adds how to write a number that is written as in another assembler, with these digits.
 fn push_other_number(
     alloc: Global,
     hints: &mut Vec<Hint>,
@@ -287,7 +288,7 @@ fn push_other_number(
     push_help(alloc, hints, &[front.as_bytes(), digits])
 }
 
-/// Adds what the first number with a `$` of the line is, where the number at fault has a `$` too.
+/// Adds the value of the line's first number with a `$`, if the number at fault has a `$` too.
 fn push_binary_note(
     alloc: Global,
     hints: &mut Vec<Hint>,
@@ -307,7 +308,7 @@ fn push_binary_note(
     Ok(())
 }
 
-/// The value of the digits of a binary number if they were hexadecimal; in a binary number a full stop is a 0.
+/// The value that the digits of a binary number would have in hexadecimal. A full stop counts as a 0.
 fn hexadecimal_value(digits: &[u8]) -> u64 {
     let mut value = 0u64;
     for digit in digits {
@@ -317,7 +318,7 @@ fn hexadecimal_value(digits: &[u8]) -> u64 {
     value
 }
 
-/// Whether a colon stands behind the first word at fault, and a label before it.
+/// Whether a colon follows the first word at fault, and a label comes before that word.
 fn has_second_label(faulty: &FaultyLine<'_>) -> bool {
     match faulty.rest {
         [_, colon, ..] => colon.text == b":".as_slice() && faulty.rest.len() < faulty.words.len(),
@@ -325,7 +326,7 @@ fn has_second_label(faulty: &FaultyLine<'_>) -> bool {
     }
 }
 
-/// Help with a word that begins a statement and isn't known.
+/// Adds help with an unknown word that begins a statement.
 fn unknown_word(
     alloc: Global,
     hints: &mut Vec<Hint>,
@@ -381,7 +382,8 @@ fn unknown_word(
     }
 }
 
-/// Help with a register, or another part of the machine, that begins a statement of these words.
+/// Adds an example for a statement that begins with a register or another part of the machine. `rest` are
+/// the words of the statement.
 fn push_example<'a>(
     alloc: Global,
     hints: &mut Vec<Hint>,
@@ -402,8 +404,8 @@ fn push_example<'a>(
     }
 }
 
-/// Help with a word that was meant as an instruction or a directive; one that may be a label, only
-/// if that stands without operands.
+/// Adds help with a word that was meant as an instruction or a directive. If the word may also be a label,
+/// help is added only for an instruction or a directive that can have no operands.
 fn push_meant(
     alloc: Global,
     hints: &mut Vec<Hint>,
@@ -419,7 +421,7 @@ fn push_meant(
     }
 }
 
-/// Help with a word of another assembler after a full stop.
+/// Adds help with a word of another assembler after a full stop.
 fn push_other_word(alloc: Global, hints: &mut Vec<Hint>, word: &[u8]) -> Result<(), AllocError> {
     match other_word(word) {
         Some(ours) => {
@@ -430,7 +432,7 @@ fn push_other_word(alloc: Global, hints: &mut Vec<Hint>, word: &[u8]) -> Result<
     }
 }
 
-/// Adds how a word of another assembler is written here.
+/// Adds how to write a word of another assembler here.
 fn push_written(
     alloc: Global,
     hints: &mut Vec<Hint>,
@@ -444,15 +446,15 @@ fn push_written(
     )
 }
 
-/// Whether a line of these words would read with a colon after the first, which is `written` so and
-/// has the text `behind` it.
+/// Whether a line of these words would be valid with a colon after the first word. `written` is the first
+/// word as it is written, and `behind` the text after it.
 fn reads_as_label(
     alloc: Global,
     words: &[Word<'_>],
     written: &[u8],
     behind: &[u8],
 ) -> Result<bool, AllocError> {
-    // between two words is a blank: the colon takes its place, so that the line gets no longer
+    // the colon replaces the blank between the two words, so that the line gets no longer
     let behind = match words {
         [_] => b"".as_slice(),
         [_, next, ..] if next.kind == Kind::Word => behind.get(1..).unwrap_or(&[]),
@@ -470,7 +472,7 @@ fn reads_as_label(
     }
 }
 
-/// Help with a word that can't be a name; `rest` are the words from it on.
+/// Adds help with a word that can't be a name. `rest` are the words from it on.
 fn bad_name(alloc: Global, hints: &mut Vec<Hint>, rest: &[Word<'_>]) -> Result<(), AllocError> {
     if push_mistake(alloc, hints, rest)? {
         return Ok(());
@@ -505,7 +507,7 @@ fn is_assignment(words: &[Word<'_>]) -> bool {
     }
 }
 
-/// Help with a name that has a value already; `rest` are the words from it on.
+/// Adds help with a name that already has a value. `rest` are the words from it on.
 fn defined_twice(
     alloc: Global,
     hints: &mut Vec<Hint>,
@@ -521,7 +523,7 @@ fn defined_twice(
     }
 }
 
-/// Help with a name without a value.
+/// Adds help with a name without a value.
 fn undefined_name(
     alloc: Global,
     hints: &mut Vec<Hint>,
@@ -555,7 +557,7 @@ fn undefined_name(
     }
 }
 
-/// Adds why the line that begins with a name isn't active.
+/// Adds a note on why the line that begins with a name isn't active.
 fn push_skipped_note(
     alloc: Global,
     hints: &mut Vec<Hint>,
@@ -586,8 +588,8 @@ fn push_line_note(
     push_note(alloc, hints, &[name, line.as_bytes()])
 }
 
-/// Help with a name that no other line begins with: `words` are those of its line, `rest` those from the
-/// name on.
+/// Adds help with a name that no other line begins with. `words` are the words of its line, and `rest` the
+/// words from the name on.
 fn unknown_name(
     alloc: Global,
     hints: &mut Vec<Hint>,
@@ -609,7 +611,7 @@ fn unknown_name(
     }
 }
 
-/// Help with a directive that this assembler doesn't have.
+/// Adds help with a directive that this assembler doesn't have.
 fn not_in_profile(
     alloc: Global,
     hints: &mut Vec<Hint>,

@@ -1,4 +1,4 @@
-//! The faults of a source, and its warnings, as compilers print them and as JSON.
+//! The faults and warnings of a source, as compilers print them and as JSON.
 
 ghost use Rattle.std.specs.Prelude.{◌≡◌, ◌++◌, ℕ, List, [], IfOk, OnOk};
 ghost use Rattle.chip_asm.specs.Program.{fault_at, symbols_of};
@@ -18,13 +18,15 @@ use chip_asm::{LineView, OpenError, Source};
 use chip_warnings::Warning;
 use std::alloc::{AllocError, Global};
 
-/// What `check` prints of a source that was read from a file of this name: of each fault, in the order of the lines, the file, the line and the column, the fault's code
-/// and sentence, the line, a caret below the first byte of the fault's place and a tilde below each
-/// further one, and lines of help, which begin with `help: ` or `note: `. In the line a control byte
-/// but the tab, and a byte that is not part of UTF-8, is `\xNN`. Then the same of each
-/// warning, in the given order; one that doesn't lie in the source is left out. Nothing where there
-/// is neither. Where it is painted, the code, the marks and the beginnings of the lines of help have
-/// colours, as a terminal takes them.
+/// The text that `check` prints for a source that was read from a file of this name.
+///
+/// For each fault, in the order of the lines, the text has the file, the line and the column, the fault's
+/// code and sentence, the line, a caret below the first byte of the fault's place and a tilde below each
+/// further byte, and lines of help, which begin with `help: ` or `note: `. In the line, control bytes
+/// except the tab, and bytes that are not part of UTF-8, appear as `\xNN`. Each warning follows in the
+/// same format, in the given order; warnings that don't lie in the source are left out. The text is empty
+/// if there are no faults and no warnings. If `is_painted` is true, the code, the marks and the
+/// beginnings of the lines of help have the colours of a terminal.
 ///
 /// # Errors
 ///
@@ -45,11 +47,13 @@ pub fn check_text(
     check_in(alloc, Style { form, name }, source, warnings)
 }
 
-/// What `check --json` prints of a source that was read from a file of this name: an object on a line of its own for each fault, in the order of the lines, and then for each
-/// warning, in the given order; a warning that doesn't lie in the source is left out. An object has
-/// the members `line`, `column`, `end` (from 1, in bytes; the end is one past the last byte),
-/// `code`, `message`, `help` (its lines, of which notes begin with `note: `) and `file`. In a string
-/// each sequence of bytes that is not UTF-8 is U+FFFD.
+/// The text that `check --json` prints for a source that was read from a file of this name.
+///
+/// The text has one object per line: one for each fault, in the order of the lines, and then one for each
+/// warning, in the given order. Warnings that don't lie in the source are left out. An object has the
+/// members `line`, `column`, `end` (each from 1; `column` and `end` in bytes, and the end is one past the
+/// last byte), `code`, `message`, `help` (the lines of help, where a note begins with `note: `) and
+/// `file`. In a string, U+FFFD replaces each sequence of bytes that is not UTF-8.
 ///
 /// # Errors
 ///
@@ -68,12 +72,12 @@ pub fn check_json(
     check_in(alloc, Style { form, name }, source, warnings)
 }
 
-/// What `check` prints of a source of this name that doesn't open: the place in the line that is too
-/// long or one too many, the code O1 or O2, a sentence, and a line of help. The line isn't quoted.
+/// The text that `check` prints for a source of this name that doesn't open: the place in the line that is
+/// too long or one too many, the code O1 or O2, a sentence, and a line of help. The line isn't quoted.
 ///
 /// # Errors
 ///
-/// Out of memory, also where the source didn't open for that.
+/// Out of memory; also returned if that is why the source didn't open.
 pub fn unopened_report(
     alloc: Global,
     is_painted: bool,
@@ -89,11 +93,12 @@ pub fn unopened_report(
     Ok(text)
 }
 
-/// What `check --json` prints of a source of this name that doesn't open: the object of that place.
+/// The object that `check --json` prints for a source of this name that doesn't open, with the same place,
+/// code, sentence and help as `unopened_report`.
 ///
 /// # Errors
 ///
-/// Out of memory, also where the source didn't open for that.
+/// Out of memory; also returned if that is why the source didn't open.
 pub fn unopened_json(alloc: Global, name: &[u8], error: OpenError) -> Result<Vec<u8>, AllocError>
     ensures { IfOk result (λ text. text.items ≡ unopened_object name.now error) }
 {
@@ -103,8 +108,8 @@ pub fn unopened_json(alloc: Global, name: &[u8], error: OpenError) -> Result<Vec
     Ok(text)
 }
 
-/// What `check` prints, as text without colours, of the fault of the line of a number; nothing where
-/// it has none.
+/// The text that `check` prints, without colours, for the fault of the line of this number; empty if the
+/// line has no fault.
 ///
 /// # Errors
 ///
@@ -131,7 +136,7 @@ pub fn fault_text(
     Ok(text)
 }
 
-/// What is printed of the faults, and then of the warnings.
+/// The faults as they are printed, followed by the warnings.
 fn check_in(
     alloc: Global,
     style: Style,
@@ -149,7 +154,7 @@ fn check_in(
     Ok(text)
 }
 
-/// What is printed of the faults.
+/// The faults as they are printed.
 fn reports(alloc: Global, style: Style, source: &Source) -> Result<Vec<u8>, AllocError>
     ensures { IfOk result (λ text. AreReports (print_in style.entry.form style.entry.name.now)
         source.now.lines 1 source.now.lines text.items) }
@@ -164,7 +169,7 @@ fn reports(alloc: Global, style: Style, source: &Source) -> Result<Vec<u8>, Allo
     Ok(text)
 }
 
-/// Adds what is printed of the fault of a line, where it has one.
+/// Adds the fault of a line as it is printed, if the line has one.
 fn push_fault(
     alloc: Global,
     text: &mut Vec<u8>,
@@ -185,7 +190,7 @@ fn push_fault(
     push_finding(alloc, text, style, line.number(), line.text(), &finding)
 }
 
-/// Adds what is printed of the warnings that lie in the source.
+/// Adds the warnings that lie in the source as they are printed.
 fn push_warnings(
     alloc: Global,
     text: &mut Vec<u8>,
@@ -205,7 +210,7 @@ fn push_warnings(
     Ok(())
 }
 
-/// Adds what is printed of a warning of a line, if its place lies in the line.
+/// Adds a warning of a line as it is printed, if its place lies in the line.
 fn push_warning(
     alloc: Global,
     text: &mut Vec<u8>,

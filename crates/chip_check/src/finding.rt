@@ -1,4 +1,4 @@
-//! What is found in a line: a fault or a warning.
+//! A finding in a line: a fault or a warning.
 
 ghost use Rattle.std.specs.Prelude.{◌≡◌, ◌≤◌, ◌+◌, IfOk, length};
 ghost use Rattle.chip_lang.specs.FaultPlace.{mnemonic_of};
@@ -19,12 +19,12 @@ use chip_lang::{Fault, Span};
 use chip_warnings::Warning;
 use std::alloc::{AllocError, Global};
 
-/// What is found in a line.
+/// A fault or a warning of a line, with its place and help.
 #[derive(Drop)]
 pub(crate) struct Finding {
-    /// The bytes of the line at which it is.
+    /// The bytes of the line where the finding lies.
     pub(crate) span: Span,
-    /// A letter and a number, as in F9.
+    /// A letter and a number, such as F9.
     pub(crate) code: Vec<u8>,
     pub(crate) sentence: Vec<u8>,
     /// Lines of help.
@@ -32,7 +32,7 @@ pub(crate) struct Finding {
 }
 
 impl Finding {
-    /// The fault of a line, with its place and the help.
+    /// The finding for the fault of a line, with its place and help.
     pub(crate) fn of_fault(
         alloc: Global,
         source: &Source,
@@ -63,8 +63,8 @@ impl Finding {
         })
     }
 
-    /// Why a source doesn't open, in the line that is too long or one too many. Out of memory where it
-    /// didn't for that.
+    /// The finding for a source that doesn't open, in the line that is too long or one too many. Fails if
+    /// memory runs out, or if that is why the source didn't open.
     pub(crate) fn of_unopened(alloc: Global, error: OpenError) -> Result<Finding, AllocError>
         ensures span { IfOk result (λ finding. finding.span ≡ unopened_place error) }
         ensures small { IfOk result (λ finding. (finding.span.start ≤ LINE_BYTES)
@@ -103,7 +103,7 @@ impl Finding {
         }
     }
 
-    /// What a warning says.
+    /// The finding for a warning.
     pub(crate) fn of_warning(alloc: Global, warning: &Warning) -> Result<Finding, AllocError>
         ensures { IfOk result (λ finding. finding.span ≡ warning.now.span) }
     {
@@ -124,7 +124,7 @@ impl Finding {
     }
 }
 
-/// One line of help, which says what to write.
+/// A list of one line of help, which says what to write.
 fn one_help(alloc: Global, sentence: &[u8]) -> Result<Vec<Hint>, AllocError>
     ensures { IfOk result (λ hints. IsHelp sentence.now hints.items) }
 {
@@ -136,7 +136,8 @@ fn one_help(alloc: Global, sentence: &[u8]) -> Result<Vec<Hint>, AllocError>
     Ok(hints)
 }
 
-/// The line in which a source that doesn't open is too long, counted from 1.
+/// The number of the line that is too long or one too many in a source that doesn't open, counted from 1;
+/// 1 if memory ran out.
 pub(crate) fn unopened_line(error: OpenError) -> usize
     ensures { result ≡ unopened_line error }
 {
@@ -147,7 +148,7 @@ pub(crate) fn unopened_line(error: OpenError) -> usize
     }
 }
 
-/// The sentence of a fault of a line.
+/// The sentence for the fault of a line. If the operands don't fit, the sentence names the instruction.
 #[tactic(auto, unfolding(crate::specs::Check::sentence_with))]
 fn sentence_in(alloc: Global, fault: Fault, line: &LineView<'_>) -> Result<Vec<u8>, AllocError>
     ensures { IfOk result (λ sentence.
@@ -166,7 +167,7 @@ fn sentence_in(alloc: Global, fault: Fault, line: &LineView<'_>) -> Result<Vec<u
     }
 }
 
-/// The sentence of a fault, without the instruction.
+/// The sentence for a fault, without the name of an instruction.
 #[tactic(auto, unfolding(crate::specs::Check::sentence_of))]
 pub(crate) fn sentence_of(fault: Fault) -> &'static [u8]
     ensures { result.now ≡ sentence_of fault }

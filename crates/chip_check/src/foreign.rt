@@ -1,21 +1,21 @@
-//! Whether a source looks as if it were written for another program.
+//! Recognizing a source that was written for Octo or another assembler.
 
 use crate::missing::missing_word;
 use crate::other_assemblers::{is_other_number, other_word};
 use crate::words::{Word, has_twice, is_one_of, statement_of};
 
-/// How many lines have to look so.
+/// The number of lines that must look foreign before the note is printed.
 const ENOUGH: usize = 3;
 
-/// The note on a source that is written for Octo.
+/// The note on a source that was written for Octo.
 const OCTO: &str =
     "this looks like a source of Octo; docs/LANGUAGE.md, \"You know Octo\", lists what is written differently here";
 
-/// The note on a source that is written for another assembler.
+/// The note on a source that was written for another assembler.
 const ANOTHER: &str =
     "this looks like a source of another assembler; docs/LANGUAGE.md, \"You know another assembler\", lists what is written differently here";
 
-/// Words with which lines of Octo begin, and lines of assemblers seldom do.
+/// Words that often begin a line in Octo, and seldom begin a line in other assemblers.
 const OCTO_WORDS: &[&str] = &[
     ":",
     "#",
@@ -34,17 +34,17 @@ const OCTO_WORDS: &[&str] = &[
     "BUZZER",
 ];
 
-/// How many lines with a fault look as others write them.
+/// The numbers of lines with a fault that look as in Octo, and as in other assemblers.
 #[derive(Clone, Copy)]
 pub(crate) struct Tally {
-    /// The number of the first line with a fault; 0 while there is none.
+    /// The number of the first line with a fault; 0 if no line has been counted yet.
     first_line: usize,
     octo: usize,
     others: usize,
 }
 
 impl Tally {
-    /// That of no lines.
+    /// The tally before any line is counted.
     pub(crate) fn new() -> Tally {
         Tally {
             first_line: 0,
@@ -53,7 +53,7 @@ impl Tally {
         }
     }
 
-    /// Counts a line of a number with a fault.
+    /// Counts a line with a fault, which has this number.
     pub(crate) fn add(&mut self, number: usize, words: &[Word<'_>]) {
         if self.first_line == 0 {
             self.first_line = number;
@@ -66,8 +66,8 @@ impl Tally {
         }
     }
 
-    /// The note on the whole source, which is printed below its first fault: none for another line than
-    /// the one of that fault.
+    /// The note on the whole source, which is printed below its first fault. Returns nothing if `number` is
+    /// not the line of that fault, or if too few lines look foreign.
     pub(crate) fn note_on(self, number: usize) -> Option<&'static str> {
         if number != self.first_line {
             None
@@ -81,7 +81,7 @@ impl Tally {
     }
 }
 
-/// Whether a line of these words looks as in Octo.
+/// Whether a line of these words looks like a line of Octo.
 fn is_of_octo(words: &[Word<'_>]) -> bool {
     let begins_so = match words.first() {
         Some(first) => is_one_of(first.text, OCTO_WORDS) || first.text.starts_with(b"0X"),
@@ -94,7 +94,7 @@ fn is_of_octo(words: &[Word<'_>]) -> bool {
         || words.windows(2).any(|pair| is_assignment(pair))
 }
 
-/// Whether two words are the sign of an assignment of Octo, such as `:=` or `+=`.
+/// Whether two words are an assignment operator of Octo, such as `:=` or `+=`.
 fn is_assignment(pair: &[Word<'_>]) -> bool {
     match pair {
         [operator, equals] => {
@@ -105,7 +105,7 @@ fn is_assignment(pair: &[Word<'_>]) -> bool {
     }
 }
 
-/// Whether a line of these words looks as in another assembler.
+/// Whether a line of these words looks like a line of another assembler.
 fn is_of_another(words: &[Word<'_>]) -> bool {
     let begins_so = match statement_of(words).first() {
         Some(first) => {

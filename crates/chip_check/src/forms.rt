@@ -1,12 +1,12 @@
-//! The forms of instructions and directives, as help shows them.
+//! The forms of instructions and directives, as lines of help show them.
 
 use crate::hint::{Hint, push_help};
 use crate::words::{Word, is_comma, is_one_of, is_register, is_special};
 use chip_properties::near::{fewest_edits, most_edits};
 use std::alloc::{AllocError, Global};
 
-/// The instructions and directives with their forms: each is the word and its operands. `Vx` and
-/// `Vy` are registers, `nibble` is a value from 0 to 15, `byte` one from -128 to 255, `addr` one
+/// The instructions and directives with their forms. A form is the word and its operands: `Vx` and `Vy`
+/// are registers, `nibble` is a value from 0 to 15, `byte` a value from -128 to 255, and `addr` a value
 /// from 0 to 4095.
 const HEADINGS: &[(&str, &[&str])] = &[
     ("CLS", &["CLS"]),
@@ -82,10 +82,11 @@ const HEADINGS: &[(&str, &[&str])] = &[
 /// The most forms that a line of help shows.
 const MOST_SHOWN: usize = 5;
 
-/// How near a form is at most: its first operand counts twice, and no form has over three.
+/// The highest nearness of a form: the first operand counts twice, and no form has more than three
+/// operands.
 const NEAREST: usize = 4;
 
-/// The forms of an instruction or a directive; none of another word.
+/// The forms of an instruction or a directive; empty for other words.
 fn forms_of(word: &[u8]) -> &'static [&'static str] {
     for (heading, forms) in HEADINGS {
         if heading.as_bytes() == word {
@@ -95,7 +96,7 @@ fn forms_of(word: &[u8]) -> &'static [&'static str] {
     &[]
 }
 
-/// Whether an instruction or a directive can stand without operands.
+/// Whether an instruction or a directive can have no operands.
 pub(crate) fn stands_alone(word: &[u8]) -> bool {
     is_one_of(word, forms_of(word))
 }
@@ -113,7 +114,7 @@ pub(crate) fn is_reserved(word: &[u8]) -> bool {
         || is_one_of(word, &["USED", "INCLUDE", "UNDEF"])
 }
 
-/// The instruction or the directive that a word comes nearest to, if one is near.
+/// The instruction or directive whose spelling is nearest to a word, if one is near enough.
 pub(crate) fn near_heading(word: &[u8]) -> Option<&str> {
     let mut most = most_edits(word);
     let mut nearest = None;
@@ -129,7 +130,8 @@ pub(crate) fn near_heading(word: &[u8]) -> Option<&str> {
     nearest
 }
 
-/// Adds what an instruction or a directive takes, by its first forms: nothing for another word.
+/// Adds the first forms of an instruction or a directive, nearest to these operands first. Adds nothing
+/// for other words.
 pub(crate) fn push_forms(
     alloc: Global,
     hints: &mut Vec<Hint>,
@@ -140,7 +142,7 @@ pub(crate) fn push_forms(
     push_first_forms(alloc, hints, word, &forms)
 }
 
-/// Adds what an instruction or a directive of these forms takes.
+/// Adds the first of these forms of an instruction or a directive.
 fn push_first_forms(
     alloc: Global,
     hints: &mut Vec<Hint>,
@@ -163,8 +165,8 @@ fn push_first_forms(
     }
 }
 
-/// The forms of an instruction or a directive, those first that are nearest to what was written
-/// after it; none for another word.
+/// The forms of an instruction or a directive, with the forms first that are nearest to the operands
+/// written after it; empty for other words.
 fn forms_by_nearness(
     alloc: Global,
     word: &[u8],
@@ -181,7 +183,7 @@ fn forms_by_nearness(
     Ok(forms)
 }
 
-/// How many operands are what a form wants in their places; the first counts twice.
+/// The number of operands that fit a form in their places, where the first operand counts twice.
 fn nearness(form: &str, operands: &[Word<'_>]) -> usize {
     let Some((_, wanted)) = form.split_once(' ') else {
         return 0;
@@ -197,10 +199,10 @@ fn nearness(form: &str, operands: &[Word<'_>]) -> usize {
     near
 }
 
-/// The words in a form for which an expression stands.
+/// The words in a form that are placeholders for an expression.
 const VALUES: &[&str] = &["nibble", "byte", "addr", "value"];
 
-/// Whether an operand is what a form wants in its place.
+/// Whether an operand fits a form in its place.
 fn fits(wants: &[u8], given: &[Word<'_>]) -> bool {
     match given {
         [] => false,
@@ -214,7 +216,7 @@ fn fits(wants: &[u8], given: &[Word<'_>]) -> bool {
     }
 }
 
-/// Whether an operand of one token is what a form wants in its place.
+/// Whether an operand of one token fits a form in its place.
 fn fits_word(wants: &[u8], gives: &[u8]) -> bool {
     match wants {
         b"Vx" | b"Vy" => is_register(gives),

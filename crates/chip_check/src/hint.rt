@@ -3,12 +3,12 @@
 use std::alloc::{AllocError, Global};
 use std::fmt::Display;
 
-/// How a line of help begins.
+/// The kind of a line of help, which decides how the line begins.
 #[derive(Clone, Copy)]
 pub(crate) enum HintKind {
-    /// What to write.
+    /// Says what to write; begins with `help:`.
     Help,
-    /// What else is known of the fault.
+    /// Says what else is known about the fault; begins with `note:`.
     Note,
 }
 
@@ -19,7 +19,7 @@ pub(crate) struct Hint {
     pub(crate) sentence: Vec<u8>,
 }
 
-/// Adds a line that says what to write, given in parts.
+/// Adds a line that says what to write. The sentence is given in parts.
 pub(crate) fn push_help(
     alloc: Global,
     hints: &mut Vec<Hint>,
@@ -28,7 +28,7 @@ pub(crate) fn push_help(
     push(alloc, hints, HintKind::Help, parts)
 }
 
-/// Adds a line that says what else is known, given in parts.
+/// Adds a line that says what else is known. The sentence is given in parts.
 pub(crate) fn push_note(
     alloc: Global,
     hints: &mut Vec<Hint>,
@@ -48,7 +48,7 @@ fn push(
     Ok(())
 }
 
-/// Adds a line that says what to write, where there is something to say.
+/// Adds a line that says what to write, if there is a sentence.
 pub(crate) fn push_sentence(
     alloc: Global,
     hints: &mut Vec<Hint>,
@@ -60,7 +60,7 @@ pub(crate) fn push_sentence(
     }
 }
 
-/// Adds a line that says what to write, as it is formatted.
+/// Adds a line that says what to write. The sentence is a formatted value.
 pub(crate) fn push_formatted<S: Display + Drop>(
     alloc: Global,
     hints: &mut Vec<Hint>,

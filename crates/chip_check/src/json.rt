@@ -11,7 +11,7 @@ use crate::hint::{Hint, HintKind};
 use crate::parts::push_all;
 use std::alloc::{AllocError, Global};
 
-/// Adds the object of a finding in the line of a number.
+/// Adds the object of a finding in the line of this number.
 #[tactic(auto, unfolding(crate::specs::Json::object_with))]
 pub(crate) fn push_object(
     alloc: Global,
@@ -36,7 +36,7 @@ pub(crate) fn push_object(
     Ok(())
 }
 
-/// Adds the members of an object up to the message's string: the place, and the code.
+/// Adds the beginning of an object up to the string of its message: the place and the code.
 fn push_place(
     alloc: Global,
     text: &mut Vec<u8>,
@@ -80,7 +80,7 @@ fn push_hint_string(alloc: Global, text: &mut Vec<u8>, hint: &Hint) -> Result<()
     push_quoted(alloc, text, &line)
 }
 
-/// What stands before the sentence of a line of help.
+/// The text before the sentence of a line of help: `note: ` for a note, and nothing otherwise.
 fn hint_prefix(kind: HintKind) -> &'static [u8]
     ensures { result.now ≡ hint_prefix kind }
 {
@@ -90,7 +90,7 @@ fn hint_prefix(kind: HintKind) -> &'static [u8]
     }
 }
 
-/// Adds some bytes as a string: in it each sequence of bytes that is not UTF-8 is U+FFFD.
+/// Adds some bytes as a string in quotes, where U+FFFD replaces each sequence of bytes that is not UTF-8.
 ///
 /// # Errors
 ///
@@ -106,7 +106,7 @@ pub fn push_quoted(alloc: Global, text: &mut Vec<u8>, bytes: &[u8]) -> Result<()
     Ok(())
 }
 
-/// Adds what stands in a string for some bytes.
+/// Adds some bytes as the contents of a string, with escapes.
 fn push_escaped(text: &mut Vec<u8>, bytes: &[u8]) -> Result<(), AllocError>
     ensures { OnOk result (text.new.items ≡ text.old.items ++ flat_map escaped bytes.now) }
 {
@@ -129,7 +129,7 @@ fn push_escaped_byte(text: &mut Vec<u8>, byte: u8) -> Result<(), AllocError>
     }
 }
 
-/// A digit below 16, in lower case.
+/// The hexadecimal digit of a number below 16, in lower case.
 pub(crate) fn hex_digit(digit: u8) -> u8
     requires { digit ≤ 15 }
     ensures { result ≡ hex_digit digit }

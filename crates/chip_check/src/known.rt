@@ -1,4 +1,4 @@
-//! The names of a source that help looks up.
+//! The names of a source that lines of help look up.
 
 ghost use Rattle.std.specs.Prelude.{◌≡◌, ◌++◌, ◌∷◌, [], IfOk, OnOk};
 ghost use Rattle.chip_symbols.specs.Names.{lookup_name, values_of};
@@ -13,7 +13,7 @@ use chip_properties::near::{fewest_edits, most_edits};
 use indexmap::IndexMap;
 use std::alloc::{AllocError, Global};
 
-/// A name on a line with a fault, which gives it no value.
+/// A name that begins a line with a fault, so that the line gives it no value.
 #[derive(Drop)]
 pub(crate) struct Lost {
     name: Vec<u8>,
@@ -26,7 +26,7 @@ pub(crate) struct Skipped {
     name: Vec<u8>,
     /// The number of its line.
     pub(crate) line: usize,
-    /// The number of the line with the END before it, or 0 where an IF leaves the line out.
+    /// The number of the line with the END before it, or 0 if an IF leaves the line out.
     pub(crate) end: usize,
 }
 
@@ -36,18 +36,18 @@ type Symbols = IndexMap<Vec<u8>, Symbol, NameHasher>;
 /// The names of a source.
 #[derive(Drop)]
 pub(crate) struct Known {
-    /// Those with a value, in line order.
+    /// The names with a value, in the order of lines.
     symbols: Symbols,
-    /// Those that begin a line with a fault, in line order.
+    /// The names that begin a line with a fault, in the order of lines.
     lost: Vec<Lost>,
-    /// Those that begin a line that isn't active, in line order.
+    /// The names that begin a line that isn't active, in the order of lines.
     skipped: Vec<Skipped>,
-    /// How many lines with a fault look as others write them.
+    /// The numbers of lines with a fault that look as in Octo, and as in other assemblers.
     tally: Tally,
 }
 
-/// The most pairs of a line with a fault and a name, above which no name is compared with others,
-/// so that help takes little time.
+/// The most pairs of a line with a fault and a name. In a source with more pairs, no name is compared with
+/// others, so that help takes little time.
 const MOST_PAIRS: usize = 100_000;
 
 impl Names for Known {
@@ -81,7 +81,7 @@ impl Known {
         })
     }
 
-    /// The value of a name, given in upper case, and its line.
+    /// The value and the line of a name, which is given in upper case.
     pub(crate) fn find(&self, name: &[u8]) -> Option<Symbol>
         ensures { result ≡ lookup_name (listed self.now.symbols.entries) name.now }
     {
@@ -91,7 +91,7 @@ impl Known {
         }
     }
 
-    /// The number of the line that gives a name, in upper case, a value.
+    /// The number of the line that gives a value to a name, which is given in upper case.
     pub(crate) fn line_of(&self, name: &[u8]) -> Option<usize> {
         match self.find(name) {
             Some(symbol) => Some(symbol.line),
@@ -116,12 +116,12 @@ impl Known {
             .find(|skipped| skipped.name.as_slice() == name)
     }
 
-    /// The note on the whole source that is printed below the fault of a line, if that is the first one.
+    /// The note on the whole source that is printed below the fault of a line, if that fault is the first.
     pub(crate) fn note_on(&self, number: usize) -> Option<&'static str> {
         self.tally.note_on(number)
     }
 
-    /// The name that a word comes nearest to, if one is near.
+    /// The name whose spelling is nearest to a word, if one is near enough.
     pub(crate) fn near_name(&self, word: &[u8]) -> Option<&[u8]> {
         if self.lost.len().saturating_mul(self.symbols.len()) > MOST_PAIRS {
             return None;
@@ -141,7 +141,7 @@ impl Known {
     }
 }
 
-/// Symbols by their names. Of several of one name the first counts.
+/// Symbols by their names. If several symbols have one name, the first one counts.
 fn by_name(alloc: Global, symbols: &[(Bytes, Symbol)]) -> Result<Symbols, AllocError>
     ensures { IfOk result (λ found. Agree (listed found.entries) symbols.now) }
 {
@@ -152,7 +152,7 @@ fn by_name(alloc: Global, symbols: &[(Bytes, Symbol)]) -> Result<Symbols, AllocE
     Ok(found)
 }
 
-/// Adds the symbol of a name, which counts only where the name has none yet.
+/// Adds the symbol of a name, unless the name already has one.
 fn add_last(
     alloc: Global,
     symbols: &mut Symbols,
@@ -171,7 +171,7 @@ fn add_last(
     }
 }
 
-/// The names that begin the lines with a fault, in line order. Each of these lines is counted.
+/// The names that begin lines with a fault, in the order of lines. Counts each of these lines in `tally`.
 fn lost_names(alloc: Global, source: &Source, tally: &mut Tally) -> Result<Vec<Lost>, AllocError> {
     let mut lost = Vec::new(alloc);
     if source.image().is_some() {
@@ -214,7 +214,7 @@ fn front_name<'a>(words: &[Word<'a>]) -> Option<&'a [u8]> {
     }
 }
 
-/// The names that begin the lines that aren't active, in line order.
+/// The names that begin lines that aren't active, in the order of lines.
 fn skipped_names(alloc: Global, source: &Source) -> Result<Vec<Skipped>, AllocError> {
     let mut skipped = Vec::new(alloc);
     if source.image().is_some() {

@@ -1,5 +1,5 @@
-//! The faults of a source, and its warnings, as compilers print them (place, sentence, the line, and
-//! help) and as JSON; the answers to its properties.
+//! The faults and warnings of a source, as compilers print them (place, sentence, the line, and help)
+//! and as JSON, and the answers to its properties.
 #![tactic(auto)]
 
 mod advice;

@@ -1,8 +1,9 @@
-//! Instructions that other machines and assemblers have, and this machine doesn't.
+//! Instructions that other machines and assemblers have and this machine lacks.
 
 use crate::words::is_one_of;
 
-/// What does instead of an instruction, and the words for the instruction elsewhere.
+/// Lines of help that say what to write instead of a missing instruction, each with the words for that
+/// instruction elsewhere.
 const MISSING: &[(&str, &[&str])] = &[
     (
         "nothing scrolls up; SCD, SCR and SCL scroll down, right and left",
@@ -79,7 +80,7 @@ const MISSING: &[(&str, &[&str])] = &[
     ),
 ];
 
-/// What does instead of an instruction that isn't there, by its word in upper case.
+/// The line of help for a missing instruction, whose word is given in upper case; nothing for other words.
 pub(crate) fn missing_word(word: &[u8]) -> Option<&'static str> {
     for (sentence, others) in MISSING {
         if is_one_of(word, *others) {

@@ -1,4 +1,4 @@
-//! What is written here in place of what other languages write on a whole line.
+//! Whole lines that other languages write, and how to write them here.
 
 use crate::forms::is_reserved;
 use crate::hint::{Hint, push_help};
@@ -7,10 +7,10 @@ use chip_lang::Kind;
 use chip_properties::near::is_like_register;
 use std::alloc::{AllocError, Global};
 
-/// Statements that have no meaning here, and what to write. In a statement `v` is a register, `n` a
-/// number or a name, `o` either of them, `h` a text of one hexadecimal digit, `t` any text, and a `*`
-/// at the end anything. In the help `{0}` is the first of these, `{1}` the second; of a digit it is
-/// the value.
+/// Statements that have no meaning here, and what to write instead. In a statement, `v` is a register, `n`
+/// a number or a name, `o` a register, a number or a name, `h` a text of one hexadecimal digit, `t` any
+/// text, and a `*` at the end is anything. In the help, `{0}` is the first word that matched `v`, `n`, `o`
+/// or `h`, and `{1}` the second one; for an `h` the value of the digit is shown.
 const MISTAKES: &[(&str, &str)] = &[
     // values that go through a register
     ("LD v , KEY", "the key wait is written K: LD {0}, K"),
@@ -346,8 +346,8 @@ const MISTAKES: &[(&str, &str)] = &[
     ),
 ];
 
-/// Adds what to write in place of a line of these words, if it is a mistake that is known, and says
-/// whether it is one.
+/// Adds what to write instead of a line of these words, if the line is a known mistake, and returns whether
+/// it is.
 pub(crate) fn push_mistake(
     alloc: Global,
     hints: &mut Vec<Hint>,
@@ -363,7 +363,7 @@ pub(crate) fn push_mistake(
     Ok(false)
 }
 
-/// Whether some words are a statement.
+/// Whether some words match a statement of `MISTAKES`.
 fn is_written(statement: &str, words: &[Word<'_>]) -> bool {
     let mut place = 0usize;
     for wanted in statement.split(' ') {
@@ -378,7 +378,7 @@ fn is_written(statement: &str, words: &[Word<'_>]) -> bool {
     place == words.len()
 }
 
-/// Whether a word is what a statement has in its place.
+/// Whether a word matches a word of a statement of `MISTAKES`.
 fn is_wanted(wanted: &[u8], word: &Word<'_>) -> bool {
     match wanted {
         b"v" => is_register(word.text),
@@ -390,7 +390,7 @@ fn is_wanted(wanted: &[u8], word: &Word<'_>) -> bool {
     }
 }
 
-/// Whether a word is a number, a text or what may be a name.
+/// Whether a word is a number, a text or a possible name.
 fn is_value(word: &Word<'_>) -> bool {
     is_atom(word) && !is_reserved(word.text) && !is_like_register(word.text)
 }
@@ -400,7 +400,7 @@ const VALUES: [&str; 16] = [
     "0", "1", "2", "3", "4", "5", "6", "7", "8", "9", "10", "11", "12", "13", "14", "15",
 ];
 
-/// The value of a text of one hexadecimal digit, in decimal.
+/// The value of a text of one hexadecimal digit, in decimal; nothing for other words.
 fn digit_in(word: &Word<'_>) -> Option<&'static [u8]> {
     let value = match (word.kind, word.text) {
         (Kind::Text, [_, digit @ b'0'..=b'9', _]) => *digit - b'0',
@@ -412,7 +412,7 @@ fn digit_in(word: &Word<'_>) -> Option<&'static [u8]> {
         .map(|written| written.as_bytes())
 }
 
-/// A help with the words of a statement in the places of `{0}` and `{1}`.
+/// The text of a help, with words of the line in place of `{0}` and `{1}`.
 fn filled(
     alloc: Global,
     help: &str,
@@ -436,8 +436,8 @@ fn filled(
     Ok(sentence)
 }
 
-/// What is shown in the place of a statement's `v`, `n`, `o` or `h` that comes after so many others of
-/// them.
+/// The word that is shown for a `v`, `n`, `o` or `h` of a statement, of which `before` others come first;
+/// empty if the statement has fewer.
 fn written_at<'a>(before: usize, statement: &str, words: &[Word<'a>]) -> &'a [u8] {
     let mut left = before;
     for (wanted, word) in statement.split(' ').zip(words) {

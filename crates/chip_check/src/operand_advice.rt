@@ -1,4 +1,4 @@
-//! What may help with operands.
+//! The lines of help for operands.
 
 use crate::forms::{is_heading, is_reserved, push_forms, stands_alone};
 use crate::hint::{Hint, push_formatted, push_help, push_sentence};
@@ -13,8 +13,8 @@ use chip_lang::{Body, Expr, Kind, Line, Operand, Pattern, eval};
 use chip_properties::near::{REGISTERS, is_like_register};
 use std::alloc::{AllocError, Global};
 
-/// Help with operands that fit no form: `words` are those of the line, `rest` those from the place
-/// of the fault on.
+/// Adds help with operands that fit no form. `words` are the words of the line, and `rest` the words from
+/// the place of the fault on.
 pub(crate) fn wrong_operands(
     alloc: Global,
     hints: &mut Vec<Hint>,
@@ -47,7 +47,7 @@ pub(crate) fn wrong_operands(
     }
 }
 
-/// Adds the binary number whose digits a blank splits, where the words at fault begin with its two parts.
+/// Adds the binary number whose digits a blank splits, if the words at fault begin with its two parts.
 fn push_split_binary(
     alloc: Global,
     hints: &mut Vec<Hint>,
@@ -67,19 +67,19 @@ fn push_split_binary(
     }
 }
 
-/// Whether a word has binary digits alone.
+/// Whether a word consists of binary digits.
 fn is_binary(word: &[u8]) -> bool {
     word.iter().all(|byte| matches!(byte, b'0' | b'1'))
 }
 
-/// Whether a word after an instruction or a directive was meant as a name, if it is a reserved one.
+/// Whether a reserved word after an instruction or a directive was meant as a name.
 fn takes_name(heading: &[u8], word: &[u8]) -> bool {
     let is_part = is_register(word) || is_special(word);
     is_one_of(heading, &["IFDEF", "IFUND"])
         || !is_part && !stands_alone(heading) && !is_one_of(heading, &["ALIGN", "DA"])
 }
 
-/// The instruction or the directive of a statement, and the words after it.
+/// The instruction or directive of a statement, and the words of its operands.
 fn parts_of<'a>(statement: &'a [Word<'a>]) -> (&'a [u8], &'a [Word<'a>]) {
     match statement {
         [_, equ, operands @ ..] if is_one_of(equ.text, &["EQU", "="]) => (b"EQU", operands),
@@ -88,7 +88,7 @@ fn parts_of<'a>(statement: &'a [Word<'a>]) -> (&'a [u8], &'a [Word<'a>]) {
     }
 }
 
-/// Help by the forms of an instruction or a directive.
+/// Adds the forms of an instruction or a directive, and for a SUB of a number how to write it with ADD.
 fn forms_help(
     alloc: Global,
     hints: &mut Vec<Hint>,
@@ -107,7 +107,7 @@ fn forms_help(
     }
 }
 
-/// Help with a statement whose first word is at fault.
+/// Adds help with a statement whose first word is at fault.
 fn wrong_front(alloc: Global, hints: &mut Vec<Hint>, rest: &[Word<'_>]) -> Result<(), AllocError> {
     match rest {
         [Word { text: b"EQU", .. }, ..] => push_help(
@@ -145,13 +145,13 @@ fn wrong_front(alloc: Global, hints: &mut Vec<Hint>, rest: &[Word<'_>]) -> Resul
     }
 }
 
-/// Directives whose operands are no expressions.
+/// Directives whose operands are not expressions.
 const WITHOUT_EXPRESSION: &[&str] = &["ALIGN", "DA", "IFDEF", "IFUND", "ELSE", "ENDIF", "END"];
 
 /// Directives that take one expression.
 const OF_ONE_EXPRESSION: &[&str] = &["ORG", "DS", "EQU"];
 
-/// What helps with the operand at fault, which is the first of `rest`.
+/// The help with the operand at fault, which is the first operand in `rest`.
 fn sentence_for(heading: &[u8], words: &[Word<'_>], rest: &[Word<'_>]) -> Option<&'static str> {
     let operand = rest.split(is_comma).next().unwrap_or(rest);
     if has_twice(b"<", words) || has_twice(b">", words) {
@@ -167,7 +167,7 @@ fn sentence_for(heading: &[u8], words: &[Word<'_>], rest: &[Word<'_>]) -> Option
     }
 }
 
-/// What helps with an operand that is missing.
+/// The help with a missing operand.
 fn sentence_for_missing(words: &[Word<'_>], rest: &[Word<'_>]) -> &'static str {
     if !rest.is_empty() {
         return "an operand is missing before this comma";
@@ -187,18 +187,18 @@ fn is_part(operand: &[Word<'_>]) -> bool {
     }
 }
 
-/// Help with an instruction or a directive among operands.
+/// The help with an instruction or a directive among operands.
 const ONE_INSTRUCTION: &str = "a line has one instruction; put the second one on a line of its own";
 
-/// Help with a sign that other assemblers write for the address of the line.
+/// The help with a sign that other assemblers write for the address of the line.
 pub(crate) const NO_HERE: &str =
     "no sign stands for the address of the line: give it a label, as in HALT: JP HALT";
 
-/// Help with a sign or a word that divides with a remainder elsewhere.
+/// The help with a sign or a word that gives the remainder of a division elsewhere.
 pub(crate) const NO_REMAINDER: &str =
     "no sign divides with a remainder; `& 7` gives the remainder by 8";
 
-/// What helps with an operand by the tokens that it begins with.
+/// The help with an operand that the tokens at its beginning call for.
 fn sentence_for_front(heading: &[u8], operand: &[Word<'_>]) -> Option<&'static str> {
     match operand {
         [first, ..] if first.kind == Kind::Text && first.text.len() != 3 => {
@@ -224,7 +224,7 @@ fn sentence_for_front(heading: &[u8], operand: &[Word<'_>]) -> Option<&'static s
     }
 }
 
-/// What helps with tokens that are no expression.
+/// The help with tokens that are not an expression.
 fn sentence_for_expression(operand: &[Word<'_>]) -> Option<&'static str> {
     for word in operand {
         let sentence = sentence_for_word(word.text);
@@ -235,7 +235,7 @@ fn sentence_for_expression(operand: &[Word<'_>]) -> Option<&'static str> {
     sentence_for_parentheses(operand)
 }
 
-/// What helps with a token that has no place in an expression.
+/// The help with a token that no expression can contain.
 fn sentence_for_word(word: &[u8]) -> Option<&'static str> {
     if matches!(word, b"[") {
         Some("memory is reached by `[I]` alone; LD I gives the address")
@@ -250,7 +250,7 @@ fn sentence_for_word(word: &[u8]) -> Option<&'static str> {
     }
 }
 
-/// What helps with parentheses that don't match.
+/// The help with parentheses that don't match.
 fn sentence_for_parentheses(operand: &[Word<'_>]) -> Option<&'static str> {
     let mut open = 0usize;
     for word in operand {
@@ -264,10 +264,10 @@ fn sentence_for_parentheses(operand: &[Word<'_>]) -> Option<&'static str> {
     (open > 0).then_some("each `(` needs its `)`")
 }
 
-/// Help with the `*` that other assemblers write for the address of the next line.
+/// The help with the `*` that other assemblers write for the address of the next line.
 pub(crate) const ORIGIN: &str = "ORG sets the address of the next line, as in ORG #200";
 
-/// The values that stand in an operand's place: from `low` to `high`.
+/// The values that an operand can have: from `low` to `high`, both included.
 #[derive(Clone, Copy)]
 struct Bounds {
     low: i32,
@@ -288,7 +288,7 @@ const WORD: Bounds = Bounds {
 
 const ADDRESS: Bounds = Bounds { low: 0, high: 4095 };
 
-/// The values of a place in a form.
+/// The values that an operand of a form can have.
 fn bounds_of(pattern: Option<&Pattern>) -> Bounds {
     match pattern {
         Some(Pattern::Nibble) => NIBBLE,
@@ -297,7 +297,7 @@ fn bounds_of(pattern: Option<&Pattern>) -> Bounds {
     }
 }
 
-/// Help with the first operand of a line whose value is out of range: what it is, and what it may be.
+/// Adds the value and the range of the first operand of a line whose value is out of range.
 pub(crate) fn out_of_range(
     alloc: Global,
     hints: &mut Vec<Hint>,
@@ -320,7 +320,7 @@ pub(crate) fn out_of_range(
     }
 }
 
-/// The expression of an operand that is one.
+/// The expression of an operand; nothing if the operand is not an expression.
 fn value_of(operand: Option<&Operand>) -> Option<&Expr> {
     match operand {
         Some(Operand::Value(value)) => Some(value),
@@ -328,7 +328,7 @@ fn value_of(operand: Option<&Operand>) -> Option<&Expr> {
     }
 }
 
-/// Adds what the value of an operand is, and what it may be.
+/// Adds the value of an operand and the range that it has to lie in.
 fn push_bounds(
     alloc: Global,
     hints: &mut Vec<Hint>,

@@ -1,13 +1,13 @@
-//! What other assemblers write.
+//! Numbers and words that other assemblers write, and what is written here instead.
 
 use crate::words::{Word, is_one_of};
 use chip_lang::Kind;
 
-/// How a number is written.
+/// A notation for numbers here.
 pub(crate) struct Radix {
-    /// Its name, with an article.
+    /// The name of the notation, with an article.
     pub(crate) name: &'static str,
-    /// The sign before its digits.
+    /// The sign before the digits.
     pub(crate) sign: &'static str,
     digits: &'static [u8],
 }
@@ -31,7 +31,7 @@ const HEXADECIMAL: Radix = Radix {
 };
 
 impl Radix {
-    /// Whether a text is some of its digits, at least one.
+    /// Whether a text is at least one digit, and consists of digits of this notation.
     fn has(&self, text: &[u8]) -> bool {
         for digit in text {
             if !self.digits.contains(digit) {
@@ -42,8 +42,8 @@ impl Radix {
     }
 }
 
-/// How numbers are written elsewhere: what stands before the digits, what after them, and their
-/// radix.
+/// The notations for numbers elsewhere: the text before the digits, the text after them, and the notation
+/// here.
 const NOTATIONS: &[(&str, &str, &Radix)] = &[
     ("0X", "", &HEXADECIMAL),
     ("0O", "", &OCTAL),
@@ -54,8 +54,8 @@ const NOTATIONS: &[(&str, &str, &Radix)] = &[
     ("", "", &HEXADECIMAL),
 ];
 
-/// The number that another assembler would write by the first of some words, in upper case: its
-/// radix and its digits.
+/// The radix and digits of the first of some words, in upper case, if the word is a number in the notation
+/// of another assembler.
 pub(crate) fn other_number<'a>(words: &[Word<'a>]) -> Option<(&'static Radix, &'a [u8])> {
     match words {
         [Word { text: b"%", .. }, digits, ..] => {
@@ -66,12 +66,12 @@ pub(crate) fn other_number<'a>(words: &[Word<'a>]) -> Option<(&'static Radix, &'
     }
 }
 
-/// Whether a word is a number in one of the notations, and no token here.
+/// Whether a word is a number in a notation of another assembler, and not a token here.
 pub(crate) fn is_other_number(word: &Word<'_>) -> bool {
     matches!(word.kind, Kind::Bad(_)) && other_digits(word.text).is_some()
 }
 
-/// The number of a word in one of the notations.
+/// The radix and digits of a word that is a number in one of the notations.
 fn other_digits(word: &[u8]) -> Option<(&'static Radix, &[u8])> {
     for (front, end, radix) in NOTATIONS {
         if let Some(rest) = word.strip_prefix(front.as_bytes()) {
@@ -84,7 +84,7 @@ fn other_digits(word: &[u8]) -> Option<(&'static Radix, &[u8])> {
     None
 }
 
-/// What this assembler calls an instruction or a directive, and what others do.
+/// The words or forms for instructions and directives here, each with the words for it elsewhere.
 const OTHER_WORDS: &[(&str, &[&str])] = &[
     (
         "LD",
@@ -122,7 +122,7 @@ const OTHER_WORDS: &[(&str, &[&str])] = &[
     ("EXIT", &["HALT", "HLT", "STOP"]),
 ];
 
-/// What this assembler calls the instruction or the directive of another one, in upper case.
+/// The word or form here for a word of another assembler, which is given in upper case.
 pub(crate) fn other_word(word: &[u8]) -> Option<&str> {
     for (ours, others) in OTHER_WORDS {
         if is_one_of(word, *others) {

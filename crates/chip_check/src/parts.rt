@@ -1,4 +1,4 @@
-//! A text that is put together from its parts.
+//! Putting a text together from parts.
 
 ghost use Rattle.std.specs.Prelude.{◌≡◌, ◌++◌, OnOk};
 ghost use Rattle.std.specs.List.{flat_map};

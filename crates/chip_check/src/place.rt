@@ -22,8 +22,8 @@ use chip_lang::{
 };
 use std::alloc::{AllocError, Global};
 
-/// Where a fault of a line of these tokens lies: for F9 the first name without a value, for F10 the
-/// first operand whose value is out of range, else what the line's `span_of` says.
+/// The place of a fault in a line of these tokens: for F9 the first name without a value, for F10 the first
+/// operand whose value is out of range, and for other faults the line's `span_of`.
 pub(crate) fn place_in(
     alloc: Global,
     source: &Source,
@@ -47,7 +47,7 @@ pub(crate) fn place_in(
     }
 }
 
-/// The first operand whose value is out of range, or else the span.
+/// The span of the first operand whose value is out of range; `span` if there is none.
 fn out_of_range_place(known: &Known, line: &LineView<'_>, tokens: &[Token], span: Span) -> Span
     requires tokens { tokens.now ≡ tokens_of line.now.text }
     requires rises { span.start ≤ span.end }
@@ -64,7 +64,7 @@ fn out_of_range_place(known: &Known, line: &LineView<'_>, tokens: &[Token], span
     }
 }
 
-/// How many operands of a line stand before the first whose value is out of its place's range.
+/// The index, from 0, of the first operand of a line whose value is out of its place's range.
 pub(crate) fn out_operand(line: &Line, names: &Known) -> usize
     ensures { result
         ≡ out_operand (seen_line line.now) (values_of (listed names.now.symbols.entries)) }
@@ -80,7 +80,7 @@ pub(crate) fn out_operand(line: &Line, names: &Known) -> usize
     }
 }
 
-/// How many values of DB or DW stand before the first that is out of range.
+/// The number of values of DB or DW before the first that is out of range.
 fn first_data_out(limit: u32, values: &[Expr], names: &Known) -> usize
     requires low { 0 < limit }
     requires high { limit ≤ 65536 }
@@ -111,7 +111,7 @@ fn is_datum_out(limit: u32, value: &Expr, names: &Known) -> bool
     }
 }
 
-/// How many operands stand before the first whose value is out of its place's range.
+/// The number of operands before the first whose value is out of its place's range.
 fn first_out(patterns: &[Pattern], operands: &[Operand], names: &Known) -> usize
     ensures value { result ≡ first_out patterns.now (map operand_of operands.now)
         (values_of (listed names.now.symbols.entries)) }
@@ -207,7 +207,7 @@ fn is_comma(token: Token) -> bool
     }
 }
 
-/// The first name without a value from the start of a span on, or else the span.
+/// The span of the first name without a value, from the start of `span` on; `span` if there is none.
 fn undefined_place(
     alloc: Global,
     source: &Source,
@@ -245,7 +245,7 @@ fn last_seen(number: usize, count: usize, line: &Line) -> usize
     }
 }
 
-/// The first name from a place on that no line up to the last one seen gives a value.
+/// The span of the first name, from a place on, that no line up to the line `last` gives a value.
 fn first_unknown(
     alloc: Global,
     known: &Known,

@@ -1,4 +1,4 @@
-//! The two ways to print what is found in a source.
+//! The two ways to print the findings in a source.
 
 ghost use Rattle.std.specs.Prelude.{◌≡◌, ◌≤◌, ◌++◌, OnOk, length};
 ghost use Rattle.chip_check.specs.inner.Printing.{print_in};
@@ -8,23 +8,23 @@ use crate::json::push_object;
 use crate::report::push_report;
 use std::alloc::{AllocError, Global};
 
-/// How what is found is printed.
+/// A way to print findings.
 #[derive(Clone, Copy)]
 pub(crate) enum Form {
-    /// With the line and marks below it, in colours or without.
+    /// As text, with the line and marks below it; in colours if `is_painted` is true.
     Text { is_painted: bool },
-    /// As an object on a line of its own.
+    /// As a JSON object on a line of its own.
     Json,
 }
 
-/// How what is found is printed, and the name of the file that it is found in.
+/// A way to print findings, and the name of the file that they are found in.
 #[derive(Clone, Copy)]
 pub(crate) struct Style<'a> {
     pub(crate) form: Form,
     pub(crate) name: &'a [u8],
 }
 
-/// Adds what is printed of a finding, which lies in this line of a number.
+/// Adds a finding as it is printed. The finding lies in the line with this text and number.
 pub(crate) fn push_finding(
     alloc: Global,
     text: &mut Vec<u8>,

@@ -1,4 +1,4 @@
-//! What is printed of a property that can't be read.
+//! Printing the fault of a property that can't be read.
 
 ghost use Rattle.std.specs.Prelude.{◌≤◌, IfOk, length};
 
@@ -9,9 +9,9 @@ use chip_lang::Span;
 use chip_properties::PropertyFault;
 use std::alloc::{AllocError, Global};
 
-/// Adds what `check` prints of a property of this line that can't be read, in a file of this name:
-/// text, or a JSON object. A property that stands in no line has the number 1, and a place past the
-/// line's end is there.
+/// Adds the fault of a property that can't be read, as `check` prints it: as text, or as a JSON object. The
+/// property lies in this line of a file of this name. A property outside a file has the line number 1. A
+/// place past the line's end is moved to that end.
 ///
 /// # Errors
 ///
@@ -35,7 +35,7 @@ pub fn push_property_fault(
 }
 
 impl Finding {
-    /// The fault of a property that can't be read, with its place and the help.
+    /// The finding for a property that can't be read, with its place and help.
     fn of_property(alloc: Global, line: &[u8], fault: &PropertyFault) -> Result<Finding, AllocError>
         ensures rises { IfOk result (λ finding. finding.span.start ≤ finding.span.end) }
         ensures inside { IfOk result (λ finding. finding.span.end ≤ length line.now) }

@@ -1,4 +1,4 @@
-//! The line of a finding as it is quoted: what a terminal may take for something else is escaped.
+//! Quoting the line of a finding: bytes that a terminal may misread are escaped.
 
 ghost use Rattle.std.specs.Prelude.{◌≡◌, ◌≤◌, ◌++◌, IfOk, OnOk, length, map};
 ghost use Rattle.std.specs.List.{flat_map};
@@ -12,14 +12,14 @@ use std::str;
 /// A byte of a line, as it is shown.
 #[derive(Clone, Copy)]
 pub(crate) enum ShownByte {
-    /// As it stands.
+    /// The byte itself.
     Plain(u8),
-    /// As `\x` and two digits.
+    /// An escape: `\x` and two hexadecimal digits.
     Escaped(u8),
 }
 
-/// Adds bytes as `check` quotes a line: a control byte but the tab, and a byte that is not part of
-/// UTF-8, as `\x` and two digits.
+/// Adds bytes as `check` quotes a line. Control bytes except the tab, and bytes that are not part of UTF-8,
+/// appear as `\x` and two hexadecimal digits.
 ///
 /// # Errors
 ///
@@ -32,8 +32,8 @@ pub fn push_as_shown(alloc: Global, text: &mut Vec<u8>, bytes: &[u8]) -> Result<
     push_shown(text, &shown)
 }
 
-/// What is shown of each byte of a line: control bytes but the tab are escaped, and bytes that are
-/// not part of UTF-8.
+/// The bytes of a line as they are shown. Control bytes except the tab, and bytes that are not part of
+/// UTF-8, are escaped.
 pub(crate) fn shown_bytes(alloc: Global, line: &[u8]) -> Result<Vec<ShownByte>, AllocError>
     ensures bytes { IfOk result (λ shown. shown.items ≡ shown_bytes line.now) }
     ensures length { IfOk result (λ shown. length shown.items ≡ length line.now) }
@@ -49,7 +49,7 @@ pub(crate) fn shown_bytes(alloc: Global, line: &[u8]) -> Result<Vec<ShownByte>, 
     Ok(shown)
 }
 
-/// How long the longest front of some bytes is that is UTF-8.
+/// The length of the longest prefix of some bytes that is valid UTF-8.
 fn text_length(bytes: &[u8]) -> usize
     ensures value { result ≡ utf8_valid_len bytes.now }
     ensures bound { result ≤ length bytes.now }
@@ -80,7 +80,7 @@ fn shown_byte(is_text: bool, byte: u8) -> ShownByte
     }
 }
 
-/// Whether a byte is a control byte, and not the tab.
+/// Whether a byte is a control byte other than the tab.
 fn is_control(byte: u8) -> bool
     ensures { result ≡ is_control byte }
 {

@@ -1,5 +1,5 @@
-//! A finding as compilers print it: place, sentence, line and marks, and lines of help, in colours or
-//! without.
+//! A finding as compilers print it: place, sentence, line and marks, and lines of help, with or without
+//! colours.
 
 ghost use Rattle.std.specs.Prelude.{◌≡◌, ◌≤◌, ◌+◌, ◌-◌, ◌++◌, OnOk, length};
 ghost use Rattle.std.specs.List.{flat_map, position_or_len};
@@ -18,7 +18,7 @@ use std::alloc::{AllocError, Global};
 /// The style of marks: bold and blue.
 const MARK_STYLE: &[u8] = b"1;34";
 
-/// Adds the report of a finding, which lies in this line of a number.
+/// Adds the report of a finding, which lies in the line with this text and number.
 #[tactic(auto, unfolding(crate::specs::Check::report))]
 pub(crate) fn push_report(
     alloc: Global,
@@ -43,7 +43,7 @@ pub(crate) fn push_report(
     push_hints(text, is_painted, &finding.hints)
 }
 
-/// Adds the report of a finding in the line of a number, without the line and the marks below it.
+/// Adds the report of a finding in the line of this number, without the line and the marks below it.
 pub(crate) fn push_unquoted(
     alloc: Global,
     text: &mut Vec<u8>,
@@ -102,7 +102,7 @@ fn push_marks(
     text.extend_from_slice(b"\n")
 }
 
-/// Adds what stands below some bytes.
+/// Adds the blanks below some bytes, which come before the mark.
 fn push_blanks(text: &mut Vec<u8>, shown: &[ShownByte]) -> Result<(), AllocError>
     ensures { OnOk result (text.new.items ≡ text.old.items ++ flat_map blank_of shown.now) }
 {
@@ -112,7 +112,8 @@ fn push_blanks(text: &mut Vec<u8>, shown: &[ShownByte]) -> Result<(), AllocError
     Ok(())
 }
 
-/// What stands below a byte before the place.
+/// The blanks below a byte before the place: a tab below a tab, none below a further byte of a character
+/// in UTF-8, and four below an escape.
 fn blank_of(shown: ShownByte) -> &'static [u8]
     ensures { result.now ≡ blank_of shown }
 {
@@ -136,7 +137,7 @@ fn push_mark(text: &mut Vec<u8>, shown: &[ShownByte]) -> Result<(), AllocError>
     push_tildes(text, others)
 }
 
-/// Adds what stands below the bytes of a place.
+/// Adds the tildes below the bytes of a place.
 fn push_tildes(text: &mut Vec<u8>, shown: &[ShownByte]) -> Result<(), AllocError>
     ensures { OnOk result (text.new.items ≡ text.old.items ++ flat_map tildes_of shown.now) }
 {
@@ -146,7 +147,7 @@ fn push_tildes(text: &mut Vec<u8>, shown: &[ShownByte]) -> Result<(), AllocError
     Ok(())
 }
 
-/// What stands below a byte of the place.
+/// The tildes below a byte of the place: four below an escape, and one below another byte.
 fn tildes_of(shown: ShownByte) -> &'static [u8]
     ensures { result.now ≡ tildes_of shown }
 {
@@ -167,7 +168,7 @@ fn push_hints(text: &mut Vec<u8>, is_painted: bool, hints: &[Hint]) -> Result<()
     Ok(())
 }
 
-/// Adds a line of help. A newline in its sentence would end it.
+/// Adds a line of help, with its sentence up to the first newline.
 fn push_hint(text: &mut Vec<u8>, is_painted: bool, hint: &Hint) -> Result<(), AllocError>
     ensures { OnOk result (text.new.items ≡ text.old.items ++ hint_line is_painted hint.now) }
 {
@@ -181,7 +182,7 @@ fn push_hint(text: &mut Vec<u8>, is_painted: bool, hint: &Hint) -> Result<(), Al
     push_all(text, &[b" ", sentence, b"\n"])
 }
 
-/// How many bytes stand before the first newline, or how many there are.
+/// The number of bytes before the first newline, or of all bytes if there is no newline.
 fn line_length(bytes: &[u8]) -> usize
     ensures length { result ≡ position_or_len is_newline bytes.now }
     ensures bound { result ≤ length bytes.now }
@@ -192,7 +193,7 @@ fn line_length(bytes: &[u8]) -> usize
     }
 }
 
-/// How a line of help begins.
+/// The word that a line of help begins with: `help:` or `note:`.
 fn beginning(kind: HintKind) -> &'static [u8]
     ensures { result.now ≡ beginning kind }
 {
@@ -212,7 +213,7 @@ fn hint_style(kind: HintKind) -> &'static [u8]
     }
 }
 
-/// The style of a code: bold and red, or yellow for a warning's.
+/// The style of a code: bold and red, or bold and yellow for a warning.
 fn code_style(code: &[u8]) -> &'static [u8]
     ensures { result.now ≡ code_style code.now }
 {
@@ -237,7 +238,7 @@ fn push_painted(
     push_closing(text, is_painted)
 }
 
-/// Begins a style, where the text is painted.
+/// Adds the beginning of a style, if the text is painted.
 fn push_opening(text: &mut Vec<u8>, is_painted: bool, style: &[u8]) -> Result<(), AllocError>
     ensures { OnOk result (text.new.items ≡ text.old.items ++ opening is_painted style.now) }
 {
@@ -247,7 +248,7 @@ fn push_opening(text: &mut Vec<u8>, is_painted: bool, style: &[u8]) -> Result<()
     push_all(text, &[b"\x1b[", style, b"m"])
 }
 
-/// Ends it.
+/// Adds the end of a style, if the text is painted.
 fn push_closing(text: &mut Vec<u8>, is_painted: bool) -> Result<(), AllocError>
     ensures { OnOk result (text.new.items ≡ text.old.items ++ closing is_painted) }
 {

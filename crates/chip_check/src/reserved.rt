@@ -1,10 +1,10 @@
-//! What reserved words do.
+//! The meanings of reserved words.
 
 use crate::hint::{Hint, push_help};
 use crate::words::is_register;
 use std::alloc::{AllocError, Global};
 
-/// A reserved word, what it does, and a name to choose instead.
+/// Reserved words, each with what it does and a name to choose instead.
 const MEANINGS: &[(&str, &str, &str)] = &[
     ("I", "is the address register", "INDEX"),
     ("DT", "is the delay timer", "DELAY"),
@@ -72,7 +72,7 @@ const MEANINGS: &[(&str, &str, &str)] = &[
     ("UNDEF", "is a directive of other assemblers", "UNDEFINED"),
 ];
 
-/// Adds what a word does, where it is reserved, and another name; says whether it is.
+/// Adds what a word does and a name to choose instead, if the word is reserved; returns whether it is.
 pub(crate) fn push_meaning(
     alloc: Global,
     hints: &mut Vec<Hint>,

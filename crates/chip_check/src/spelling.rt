@@ -1,8 +1,8 @@
-//! Names that are not spelled as names are.
+//! Names with a byte that no name can have.
 
 ghost use Rattle.std.specs.Prelude.{◌≤◌, length};
 
-/// A byte in the name with which a line begins that no name has, where the line defines it by `:`, `=`
+/// The first byte that no name can have, in the name at the beginning of a line that defines it by `:`, `=`
 /// or EQU.
 pub(crate) fn wrong_byte(line: &[u8]) -> Option<u8> {
     let line = line.trim_ascii_start();
@@ -19,7 +19,7 @@ pub(crate) fn wrong_byte(line: &[u8]) -> Option<u8> {
     }
 }
 
-/// How many bytes of a line stand before the first that ends a name even where it is misspelled.
+/// The number of bytes of a line before the first byte that ends even a misspelled name.
 fn name_end(line: &[u8]) -> usize
     ensures { result ≤ length line.now }
 {
@@ -31,7 +31,7 @@ fn name_end(line: &[u8]) -> usize
     line.len()
 }
 
-/// The first byte of a name in ASCII that is no letter, no digit and no `_`.
+/// The first byte of a name in ASCII that is not a letter, a digit or `_`.
 fn first_wrong(name: &[u8]) -> Option<u8> {
     for byte in name {
         if !is_name_byte(byte) && byte.is_ascii() {

@@ -6,13 +6,13 @@ use std::alloc::{AllocError, Global};
 /// A token of a line.
 #[derive(Clone, Copy)]
 pub(crate) struct Word<'a> {
-    /// What it is.
+    /// The kind of the token.
     pub(crate) kind: Kind,
-    /// Its bytes, in upper case.
+    /// The bytes of the token, in upper case.
     pub(crate) text: &'a [u8],
 }
 
-/// Some tokens of a line, which is given in upper case.
+/// The words for some tokens of a line, which is given in upper case.
 pub(crate) fn words_of<'a>(
     alloc: Global,
     upper: &'a [u8],
@@ -48,7 +48,7 @@ pub(crate) fn is_atom(word: &Word<'_>) -> bool {
     matches!(word.kind, Kind::Word | Kind::Number(_) | Kind::Text)
 }
 
-/// Whether a sign stands twice, one directly after the other.
+/// Whether a sign appears twice in a row.
 pub(crate) fn has_twice(sign: &[u8], words: &[Word<'_>]) -> bool {
     words
         .windows(2)
