@@ -132,7 +132,9 @@ fn push_line_advice(
         Fault::PastMemory => push_formatted(
             alloc,
             hints,
-            format_args!("code and data have {IMAGE_BYTES} bytes, from address {IMAGE_START} on"),
+            format_args!(
+                "code and data have at most {IMAGE_BYTES} bytes, from address {IMAGE_START} on"
+            ),
         ),
         other => push_sentence(alloc, hints, sentence_for(other)),
     }
@@ -142,9 +144,11 @@ fn push_line_advice(
 fn sentence_for(fault: Fault) -> Option<&'static str> {
     match fault {
         Fault::UnfinishedString => Some("a text ends with the quote that it begins with"),
-        Fault::NumberTooLarge => Some("a word holds 65535 at most, and a byte 255"),
+        Fault::NumberTooLarge => Some("a word is at most 65535, and a byte at most 255"),
         Fault::DivisionByZero => Some("the value after `/` is 0 here"),
-        Fault::OrgBelowHere => Some("ORG only goes forward, past the lines before it"),
+        Fault::OrgBelowHere => Some(
+            "ORG only goes forward; choose a value at or above the address of this line",
+        ),
         Fault::StrayBranch => Some("no IFDEF or IFUND is open here, or it has an ELSE already"),
         Fault::UnclosedIf => Some("write ENDIF after the last line that belongs to it"),
         _ => None,
@@ -195,7 +199,7 @@ fn sentence_for_statement(text: &[u8], first: &[u8]) -> Option<&'static str> {
         (
             b"JP" | b"CALL",
             [b'0'..=b'9', b'b' | b'f'] | [b'0'..=b'9', b'b' | b'f', b' ' | b';', ..],
-        ) => { Some("no label is a number; a label has a name, as in LOOP: and JP LOOP") }
+        ) => { Some("a label is a name and not a number, as in LOOP: and JP LOOP") }
         _ => None,
     }
 }
@@ -207,7 +211,7 @@ fn sentence_for_file(line: &[u8]) -> Option<&'static str> {
     }
     for byte in line {
         if *byte < 9 {
-            return Some("this isn't text; `chipbench dis` shows an image as a source");
+            return Some("this file isn't text; `chipbench dis` shows an image as a source");
         }
     }
     None
@@ -228,25 +232,27 @@ fn sentence_for_character(text: &[u8], rest: &[Word<'_>]) -> Option<&'static str
         ([b'#', ..], _) if begins_with(text, b"#define") => {
             Some("EQU names a value, as in SIZE EQU 5; a comment begins with `;`")
         }
-        ([b'#', ..], _) if begins_with(text, b"#include") => Some("a source is one file"),
+        ([b'#', ..], _) if begins_with(text, b"#include") => Some(
+            "a source is one file; copy the lines of the other file into it",
+        ),
         ([b'#', ..], _) => {
             Some("`#` begins a hexadecimal number, as in `#1F`; a comment begins with `;`")
         }
         ([b'.'] | [b'.', b' ' | b',' | b';', ..], _) => Some(NO_HERE),
         ([b'$'] | [b'$', b' ' | b',' | b';', ..], _) => Some(
-            "`$` begins a binary number, as in `$101`; for the address of this line give it a label, as in HALT: JP HALT",
+            "`$` begins a binary number, as in `$101`; to use the address of this line, give the line a label, as in HALT: JP HALT",
         ),
         ([b'$', ..], _) => Some("`$` begins a binary number, as in `$101`"),
         ([b'@', b'A'..=b'Z' | b'a'..=b'z' | b'_', ..], _) => {
-            Some("no `@` stands before a label; it begins an octal number, as in `@17`")
+            Some("write the label without `@`, which begins an octal number, as in `@17`")
         }
         ([b'@', ..], _) => Some("`@` begins an octal number, as in `@17`"),
         ([b'%', b'0'..=b'9', ..], _) => Some("a binary number begins with `$`, as in `$101`"),
-        ([b'%', b'A'..=b'Z' | b'a'..=b'z', ..], _) => Some("there are no macros"),
+        ([b'%', b'A'..=b'Z' | b'a'..=b'z', ..], _) => Some("this assembler has no macros"),
         ([b'%', ..], _) => Some(NO_REMAINDER),
         ([b'!', ..], _) => missing_word(b"CMP"),
         ([b'.', ..], [_, word, ..]) if word.kind == Kind::Word => {
-            Some("no full stop stands before a directive or a label")
+            Some("write the directive or the label without the full stop")
         }
         ([b'.', b'.', b'V' | b'v', ..], _) => {
             Some("LD V2, [I] loads V0 to V2, and LD [I], V2 stores them")
@@ -254,13 +260,15 @@ fn sentence_for_character(text: &[u8], rest: &[Word<'_>]) -> Option<&'static str
         ([b'.', b'.' | b'1', ..], _) => {
             Some("a binary number begins with `$`, and a full stop in it is a 0: $..11....")
         }
-        ([b'.', ..], _) => Some("a number is whole"),
+        ([b'.', ..], _) => Some("a number is whole, without a fraction"),
         ([b'0'..=b'9', ..], _) => {
-            Some("a name begins with a letter or `_`, and a number has digits alone")
+            Some("a name begins with a letter or `_`, and a number has only digits")
         }
-        ([b'{' | b'}', ..], _) => Some("there are no blocks in braces; a label and JP make a loop"),
+        ([b'{' | b'}', ..], _) => Some(
+            "this assembler has no blocks in braces; write a loop as a label and a JP back to it",
+        ),
         ([128..=255, ..], _) => {
-            Some("outside texts and comments a source has ASCII characters alone")
+            Some("only texts and comments can contain characters outside ASCII")
         }
         _ => None,
     }
@@ -269,7 +277,7 @@ fn sentence_for_character(text: &[u8], rest: &[Word<'_>]) -> Option<&'static str
 /// Adds help with a byte that a name can't have, in the name that a line defines.
 fn push_wrong_byte(alloc: Global, hints: &mut Vec<Hint>, byte: u8) -> Result<(), AllocError> {
     let parts: &[&[u8]] = &[
-        b"a name has letters, digits and `_`, and no `",
+        b"a name consists of letters, digits and `_`, and can't contain `",
         &[byte],
         b"`",
     ];
@@ -370,7 +378,7 @@ fn unknown_word(
                 alloc,
                 hints,
                 &[
-                    b"a name has no blank: ",
+                    b"a name can't contain a blank: ",
                     first.text,
                     b"_",
                     second.text,
@@ -394,7 +402,7 @@ fn push_example<'a>(
         [_, second, ..] if is_register(second.text) => second.text,
         _ => b"V0",
     };
-    let front = b"an instruction stands first, as in LD ".as_slice();
+    let front = b"begin with an instruction, as in LD ".as_slice();
     if word == b"K".as_slice() {
         push_help(alloc, hints, &[front, register, b", K"])
     } else if is_register(word) || word == b"I".as_slice() {
@@ -540,7 +548,7 @@ fn undefined_name(
             name,
             " is defined on line ",
             line,
-            "; ORG, DS and EQU see earlier lines",
+            "; ORG, DS and EQU only see earlier lines",
         ),
         (_, Some(line)) if line != faulty.line.number() => push_line_note(
             alloc,
@@ -569,7 +577,7 @@ fn push_skipped_note(
         0 => format!(in alloc;
             " is on line {line}, which isn't active: an IF above leaves it out"
         )?,
-        _ => format!(in alloc; " is on line {line}, behind the END on line {end}")?,
+        _ => format!(in alloc; " is on line {line}, after the END on line {end}")?,
     };
     push_note(alloc, hints, &[name, why.as_bytes()])
 }
@@ -624,7 +632,7 @@ fn not_in_profile(
         push_help(
             alloc,
             hints,
-            &[b"a source is one file; copy the other one's lines into it"],
+            &[b"a source is one file; copy the lines of the other file into it"],
         )
     } else {
         push_forms(alloc, hints, word.text, more)

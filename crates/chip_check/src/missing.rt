@@ -6,25 +6,25 @@ use crate::words::is_one_of;
 /// instruction elsewhere.
 const MISSING: &[(&str, &[&str])] = &[
     (
-        "nothing scrolls up; SCD, SCR and SCL scroll down, right and left",
+        "no instruction scrolls up; SCD, SCR and SCL scroll down, right and left",
         &["SCU", "SCUP"],
     ),
     (
-        "a jump on a condition is two lines: SE or SNE, and the JP that it may skip",
+        "write a jump on a condition as two lines: SE or SNE, and the JP that it may skip",
         &[
             "JZ", "JNZ", "JE", "JNE", "JEQ", "JC", "JNC", "BEQ", "BNE", "BZ", "BNZ", "BEQZ",
             "BNEZ", "BCC", "BCS", "BMI", "BPL", "DJNZ",
         ],
     ),
     (
-        "no instruction asks which value is less: SUB V0, V1, then SNE VF, 0 skips the JP below it unless V0 was less than V1; with SUBN, unless it was greater",
+        "no instruction tells which value is less; write SUB V0, V1, then SNE VF, 0, which skips the JP below it unless V0 was less than V1 (with SUBN, unless V0 was greater)",
         &[
             "JG", "JL", "JGE", "JLE", "JGT", "JLT", "JA", "JB", "JAE", "JBE", "BGT", "BLT", "BGE",
             "BLE", "BHI", "BHS", "BLO", "BLS", "BGTU", "BLTU", "BGEU", "BLEU",
         ],
     ),
     (
-        "no instruction asks which value is less: SUB V0, V1, then SE VF, 0 skips the next line if V0 was less than V1; with SUBN, if it was greater",
+        "no instruction tells which value is less; write SUB V0, V1, then SE VF, 0, which skips the next line if V0 was less than V1 (with SUBN, if V0 was greater)",
         &[
             "SGT", "SLT", "SGE", "SLE", "SGTU", "SLTU", "SLTI", "SKGT", "SKLT", "SKGE", "SKLE",
         ],
@@ -38,28 +38,28 @@ const MISSING: &[(&str, &[&str])] = &[
         &["MUL", "MULT", "IMUL", "DIV", "IDIV", "MOD"],
     ),
     (
-        "there is no stack for data, only for CALL and RET; LD [I], Vx keeps V0 to Vx in memory",
+        "the machine has no stack for data, only for CALL and RET; LD [I], Vx keeps V0 to Vx in memory",
         &["PUSH", "POP", "PHA", "PLA"],
     ),
     (
-        "a loop is a label, and a JP back to it",
+        "write a loop as a label and a JP back to it",
         &["LOOP", "AGAIN", "WHILE", "REPEAT", "UNTIL", "FOR"],
     ),
     (
-        "no instruction loads or stores at an address of its own: LD I gives the address, LD [I], V0 stores V0 there, and LD V0, [I] loads it",
+        "no load or store takes an address; LD I sets the address, LD [I], V0 stores V0 there, and LD V0, [I] loads it",
         &["STA", "STX", "STY", "LDA", "LDX", "LDY"],
     ),
     (
-        "the sprites of digits are in the machine: LD F, Vx points I to that of the digit in Vx",
+        "the machine has sprites of the digits: LD F, Vx points I to the sprite of the digit in Vx",
         &["FONT"],
     ),
     (
-        "LD Vx, K waits for a key; SKP Vx and SKNP Vx ask whether the key in Vx is down",
+        "LD Vx, K waits for a key; SKP Vx and SKNP Vx test whether the key in Vx is down",
         &["KEY", "KEYS", "INPUT"],
     ),
-    ("there are no macros", &["MACRO", "ENDM"]),
+    ("this assembler has no macros", &["MACRO", "ENDM"]),
     (
-        "no directive repeats lines; write them out, or make a loop of a label and a JP back to it",
+        "no directive repeats lines; write them out, or write a loop as a label and a JP back to it",
         &["REPT", "ENDR", "ENDREPT", "DUP", "EDUP", "TIMES"],
     ),
     (
@@ -75,7 +75,7 @@ const MISSING: &[(&str, &[&str])] = &[
         &["ROL", "ROR", "RLC", "RRC", "RL", "RR"],
     ),
     (
-        "no instruction is without effect; LD V0, V0 changes nothing",
+        "the machine has no NOP; LD V0, V0 changes nothing",
         &["NOP"],
     ),
 ];

@@ -29,11 +29,11 @@ const MISTAKES: &[(&str, &str)] = &[
     ),
     (
         "LD F , t",
-        "the machine has sprites of the digits 0 to F alone; draw other letters in the source, in DB lines as in examples/breaker.asm",
+        "the machine only has sprites of the digits 0 to F; draw other letters in the source, in DB lines as in examples/breaker.asm",
     ),
     (
         "LD HF , t",
-        "the machine has large sprites of the digits 0 to 9 alone: LD V0, 5, then LD HF, V0",
+        "the machine only has large sprites of the digits 0 to 9: LD V0, 5, then LD HF, V0",
     ),
     (
         "LD F , n",
@@ -174,10 +174,13 @@ const MISTAKES: &[(&str, &str)] = &[
     ),
     (
         "LD I , n + v",
-        "a register is added by ADD: LD I, {0}, then ADD I, {1}",
+        "ADD adds a register to I: LD I, {0}, then ADD I, {1}",
     ),
-    ("JP n + V0", "V0 stands before the address: JP V0, {0}"),
-    ("JP n + v", "JP adds V0 alone: LD V0, {1}, then JP V0, {0}"),
+    ("JP n + V0", "write V0 before the address: JP V0, {0}"),
+    (
+        "JP n + v",
+        "JP can only add V0: LD V0, {1}, then JP V0, {0}",
+    ),
     (
         "CALL n ( *",
         "CALL takes no arguments; put them into registers first, then CALL {0}",
@@ -224,7 +227,7 @@ const MISTAKES: &[(&str, &str)] = &[
     ("SCROLL - LEFT", "scroll-left is written SCL here"),
     (
         "SCROLL - *",
-        "the screen scrolls by SCD, SCR and SCL: down, right and left",
+        "SCD, SCR and SCL scroll the screen down, right and left",
     ),
     ("SAVE v", "SAVE is written LD here: LD [I], {0}"),
     ("LOAD v", "LOAD is written LD here: LD {0}, [I]"),
@@ -297,52 +300,43 @@ const MISTAKES: &[(&str, &str)] = &[
     ),
     (
         "n : = v",
-        "a name has no register as its value; write {1} itself",
+        "a name can't stand for a register; write {1} itself",
     ),
     (
         "n = v",
-        "a name has no register as its value; write {1} itself",
+        "a name can't stand for a register; write {1} itself",
     ),
     (
         "n EQU v",
-        "a name has no register as its value; write {1} itself",
+        "a name can't stand for a register; write {1} itself",
     ),
-    ("v + = o", "an instruction stands first, as in ADD {0}, {1}"),
-    ("v + +", "an instruction stands first, as in ADD {0}, 1"),
-    ("v - = v", "an instruction stands first, as in SUB {0}, {1}"),
-    (
-        "v - = n",
-        "an instruction stands first, as in ADD {0}, -{1}",
-    ),
-    ("v - -", "an instruction stands first, as in ADD {0}, -1"),
-    ("v | = v", "an instruction stands first, as in OR {0}, {1}"),
-    ("v & = v", "an instruction stands first, as in AND {0}, {1}"),
-    ("v ^ = v", "an instruction stands first, as in XOR {0}, {1}"),
-    (
-        "v > > = v",
-        "an instruction stands first, as in SHR {0}, {1}",
-    ),
-    (
-        "v < < = v",
-        "an instruction stands first, as in SHL {0}, {1}",
-    ),
-    ("I + = v", "an instruction stands first, as in ADD I, {0}"),
+    ("v + = o", "begin with an instruction, as in ADD {0}, {1}"),
+    ("v + +", "begin with an instruction, as in ADD {0}, 1"),
+    ("v - = v", "begin with an instruction, as in SUB {0}, {1}"),
+    ("v - = n", "begin with an instruction, as in ADD {0}, -{1}"),
+    ("v - -", "begin with an instruction, as in ADD {0}, -1"),
+    ("v | = v", "begin with an instruction, as in OR {0}, {1}"),
+    ("v & = v", "begin with an instruction, as in AND {0}, {1}"),
+    ("v ^ = v", "begin with an instruction, as in XOR {0}, {1}"),
+    ("v > > = v", "begin with an instruction, as in SHR {0}, {1}"),
+    ("v < < = v", "begin with an instruction, as in SHL {0}, {1}"),
+    ("I + = v", "begin with an instruction, as in ADD I, {0}"),
     // colons
     (
         ": ALIAS *",
-        "a register has no other name; write the register itself",
+        "a register can't have another name; write the register itself",
     ),
     (": CONST n n", "EQU gives a name a value, as in {0} EQU {1}"),
     (": CALC n *", "EQU gives a name a value, as in {0} EQU 5"),
     (": BYTE *", "BYTE is written DB here"),
     (
         ": MACRO *",
-        "there are no macros; CALL runs a subroutine, which ends with RET",
+        "this assembler has no macros; CALL runs a subroutine, which ends with RET",
     ),
-    (": ORG *", "no colon stands before ORG"),
+    (": ORG *", "write ORG without a colon"),
     (
         ": n *",
-        "a colon stands after a label and not before it: {0}:",
+        "write the colon after the label and not before it: {0}:",
     ),
 ];
 

@@ -58,7 +58,7 @@ fn push_split_binary(
             alloc,
             hints,
             &[
-                b"or the blank splits one binary number: ",
+                b"or, if this is one binary number, remove the blank: ",
                 front.text,
                 end.text,
             ],
@@ -113,7 +113,7 @@ fn wrong_front(alloc: Global, hints: &mut Vec<Hint>, rest: &[Word<'_>]) -> Resul
         [Word { text: b"EQU", .. }, ..] => push_help(
             alloc,
             hints,
-            &[b"a name stands before EQU, as in SIZE EQU 5"],
+            &[b"write a name before EQU, as in SIZE EQU 5"],
         ),
         [Word { text: b"*", .. }, Word { text: b"=", .. }, ..] => push_help(
             alloc,
@@ -124,7 +124,7 @@ fn wrong_front(alloc: Global, hints: &mut Vec<Hint>, rest: &[Word<'_>]) -> Resul
             push_help(
                 alloc,
                 hints,
-                &[b"a colon stands after a label and not before it"],
+                &[b"write the colon after the label and not before it"],
             )
         }
         [first, ..] if first.kind == Kind::Word => push_help(
@@ -192,11 +192,11 @@ const ONE_INSTRUCTION: &str = "a line has one instruction; put the second one on
 
 /// The help with a sign that other assemblers write for the address of the line.
 pub(crate) const NO_HERE: &str =
-    "no sign stands for the address of the line: give it a label, as in HALT: JP HALT";
+    "no sign means the address of the line; give the line a label, as in HALT: JP HALT";
 
 /// The help with a sign or a word that gives the remainder of a division elsewhere.
 pub(crate) const NO_REMAINDER: &str =
-    "no sign divides with a remainder; `& 7` gives the remainder by 8";
+    "no operator gives the remainder of a division; `& 7` gives the remainder of a division by 8";
 
 /// The help with an operand that the tokens at its beginning call for.
 fn sentence_for_front(heading: &[u8], operand: &[Word<'_>]) -> Option<&'static str> {
@@ -205,7 +205,7 @@ fn sentence_for_front(heading: &[u8], operand: &[Word<'_>]) -> Option<&'static s
             Some("`DA` takes one text of any length; elsewhere a text has one byte")
         }
         [_, Word { text: b":", .. }, ..] => Some(
-            "a colon stands only after a name that the line defines",
+            "write a colon only after a name that the line defines",
         ),
         [_, Word { text: b"MOD", .. }, ..] => Some(NO_REMAINDER),
         [Word { text: b"*", .. }] => Some(NO_HERE),
@@ -214,7 +214,7 @@ fn sentence_for_front(heading: &[u8], operand: &[Word<'_>]) -> Option<&'static s
         ),
         [_, second, ..] if is_heading(second.text) => Some(ONE_INSTRUCTION),
         [first, Word { text: b"=", .. }, ..] if is_register(first.text) => Some(
-            "a comma stands between two operands",
+            "write a comma between two operands",
         ),
         [first, second, ..]
             if is_atom(first) && is_atom(second) && !is_one_of(heading, OF_ONE_EXPRESSION) => {
@@ -238,13 +238,13 @@ fn sentence_for_expression(operand: &[Word<'_>]) -> Option<&'static str> {
 /// The help with a token that no expression can contain.
 fn sentence_for_word(word: &[u8]) -> Option<&'static str> {
     if matches!(word, b"[") {
-        Some("memory is reached by `[I]` alone; LD I gives the address")
+        Some("only `[I]` reaches memory; LD I sets the address")
     } else if is_register(word) {
-        Some("a register has no place in an expression; ADD and SUB compute with it")
+        Some("an expression can't contain a register; ADD and SUB compute with registers")
     } else if is_heading(word) {
         Some(ONE_INSTRUCTION)
     } else if is_reserved(word) {
-        Some("a reserved word has no value; in an expression stand names and numbers")
+        Some("a reserved word has no value; an expression has names, numbers and operators")
     } else {
         None
     }

@@ -22,7 +22,7 @@ C_NUMBER = re.compile(r"0[xX]([0-9A-Fa-f]+)")
 WRITTEN = re.compile(r"is written ([A-Z]+) here$")
 BEGINS = re.compile(r"number begins with `.`: (\S+)$")
 AS_IN = re.compile(r"as in (LD [^`]*)$")
-FULL_STOP = "no full stop stands before"
+FULL_STOP = "without the full stop"
 NUMBER_AT = re.compile(r"[$%#&@]*[0-9A-Za-z_.]+")
 SUFFIXED_NUMBER = re.compile(r"([0-9][0-9A-Fa-f]*)[hH]")
 
