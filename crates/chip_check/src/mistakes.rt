@@ -226,8 +226,20 @@ const MISTAKES: &[(&str, &str)] = &[
     ("SCROLL - RIGHT", "scroll-right is written SCR here"),
     ("SCROLL - LEFT", "scroll-left is written SCL here"),
     (
+        "SCROLL - UP n",
+        "scroll-up is an instruction of XO-CHIP; SCD, SCR and SCL scroll the screen down, right and left",
+    ),
+    (
         "SCROLL - *",
         "SCD, SCR and SCL scroll the screen down, right and left",
+    ),
+    (
+        "SAVE v - v",
+        "save with two registers is an instruction of XO-CHIP; LD [I], {1} stores V0 to {1}",
+    ),
+    (
+        "LOAD v - v",
+        "load with two registers is an instruction of XO-CHIP; LD {1}, [I] loads V0 to {1}",
     ),
     ("SAVE v", "SAVE is written LD here: LD [I], {0}"),
     ("LOAD v", "LOAD is written LD here: LD {0}, [I]"),
@@ -267,6 +279,10 @@ const MISTAKES: &[(&str, &str)] = &[
     (
         "I : = BIGHEX v",
         "LD HF, {0} points I to the large sprite of the digit in {0}",
+    ),
+    (
+        "I : = LONG n",
+        "i := long is an instruction of XO-CHIP; LD I takes an address up to 4095, as in LD I, {0}",
     ),
     (
         "I : = n",
