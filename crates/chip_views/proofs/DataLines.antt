@@ -18,8 +18,8 @@ use Rattle.chip_lang.specs.Line.{Reading, reading_of, reading_of_tokens, lexeme_
 
 -- ---- digits
 
--- whether the digits of the first n numbers are digits and name bytes, are visible, and have the
--- value of their number
+-- whether the digit for a number is a hexadecimal digit and a name byte, is visible, and has the number as its value; and whether
+-- this is true for the first n numbers
 abbrev is_good : ℕ → Bool
 is_good k = is_hexadecimal (hex_digit k) && (is_name_byte (hex_digit k) && (is_visible (hex_digit k) && (digit_value (hex_digit k) == k)))
 
@@ -57,7 +57,7 @@ good k lt =
 
 -- ---- tokens
 
--- the run of name bytes is all of the bytes
+-- the run of bytes that pass a test is the whole list if all bytes pass it
 pub run_of_all : {X : Type 0} (p : X → Bool) (xs : List X) → list_all p xs ≡ true → prefix_len p xs ≡ length xs
 run_of_all p [] h = refl
 run_of_all p (x ∷ xs) h =
@@ -65,7 +65,7 @@ run_of_all p (x ∷ xs) h =
     let ih = run_of_all p xs parts.1 in
     grind (arith, parts.0, ih)
 
--- bytes that belong to a token before give none
+-- bytes that belong to an earlier token give no tokens
 skipped : (place : ℕ) (xs : List ℕ) → tokens_from place (length xs) xs ≡ []
 skipped place [] = refl
 skipped place (x ∷ xs) = skipped (place + 1) xs
@@ -89,18 +89,18 @@ number_token place d ds names digits =
 
 -- ---- lines
 
--- the reading of a word and a hexadecimal number up to the end, by its tokens
+-- the reading of a line, given its two tokens
 reading_by : (line : List ℕ) (t u : Token) → tokens_of line ≡ t ∷ u ∷ [] → (r : Reading) →
     reading_of_tokens (map (lexeme_of line) (t ∷ u ∷ [])) ≡ r → reading_of line ≡ r
 unfolding reading_of
 reading_by line t u e r h = ap (λ ts. reading_of_tokens (map (lexeme_of line) ts)) e ∙ h
 
--- the number of digits, as a token
+-- the kind of the token that digits make: the number that they state
 number_kind : (n : ℕ) → n < 65536 → (digits : List ℕ) → number_of 16 digits ≡ n → kind_of_number (number_of 16 digits) ≡ Number (pos n)
 number_kind n lt digits value =
     ap kind_of_number value ∙ ap (λ b. if b then Number (pos n) else Bad NumberTooLarge) (le-leb n 2147483647 (omega arith))
 
--- a word of two letters at the front, and a number from place 3 on
+-- the token of a word of two letters at the front, and the token of a number from place 3 on
 abbrev word_token : Token
 word_token = record { kind = Word; start = 0; end = 2 }
 

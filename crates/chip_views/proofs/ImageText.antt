@@ -1,4 +1,4 @@
--- The text of an image opens to lines whose image it is.
+-- The source text that is made from an image opens, and its lines assemble to that image.
 use Rattle.std.proofs.Common.{◌≡◌, ℕ, suc, ◌+◌, ◌*◌, ◌/◌, ◌%◌, ◌<◌, ◌≤◌, ◌&&◌, ◌++◌, Bool, true, false, List, [], ◌∷◌, length, map, None, Some, Result, Ok, Err, refl, sym, ap, subst, append_assoc, ◌∙◌, arith}
 use Rattle.std.specs.Prelude.{pos, codes, nat_le, nat_lt, fold, slice_index, if◌then◌else◌}
 use Rattle.std.specs.List.{list_all, position_or_len}
@@ -33,7 +33,7 @@ no_values : values_of [] ≡ no_names
 unfolding values_of
 no_values = refl
 
--- a line that has these two bytes, wherever it stands
+-- a line whose code is these two bytes, wherever the line is placed
 record WordLine (line : List ℕ) (high low : ℕ) : Type 0 where
   body : Body
   reads : reading_of line ≡ read None body
@@ -69,7 +69,7 @@ byte_own : (b : ℕ) → b < 256 → own_bytes (db (number (pos b) ∷ [])) no_n
 unfolding own_bytes
 byte_own b lt = rw (le-leb (suc b) 256 (omega arith)) refl
 
--- the text of the instruction, where it serves
+-- the text of a word's instruction can be the line for that word
 record Shown (w : ℕ) : Type 0 where
   plain : is_plain (show_of w) ≡ true
   gives : gives_word w (reading_of (show_of w)) ≡ true
@@ -121,7 +121,7 @@ align_off = refl
 abbrev pub EachByte : List ℕ → Type 0
 EachByte bytes = (k : ℕ) → slice_index bytes k < 256
 
--- the lines of an image after others
+-- the lines for an image, after other lines
 record Laid (all : List Placed) (done image : List ℕ) : Type 0 where
   aligning : Bool
   built : Built aligning (fold (λ before line. place before line ∷ before) all (map reading_of (lines_of_image image))) (done ++ image)

@@ -1,4 +1,4 @@
--- Where the lines of words stand, one after another, and which image they have.
+-- The addresses of the lines for words, one after another, and the image of these lines.
 use Rattle.std.proofs.Common.{◌≡◌, ℕ, suc, ◌+◌, ◌-◌, ◌<◌, ◌≤◌, ◌++◌, Bool, true, false, cond, nat_lt, List, [], ◌∷◌, length, map, reverse, None, Some, Ok, inl, inr, refl, sym, ap, ◌∙◌, arith}
 use Rattle.std.proofs.lemmas.Bool.{cases_lt, le-leb, lt-leb}
 use Rattle.std.proofs.lemmas.Grind.{same_number_lists}
@@ -25,7 +25,7 @@ use Rattle.chip_asm.specs.Program.{covers, byte_at, bytes_in_code, fault_in_code
 
 -- ---- one line more
 
--- a statement of so many bytes that is laid out where it stands, whatever stands before it
+-- a statement with these bytes, which is placed at the present address whatever comes before it
 pub record Steady (aligning after : Bool) (body : Body) (bytes : List ℕ) : Type 0 where
   pub no_if : is_if_body body ≡ false
   pub no_side : is_side_or_end body ≡ false
@@ -83,11 +83,11 @@ abbrev EachGood : List Placed → Type 0
 EachGood [] = Unit {0}
 EachGood (p ∷ all) = Good p × EachGood all
 
--- the byte of the line that covers an address, under no names
+-- the byte at an address, of the line that covers the address, if there are no names
 abbrev byte_in : List Placed → ℕ → ℕ
 byte_in all at = option_map_or (λ (p : Placed). slice_index (bytes_in_code (own_bytes (body_of p.line) (values_of []))) (at - p.here)) (find (covers at) all) 0
 
--- lines of these bytes so far, which open no block, end nothing and give no name
+-- lines that have these bytes so far, open no block, have no END and give no name
 pub record Built (aligning : Bool) (all : List Placed) (bytes : List ℕ) : Type 0 where
   good : EachGood all
   closed : open_blocks all ≡ []
@@ -127,7 +127,7 @@ module _ (aligning after : Bool) (all : List Placed) (bytes more : List ℕ) (bo
       (parts all line).size
       ∙ rw (active, no_fault, here_is, (parts all line).value, reads, built.names, steady.value, built.aligns) (steady.size (IMAGE_START + length bytes))
 
-  -- the byte of an address that the line doesn't cover, and of one that it covers
+  -- the byte at an address that the line doesn't cover, and at one that it covers
   byte_before : (at : ℕ) → at < IMAGE_START + length bytes → byte_in (p ∷ all) at ≡ byte_in all at
   byte_before at low = rw (here_is, lt-leb (IMAGE_START + length bytes) at low) refl
 

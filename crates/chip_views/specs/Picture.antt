@@ -1,4 +1,4 @@
--- The screen as text: two pixels, one above the other, to a character (own).
+-- The screen as text: each character shows two pixels, one above the other (chosen by this project).
 use Rattle.std.specs.Prelude.{ℕ, ◌+◌, ◌*◌, Bool, true, false, List, [], ◌∷◌, ◌++◌, codes, if◌then◌else◌}
 use Rattle.std.specs.List.{flat_map, range_with_len}
 use Rattle.chip_machine.specs.Points.{Points, is_lit}
@@ -6,15 +6,14 @@ use Rattle.chip_machine.specs.State.{State}
 use Rattle.chip_views.specs.declared.picture.Letters.{Letters}
 use Rattle.chip_views.specs.declared.picture.Letters.TheVariants.{Blocks, Plain}
 
--- the pixels of a size in a row, and its rows
+-- the number of pixels in a row and the number of rows, in the high size or the low one
 abbrev pub width : Bool → ℕ
 width high = if high then 128 else 64
 
 abbrev pub height : Bool → ℕ
 height high = if high then 64 else 32
 
--- whether a pixel of the size is lit: one of the low size is four stored pixels, of which the left
--- upper one stands for it
+-- whether a pixel of the size is lit; a pixel of the low size is four stored pixels, and the upper left one decides
 abbrev pub is_seen : Bool → Points → ℕ → ℕ → Bool
 is_seen high lit column row =
     if high then is_lit lit column row else is_lit lit (2 * column) (2 * row)
@@ -35,7 +34,7 @@ unfoldable pub cell_at : Letters → Bool → Points → ℕ → ℕ → List �
 cell_at letters high lit line column =
     cell letters (is_seen high lit column (2 * line)) (is_seen high lit column (2 * line + 1))
 
--- a line of characters: two rows of pixels
+-- a line of characters, which shows two rows of pixels, with a newline
 unfoldable pub picture_line : Letters → Bool → Points → ℕ → List ℕ
 picture_line letters high lit line =
     flat_map (cell_at letters high lit line) (range_with_len 0 (width high)) ++ 10 ∷ []

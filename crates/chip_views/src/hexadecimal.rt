@@ -10,7 +10,8 @@ use chip_asm::{LineView, Source, Symbol};
 use chip_lang::Bytes;
 use std::alloc::{AllocError, Global};
 
-/// A line for each name of a source in line order, with its value in hexadecimal and its line.
+/// Returns a line for each name of a source, in the order of the source's lines: the name, its value in
+/// hexadecimal and the number of its line.
 ///
 /// # Errors
 ///
@@ -49,7 +50,7 @@ fn push_symbol(
     text.extend_from_slice(end.as_bytes())
 }
 
-/// The listing of a source with the values of definitions in hexadecimal.
+/// Returns the listing of a source, with the values of definitions in hexadecimal.
 ///
 /// # Errors
 ///
@@ -67,7 +68,7 @@ pub fn hex_listing(alloc: Global, source: &Source) -> Result<Vec<u8>, AllocError
     Ok(text)
 }
 
-/// Adds the listing's line for a line.
+/// Adds the row of the listing for a line of the source.
 fn push_row(alloc: Global, text: &mut Vec<u8>, line: &LineView<'_>) -> Result<(), AllocError>
     ensures { OnOk result (text.new.items ≡ text.old.items ++ row_by hex_value line.now) }
 {
@@ -79,7 +80,7 @@ fn push_row(alloc: Global, text: &mut Vec<u8>, line: &LineView<'_>) -> Result<()
     line.push_row(text, Some(&shown))
 }
 
-/// Adds a value, as a source writes it in hexadecimal.
+/// Adds a value in hexadecimal, as it is written in a source.
 #[tactic(auto, unfolding(crate::specs::Hexadecimal::hex_value))]
 fn push_value(text: &mut Vec<u8>, value: i32) -> Result<(), AllocError>
     ensures { OnOk result (text.new.items ≡ text.old.items ++ hex_value value) }

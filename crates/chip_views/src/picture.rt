@@ -6,7 +6,7 @@ ghost use Rattle.chip_views.specs.Picture.{is_seen, cell, cell_at, picture_line,
 use chip_machine::Machine;
 use std::alloc::{AllocError, Global};
 
-/// Which characters stand for two pixels, one above the other.
+/// The kind of characters that show two pixels, one above the other.
 #[derive(Clone, Copy, PartialEq, Eq)]
 pub enum Letters {
     /// The half blocks of Unicode, in UTF-8.
@@ -15,8 +15,8 @@ pub enum Letters {
     Plain,
 }
 
-/// The screen of a machine as text: a line for two rows of pixels, each character two pixels, 64
-/// characters and 16 lines in the low size, 128 and 32 in the high one.
+/// Returns the screen of a machine as text. A line shows two rows of pixels, and a character two pixels, one
+/// above the other: 16 lines of 64 characters in the low size, and 32 lines of 128 in the high one.
 ///
 /// # Errors
 ///
@@ -67,7 +67,7 @@ fn cell_at(machine: &Machine, letters: Letters, line: usize, column: usize) -> &
     cell(letters, above, below)
 }
 
-/// Whether a pixel of the machine's size is lit.
+/// Whether a pixel is lit, in the machine's present size.
 pub(crate) fn is_seen(machine: &Machine, column: usize, row: usize) -> bool
     requires { (column < 128) × (row < 64) }
     ensures { result ≡ is_seen machine.now.core.high machine.now.core.lit column row }
