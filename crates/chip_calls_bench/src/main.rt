@@ -1,24 +1,27 @@
-//! Calls of chip_bench, as text: each line of the standard input is a command, and its answer is
-//! printed.
+//! Calls of chip_bench, as text: each line of the standard input is a command, and the program prints
+//! its answer.
 //!
 //! - `source TEXT`, `script TEXT`: adds a line to the source or to the script. `repeat N TEXT` adds
-//!   the text so many times to the source, or that many line ends for `\n`.
-//! - `settings RATE LENGTH EVERY`: `ok`, or why there are no settings with so long a tape.
-//! - `tape SEED`: the tape of a seed.
-//! - `open EVERY`: opens a session on the source. `do COMMAND` carries out a command of it. `parsed
-//!   N`, `encoded N`, `ran N` and `reach N`: `yes` where so many lines were parsed, at most so many
-//!   were encoded, the last command made at most so many steps, or the kept run is sound up to this
-//!   step or further; else `no` and the count. `encoded LEAST MOST` and `ran LEAST MOST`: the same,
-//!   with a least number.
-//! - `streams NAME=NUMBER..`: how the reader and the writer behave from then on (`Plan`). `serve`
-//!   answers the script by `serve`; `each NAME FIRST LAST` does so with each of these numbers.
-//! - `program WORD..`: the status of the program with these arguments, and what it prints.
-//! - `refuse REASON`: the same where the arguments can't be read.
-//! - `held MOST WORD..`: hands the words, one after another, to a writer that holds back up to so many
-//!   bytes, where `.` is a flush: how many bytes each call took or `ok`, or `failed`; and once that
-//!   writer is dropped, which calls of the one inside these were, and what it took.
-//! - `counted`: a read, a write and a flush, which calls of the reader and the writer these were, and
-//!   which failures were counted.
+//!   the text N times to the source, or N line ends if the text is `\n`.
+//! - `settings RATE LENGTH EVERY`: `ok` if there are settings with this rate, a tape of LENGTH bytes and
+//!   this spacing; otherwise the error.
+//! - `tape SEED`: the tape of a seed in hexadecimal.
+//! - `open EVERY`: opens a session on the source, with this spacing. `do COMMAND` carries out a command
+//!   in the session. `parsed N`, `encoded N`, `ran N` and `reach N`: `yes` if N lines were parsed, at most
+//!   N were encoded, the last command made at most N steps, or the kept run is sound up to step N or
+//!   further; otherwise `no` and the count. `encoded LEAST MOST` and `ran LEAST MOST` also ask for a
+//!   count of at least LEAST.
+//! - `streams NAME=NUMBER..`: sets how the reader and the writer behave from then on (`Plan`). `serve`
+//!   answers the script by the function `serve`, and `each NAME FIRST LAST` does so with each number from
+//!   FIRST to LAST for that part of the plan.
+//! - `program WORD..`: the status of the program with these arguments, and the texts that it prints.
+//! - `refuse REASON`: the status and the texts of the program if its arguments can't be read.
+//! - `held MOST WORD..`: hands the words, one after another, to a writer that holds back up to MOST
+//!   bytes; `.` is a flush. The answer has a line for each call: the number of bytes that it took, `ok`
+//!   for a flush, or `failed`. After the writer is dropped, the last line has the number of writes and of
+//!   flushes that the writer inside got, and the bytes that it took.
+//! - `counted`: makes a read, a write and a flush, and answers which went well, how many calls the reader
+//!   and the writer got, and how many failures were counted.
 #![tactic(auto)]
 
 mod session;
@@ -32,7 +35,7 @@ use std::alloc::Global;
 use std::io;
 use std::io::{BufRead, BufReader, Read, Write};
 
-/// What the commands so far made.
+/// The state that the commands so far made.
 #[derive(Drop)]
 struct Calls {
     source: Vec<u8>,
@@ -51,7 +54,7 @@ impl Calls {
         })
     }
 
-    /// What a command is answered with: lines, or nothing.
+    /// Returns the answer to a command: lines, or nothing.
     fn answer(&mut self, rt: &HostRuntime, word: &str, rest: &str) -> Result<String, Error> {
         let alloc = rt.alloc();
         match word {
@@ -100,7 +103,8 @@ fn add_line(text: &mut Vec<u8>, line: &str) -> Result<(), Error> {
     Ok(())
 }
 
-/// Whether there are settings of a rate, a length of the tape, and a distance of checkpoints.
+/// Returns `ok` if there are settings with a rate, a length of the tape and a spacing of checkpoints, or
+/// otherwise the error.
 fn settings(alloc: Global, rest: &str) -> Result<String, Error> {
     let mut words = rest.split(" ");
     let rate = words.next().unwrap_or("").parse::<u32>()?;
@@ -116,19 +120,20 @@ fn settings(alloc: Global, rest: &str) -> Result<String, Error> {
     }
 }
 
-/// The tape of a seed in hexadecimal.
+/// Returns the tape of a seed in hexadecimal.
 fn tape(alloc: Global, seed: &str) -> Result<String, Error> {
     Ok(hex::encode(alloc, &tape_of(alloc, seed.parse::<u64>()?)?)?)
 }
 
-/// A status, what was printed, and what was said of errors.
+/// Returns a text of a status, the output and the text of the errors.
 fn told(alloc: Global, status: u8, output: &[u8], errors: &[u8]) -> Result<String, Error> {
     let output = String::from_utf8_lossy(alloc, output)?;
     let errors = String::from_utf8_lossy(alloc, errors)?;
     Ok(format!(in alloc; "status {status}\n{output}{errors}")?)
 }
 
-/// A run of the program by these words, with the script on its standard input.
+/// Runs the program with these words as its arguments and the script on its standard input. Returns its
+/// status, its output and the text of its errors.
 fn run(rt: &HostRuntime, words: &str, script: &[u8], plan: &Plan) -> Result<String, Error> {
     let mut list = Vec::new(rt.alloc());
     for word in words.split_whitespace() {
@@ -151,7 +156,8 @@ fn run(rt: &HostRuntime, words: &str, script: &[u8], plan: &Plan) -> Result<Stri
     told(rt.alloc(), status, &output.get().taken, &errors)
 }
 
-/// What the program answers where the system can't give its arguments for that reason.
+/// Returns the status and the text of the error of the program if the system can't give its arguments
+/// for this reason.
 fn refuse(alloc: Global, reason: &str) -> Result<String, Error> {
     let kind = match reason {
         "invalid-data" => io::ErrorKind::InvalidData,
@@ -163,7 +169,8 @@ fn refuse(alloc: Global, reason: &str) -> Result<String, Error> {
     told(alloc, status, b"", &errors)
 }
 
-/// Reads, writes and flushes once, and tells what went well, the calls and the failures.
+/// Reads, writes and flushes once. Returns which of these went well, and the numbers of calls and of
+/// failures.
 fn counted(alloc: Global, plan: &Plan) -> Result<String, Error> {
     let mut reader = Counted::new(Feed::new(b"x", plan));
     let mut writer = Counted::new(Sink::new(alloc, plan));
@@ -178,7 +185,8 @@ fn counted(alloc: Global, plan: &Plan) -> Result<String, Error> {
     )?)
 }
 
-/// Hands words to a writer that holds bytes back, and tells how each call went and what came of them.
+/// Hands words to a writer that holds bytes back. Returns how each call went, which calls the writer
+/// inside got, and the bytes that it took.
 fn held(alloc: Global, plan: &Plan, rest: &str) -> Result<String, Error> {
     let (most, words) = rest.split_once(" ").unwrap_or((rest, ""));
     let mut sink = Sink::new(alloc, plan);
@@ -194,7 +202,7 @@ fn held(alloc: Global, plan: &Plan, rest: &str) -> Result<String, Error> {
     Ok(lines)
 }
 
-/// How a write of a word went, or a flush for `.`.
+/// Writes a word, or flushes for `.`, and returns how that went.
 fn hand_over(alloc: Global, writer: &mut impl Write, word: &str) -> Result<String, Error> {
     if word == "." {
         let flushed = if writer.flush().is_ok() {
@@ -210,7 +218,7 @@ fn hand_over(alloc: Global, writer: &mut impl Write, word: &str) -> Result<Strin
     }
 }
 
-/// Answers each line of the input.
+/// Prints the answer to each line of the input, or its error.
 fn answer_all(rt: &HostRuntime, calls: &mut Calls) -> Result<(), Error> {
     for line in BufReader::new(rt.alloc(), rt.stdin())?.lines(rt.alloc()) {
         let line = line?;

@@ -1,11 +1,11 @@
-//! A session that takes its commands as text, and counts.
+//! A session that takes its commands as text, and the counts of its work.
 
 use anyhow::{Error, bail};
 use chip_bench::{Bench, Settings};
 use chip_session::respond;
 use std::alloc::Global;
 
-/// A session, and how many steps it had made before the last command.
+/// A session, and the number of steps that it had made before the last command.
 #[derive(Drop)]
 pub(crate) struct Session {
     bench: Bench,
@@ -13,7 +13,7 @@ pub(crate) struct Session {
 }
 
 impl Session {
-    /// A session on a source, at the rate 10 and with a tape of three bytes.
+    /// Opens a session on a source, at the rate 10 and with a tape of three bytes.
     pub(crate) fn open(alloc: Global, source: &[u8], spacing: u32) -> Result<Session, Error> {
         let settings = Settings::new(alloc, 10, &[0xa5, 0x5a, 0x3c])?.with_spacing(spacing)?;
         Ok(Session {
@@ -22,7 +22,7 @@ impl Session {
         })
     }
 
-    /// Carries out a command, and gives its answer.
+    /// Carries out a command, and returns its answer.
     pub(crate) fn carry_out(&mut self, alloc: Global, command: &str) -> Result<String, Error> {
         self.ran_before = self.bench.ran();
         let mut answer = Vec::new(alloc);
@@ -30,7 +30,9 @@ impl Session {
         Ok(String::from_utf8_lossy(alloc, &answer)?)
     }
 
-    /// Whether a count is as wanted, `LEAST MOST` or `MOST`: `yes`, or `no` and the count.
+    /// Returns `yes` if a count is as wanted, and otherwise `no` and the count. The count of `parsed` has to
+    /// be MOST, that of `reach` MOST or more, and any other from LEAST to MOST. `wanted` is `LEAST MOST` or
+    /// `MOST`, and then LEAST is 0.
     pub(crate) fn judge(&self, alloc: Global, word: &str, wanted: &str) -> Result<String, Error> {
         let (least, most) = wanted.split_once(" ").unwrap_or(("0", wanted));
         let (least, most) = (least.parse::<u64>()?, most.parse::<u64>()?);

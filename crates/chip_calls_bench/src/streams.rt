@@ -6,29 +6,30 @@ use std::alloc::Global;
 use std::io;
 use std::io::{ErrorKind, Read, Write};
 
-/// How a reader and a writer behave. `streams` gives its parts as `NAME=NUMBER`.
+/// The behaviour of a reader and a writer. The command `streams` gives the parts of a plan as
+/// `NAME=NUMBER`.
 #[derive(Clone, Copy)]
 pub(crate) struct Plan {
-    /// `front`: how many bytes of the script the reader gives.
+    /// `front`: the number of bytes of the script that the reader gives.
     front: usize,
-    /// `read`: how many bytes a read gives at most.
+    /// `read`: the greatest number of bytes that a read gives.
     read: usize,
-    /// `reader-fails`: whether the reader then fails, where it would end.
+    /// `reader-fails`: whether the reader fails where it would otherwise give no byte, and so end.
     reader_fails: bool,
-    /// `written`: how many bytes a write takes at most.
+    /// `written`: the greatest number of bytes that a write takes.
     written: usize,
-    /// `room`: how many bytes the writer takes.
+    /// `room`: the number of bytes that the writer takes in all.
     room: usize,
-    /// `writer-fails`: whether the writer then fails, where it would take no byte.
+    /// `writer-fails`: whether the writer fails where it would otherwise take no byte.
     writer_fails: bool,
     /// `flush-fails`: whether a flush fails.
     flush_fails: bool,
-    /// Why a read or a write fails: it is interrupted, but for `other-error`.
+    /// Why a read or a write fails: `Other` with `other-error`, and `Interrupted` without.
     reason: ErrorKind,
 }
 
 impl Plan {
-    /// A reader and a writer of all bytes.
+    /// The plan of a reader and a writer that give and take all bytes.
     pub(crate) const PLAIN: Plan = Plan {
         front: usize::MAX,
         read: usize::MAX,
@@ -40,7 +41,8 @@ impl Plan {
         reason: ErrorKind::Interrupted,
     };
 
-    /// The plan that parts `NAME=NUMBER` make of a plain one.
+    /// Returns the plain plan with parts `NAME=NUMBER`; `NAME` alone stands for `NAME=1`. Fails if a part
+    /// has an unknown name or a bad number.
     pub(crate) fn read(parts: &str) -> Result<Plan, Error> {
         let mut plan = Plan::PLAIN;
         for part in parts.split_whitespace() {
@@ -50,7 +52,7 @@ impl Plan {
         Ok(plan)
     }
 
-    /// Changes a part; `size` is that of reads and of writes.
+    /// Changes a part of the plan; `size` changes both `read` and `written`.
     fn set(&mut self, name: &str, value: usize) -> Result<(), Error> {
         match name {
             "front" => self.front = value,
@@ -68,7 +70,7 @@ impl Plan {
     }
 }
 
-/// A reader by a plan, of the bytes that are left.
+/// A reader that follows a plan, and the bytes that it has yet to give.
 #[derive(Drop)]
 pub(crate) struct Feed<'a> {
     left: &'a [u8],
@@ -103,7 +105,7 @@ impl Read for Feed<'_> {
     }
 }
 
-/// A writer by a plan, and the bytes that it took.
+/// A writer that follows a plan, and the bytes that it took.
 #[derive(Drop)]
 pub(crate) struct Sink {
     pub(crate) taken: Vec<u8>,
@@ -149,7 +151,7 @@ impl Write for Sink {
     }
 }
 
-/// How a session on a source ended, at the rate 10 and with the tape of one zero.
+/// Serves a session on a source, at the rate 10 and with the tape of one zero, and returns how it ended.
 fn serve_by(
     alloc: Global,
     source: &[u8],
@@ -160,8 +162,8 @@ fn serve_by(
     Ok(serve(alloc, source, settings, reader, writer))
 }
 
-/// How a session ended; how many failures of the reader and of the writer were counted, and how
-/// many there were; and what was written.
+/// Serves a session, and returns how it ended; how many failures of the reader and of the writer were
+/// counted, and how many there were; and the text that was written.
 pub(crate) fn talk(
     alloc: Global,
     source: &[u8],
@@ -179,8 +181,8 @@ pub(crate) fn talk(
     )?)
 }
 
-/// Sessions with each number of a part of the plan, `NAME FIRST LAST`: a line for the numbers whose
-/// sessions go alike.
+/// Serves a session for each number from FIRST to LAST of a part of the plan; `words` is
+/// `NAME FIRST LAST`. Returns one line for each range of successive numbers whose sessions go alike.
 pub(crate) fn each(
     alloc: Global,
     source: &[u8],
