@@ -3,12 +3,17 @@
 --     IsScript        a key script tells which keys are down in each step, and only allowed keys are
 --     Avoids          no key script makes the machine meet the target at a step up to n
 --     keys_of         the key events, inserted one after another
-use Rattle.std.specs.Prelude.{◌≡◌, ℕ, ◌≤◌, None, List, fold}
+--     are_in_order    true if the steps of events never fall and begin at a step or later, and each
+--                     event is of one of the 16 keys
+--     PressesOther    under the events, a key that isn't allowed is down at a step below one
+--     IsRefused       the events aren't in order, or press a key that isn't allowed; no other script
+--                     is refused
+use Rattle.std.specs.Prelude.{◌≡◌, ℕ, ◌<◌, ◌≤◌, ◌⊎◌, ◌&&◌, nat_lt, nat_le, Bool, true, false, None, List, [], ◌∷◌, fold}
 use Rattle.std.specs.FinMap as map
 use Rattle.chip_machine.specs.Choices.{IsWithin}
 use Rattle.chip_machine.specs.State.{State}
 use Rattle.chip_machine.specs.Step.{step_of}
-use Rattle.chip_replay.specs.Keys.{Events}
+use Rattle.chip_replay.specs.Keys.{Events, held}
 use Rattle.chip_replay.specs.Run.{run}
 use Rattle.chip_explore.specs.Target.{met_in}
 use Rattle.chip_explore.specs.declared.script.KeyEvent.{KeyEvent}
@@ -27,3 +32,17 @@ with_event events event = map.insert events (record { key = event.key; step = ev
 
 abbrev pub keys_of : List KeyEvent → Events
 keys_of events = fold with_event map.empty events
+
+abbrev pub are_in_order : ℕ → List KeyEvent → Bool
+are_in_order step [] = true
+are_in_order step (event ∷ events) =
+    nat_le step event.step && nat_lt event.key 16 && are_in_order event.step events
+
+pub record PressesOther (allowed : ℕ) (events : List KeyEvent) (step : ℕ) : Type 0 where
+  pub at : ℕ
+  pub before : at < step
+  pub other : IsWithin allowed (held (keys_of events) at) → ⊥
+
+abbrev pub IsRefused : (allowed : ℕ) → List KeyEvent → (step : ℕ) → Type 0
+IsRefused allowed events step =
+    (are_in_order 0 events ≡ false) ⊎ PressesOther allowed events step

@@ -1,6 +1,6 @@
 //! The limits of a search, each defined once.
 
-use chip_replay::MOST_EVENTS;
+use chip_replay::{KEYS, MOST_EVENTS};
 
 /// Answers are about steps below this one. Up to it, the count of random bytes used is exact.
 pub const END: u64 = u64::MAX;
@@ -33,6 +33,11 @@ pub(crate) const MOST_ATTEMPTS: u32 = 10_000;
 
 /// How often keys may go down in a script. Each time gives two events.
 pub(crate) const MOST_PRESSES: u16 = (MOST_EVENTS / 2) as u16;
+
+/// The number of keys, as the size of a table.
+pub(crate) const KEY_COUNT: usize = 16;
+
+const _: () = prove!(KEY_COUNT == KEYS as usize);
 
 /// About how many bytes a state takes, without its backdrop but with the finder's notes about it.
 pub(crate) const STATE_BYTES: u64 = 80;

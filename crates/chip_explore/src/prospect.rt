@@ -24,7 +24,6 @@ use crate::watcher::Watcher;
 use crate::ways_back::{Loss, WaysBack};
 use chip_machine::Machine;
 use chip_machine::laws::alike_steps;
-use chip_replay::LAST_STEP;
 use std::alloc::{AllocError, Global};
 
 /// The question whether, from each state that a player can reach, some way of playing leads to some goals.
@@ -244,7 +243,7 @@ fn way_to(alloc: Global, search: &Search, loss: Option<Loss>) -> Result<Option<W
     let Some(Loss { origin, step }) = loss else {
         return Ok(None);
     };
-    if step > u64::from(LAST_STEP) {
+    if step > u64::from(u32::MAX) {
         return Ok(None);
     }
     Ok(Some(Way {

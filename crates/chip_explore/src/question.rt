@@ -22,7 +22,6 @@ use crate::target::{Met, Target};
 use crate::watcher::Watcher;
 use chip_machine::Machine;
 use chip_machine::laws::alike_steps;
-use chip_replay::LAST_STEP;
 use std::alloc::{AllocError, Global};
 
 /// The question whether any player can make a machine meet a target.
@@ -554,7 +553,7 @@ fn found_after(
         members.now.executed members.now.start outcome)) }
 {
     if let Some(origin) = finder.hit
-        && members.limit <= bounds.last().min(u64::from(LAST_STEP))
+        && members.limit <= bounds.last().min(u64::from(u32::MAX))
     {
         let step = members.limit as u32;
         let events = script_to(alloc, finder, origin)?;
