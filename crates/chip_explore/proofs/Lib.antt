@@ -7,6 +7,7 @@ pub mod Halted
 pub mod Lost
 pub mod OneOf
 pub mod Places
+pub mod Played
 pub mod Delays
 pub mod ReadLemmas
 pub mod Reached

@@ -10,7 +10,7 @@ pub returns-then-is_some : goal.returns-then-is_some
 returns-then-is_some g c = λ yes n below.
     let p = c.args.setting.now in
     let events = c.args.way.now.events.items in
-    let under = rw (c.in-Some.is, c.deref.ensures.value) at c.in_ok-machine.ensures in
+    let under = rw (c.in-Some.is, c.deref.ensures.value) at c.in_ok-machine.ensures.under in
     stopped_end p c.args.start.now events c.args.way.now.step n c.in-Some.machine under
     (sym (ap is_some c.stopped.ensures) ∙ sym c.is_some.ensures ∙ c.if-is_some.true)
     (sym c.meets_goals.ensures ∙ not-true c.meets_goals.result (rw c.at_once-then-is_some.ensures at yes))
@@ -19,7 +19,7 @@ pub returns : goal.returns
 returns g c =
     let p = c.args.setting.now in
     let events = c.args.way.now.events.items in
-    let under = rw (c.in-Some.is, c.deref.ensures.value) at c.in_ok-machine.ensures in
+    let under = rw (c.in-Some.is, c.deref.ensures.value) at c.in_ok-machine.ensures.under in
     let step : c.from.result ≡ c.args.way.now.step = c.from.ensures in
     IfOk-weaker c.seek_goals.result _ _
     (λ answer lost yes n below.
