@@ -13,7 +13,7 @@ use std::rc::Rc;
 
 /// About how many bytes a backdrop takes, without the bytes and rows in which its memory and its screen
 /// differ from the base.
-const BACKDROP_BYTES: u64 = 160;
+const BACKDROP_BYTES: u64 = 192;
 
 /// A byte of the memory that differs from the byte of the base.
 #[derive(Clone, Copy)]

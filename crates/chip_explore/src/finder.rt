@@ -76,6 +76,8 @@ pub(crate) struct Finder {
     pub(crate) is_timer_set: bool,
     /// Whether the watcher ended the search.
     pub(crate) is_stopped: bool,
+    /// Whether the search ended because it held too many bytes.
+    pub(crate) is_at_memory: bool,
     /// The number of ways in which the search went on from states.
     pub(crate) ways: u64,
     /// The guesses about what can be forgotten.
@@ -94,6 +96,7 @@ impl Finder {
             seen,
             is_timer_set: false,
             is_stopped: false,
+            is_at_memory: false,
             ways: 0,
             guesses,
         }

@@ -40,7 +40,13 @@ pub(crate) const KEY_COUNT: usize = 16;
 const _: () = prove!(KEY_COUNT == KEYS as usize);
 
 /// About how many bytes a state takes, without its backdrop but with the finder's notes about it.
-pub(crate) const STATE_BYTES: u64 = 80;
+pub(crate) const STATE_BYTES: u64 = 136;
+
+/// About how many bytes the rank of a state takes.
+pub(crate) const RANK_BYTES: u64 = 16;
+
+/// About how many bytes a way from one state to another takes.
+pub(crate) const WAY_BYTES: u64 = 16;
 
 /// A watcher is told about the progress each time this many more states were kept or taken up.
 pub(crate) const STATES_TOLD: u64 = 250_000;

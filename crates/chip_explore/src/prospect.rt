@@ -59,6 +59,9 @@ pub struct Foreseen {
     pub is_short: bool,
     /// Whether the watcher ended the search before it was done, so that the answer may say less.
     pub is_stopped: bool,
+    /// Whether a search ended because it held more bytes than `Bounds::memory` allows, so that the
+    /// answer may say less.
+    pub is_at_memory: bool,
 }
 
 impl Prospect {
@@ -86,10 +89,12 @@ impl Foreseen {
     {
         let is_short = self.is_short;
         let is_stopped = self.is_stopped;
+        let is_at_memory = self.is_at_memory;
         let states = self.states;
         Explored {
             states,
             is_stopped,
+            is_at_memory,
             ..Explored::at_once(self.prospect.outcome(), Executed::none(), is_short)
         }
     }
@@ -103,6 +108,7 @@ impl Foreseen {
             states: search.members.steps.len(),
             is_short,
             is_stopped: search.finder.is_stopped,
+            is_at_memory: search.finder.is_at_memory,
         }
     }
 
@@ -112,9 +118,11 @@ impl Foreseen {
     {
         let is_short = self.is_short || verdict.is_short;
         let is_stopped = self.is_stopped || verdict.is_stopped;
+        let is_at_memory = self.is_at_memory || verdict.is_at_memory;
         Foreseen {
             is_short,
             is_stopped,
+            is_at_memory,
             ..self
         }
     }
@@ -156,6 +164,7 @@ pub fn foresee<W: Watcher>(
             states: 0,
             is_short: true,
             is_stopped: false,
+            is_at_memory: false,
         },
     }
 }
@@ -184,7 +193,12 @@ fn foreseen_by<W: Watcher>(
         .members
         .covered_or_none()
         .min(bounds.steps.saturating_sub(1));
-    let loss = if search.members.is_whole(&known) {
+    let is_whole = search.members.is_whole(&known);
+    if is_whole && search.room_for_ways() > bounds.memory {
+        search.finder.is_at_memory = true;
+        return Ok(Foreseen::of(&search, is_short, Prospect::Within(covered)));
+    }
+    let loss = if is_whole {
         let ways = WaysBack::of(alloc, &mut search, &known)?;
         if always_can(&mut search, &known, &ways)? {
             return Ok(Foreseen::of(&search, is_short, Prospect::Always));
@@ -196,14 +210,17 @@ fn foreseen_by<W: Watcher>(
     let Some(way) = way_to(alloc, &search, loss)? else {
         return Ok(Foreseen::of(&search, is_short, Prospect::Within(covered)));
     };
+    let within = Foreseen::of(&search, is_short, Prospect::Within(covered));
+    drop(search);
     let verdict = judge(alloc, start, setting, bounds, watcher, &way)?;
     if !verdict.is_lost {
-        let within = Foreseen::of(&search, is_short, Prospect::Within(covered));
         return Ok(within.after(verdict));
     }
     let Way { events, step } = way;
-    let prospect = Prospect::DeadEnd { events, step };
-    Ok(Foreseen::of(&search, is_short, prospect))
+    Ok(Foreseen {
+        prospect: Prospect::DeadEnd { events, step },
+        ..within
+    })
 }
 
 /// Whether the goals can be reached from each state on the way of a search that came to its end, as the
@@ -261,6 +278,8 @@ struct Verdict {
     is_short: bool,
     /// Whether the watcher ended that search before it was done.
     is_stopped: bool,
+    /// That search ended because it held too many bytes.
+    is_at_memory: bool,
 }
 
 impl Verdict {
@@ -272,6 +291,7 @@ impl Verdict {
             is_lost,
             is_short: false,
             is_stopped: false,
+            is_at_memory: false,
         }
     }
 }
@@ -331,5 +351,6 @@ fn seek_goals<W: Watcher>(
         is_lost: searched.search.members.is_whole(&searched.setting),
         is_short: searched.is_short,
         is_stopped: searched.search.finder.is_stopped,
+        is_at_memory: searched.search.finder.is_at_memory,
     })
 }

@@ -1,6 +1,6 @@
 //! A question about all key scripts, and its answer.
 
-ghost use Rattle.std.specs.Prelude.{◌≡◌, ◌<◌, ◌≤◌, ◌+◌, ◌-◌, ◌*◌, [], length, min, IfOk, IfSome, IsSome, true, false};
+ghost use Rattle.std.specs.Prelude.{◌≡◌, ◌<◌, ◌≤◌, ◌+◌, ◌-◌, ◌*◌, ◌⊎◌, [], length, min, IfOk, IfSome, IsSome, true, false};
 ghost use Rattle.chip_explore.specs.Answers.{Answers, AreExecuted, EndsBy, IsFirst, Meets, most_ways};
 ghost use Rattle.chip_explore.specs.declared.question.Outcome.TheVariants.{Within};
 ghost use Rattle.chip_explore.specs.inner.Cover.{IsSearched};
@@ -53,8 +53,11 @@ pub struct Bounds {
     pub steps: u64,
     /// No state is taken up once more than this many are kept.
     pub states: usize,
-    /// Whether a search that ends because of `states` is followed by one that takes up the deepest states
-    /// first, within the same bounds, and whether an answer may have a script that isn't a first one.
+    /// The search ends when it holds more than this many bytes.
+    pub memory: u64,
+    /// Whether a search that ends because of `states` or `memory` is followed by one that takes up the
+    /// deepest states first, within the same bounds, and whether an answer may have a script that isn't a
+    /// first one.
     pub is_deep: bool,
     pub ticks: Ticks,
 }
@@ -98,6 +101,9 @@ pub struct Explored {
     pub is_short: bool,
     /// Whether the watcher ended the search before it was done, so that the outcome may say less.
     pub is_stopped: bool,
+    /// Whether the search ended because it held more bytes than `Bounds::memory` allows, so that the
+    /// outcome may say less.
+    pub is_at_memory: bool,
     /// Whether no key script makes the machine meet the target at any step below `END`, whenever the
     /// timers tick.
     pub is_at_any_speed: bool,
@@ -160,6 +166,7 @@ impl Explored {
             executed,
             is_short,
             is_stopped: false,
+            is_at_memory: false,
             is_at_any_speed: false,
             is_timed: false,
         }
@@ -176,6 +183,7 @@ impl Explored {
             seen: search.finder.seen,
             states: search.members.steps.len(),
             is_stopped: search.finder.is_stopped,
+            is_at_memory: search.finder.is_at_memory,
             is_timed: search.finder.is_timer_set,
             ..Explored::at_once(outcome, search.members.executed, is_short)
         }
@@ -220,6 +228,7 @@ impl Explored {
             seen: deep.seen,
             states: self.states.saturating_add(deep.states),
             is_stopped: deep.is_stopped,
+            is_at_memory: self.is_at_memory || deep.is_at_memory,
             ..Explored::at_once(deep.outcome.after(covered), self.executed, deep.is_short)
         }
     }
@@ -235,11 +244,12 @@ impl Explored {
     }
 
     /// The step up to which the target is avoided, if a deep search has to follow: the bounds ask for
-    /// one, and this search ended because it kept as many states as it may.
+    /// one, and this search ended because it kept as many states, or held as many bytes, as it may.
     fn covered_where_full(&self, bounds: &Bounds) -> Option<u64>
         ensures within { IfSome result (λ covered. self.now.outcome ≡ Within covered) }
         ensures deep { IsSome result → bounds.now.is_deep ≡ true }
-        ensures full { IsSome result → bounds.now.states < self.now.states }
+        ensures full { IsSome result
+            → (self.now.is_at_memory ≡ true) ⊎ (bounds.now.states < self.now.states) }
         ensures left { IfSome result (λ covered. covered < bounds.now.steps - 1) }
     {
         match self.outcome {
@@ -247,7 +257,7 @@ impl Explored {
                 if bounds.is_deep
                     && !self.is_short
                     && !self.is_stopped
-                    && bounds.states < self.states
+                    && (self.is_at_memory || bounds.states < self.states)
                     && covered < bounds.last() => { Some(covered) }
             _ => None,
         }
@@ -365,6 +375,7 @@ fn rated<W: Watcher>(
             states,
             is_short: rated.is_short && !free.is_at_any_speed,
             is_stopped: rated.is_stopped,
+            is_at_memory: free.is_at_memory || rated.is_at_memory,
             ..free
         }
     } else {
@@ -524,6 +535,7 @@ fn explored_by(
     if covered + 1 == END {
         return Explored {
             is_at_any_speed: setting.free,
+            is_at_memory: false,
             ..Explored::after(search, Outcome::Never, false)
         };
     }

@@ -10,7 +10,7 @@ use crate::finder::{Finder, Origin, Turn};
 use crate::kept::{Base, Kept};
 use crate::keys::{alone, is_down};
 use crate::leg::{End, Runner};
-use crate::limits::{STATE_BYTES, STATES_TOLD, TURNS_ASKED};
+use crate::limits::{RANK_BYTES, STATE_BYTES, STATES_TOLD, TURNS_ASKED, WAY_BYTES};
 use crate::members::Members;
 use crate::setting::Setting;
 use crate::sources::Trail;
@@ -423,10 +423,18 @@ impl Search {
     }
 
     /// About how many bytes the states take.
-    fn room(&self) -> u64 {
+    pub(crate) fn room(&self) -> u64 {
         (self.members.states.len() as u64)
             .saturating_mul(STATE_BYTES)
             .saturating_add(self.backdrops.room)
+    }
+
+    /// About how many bytes the states take together with the ways between them, which a search for
+    /// goals follows backward.
+    pub(crate) fn room_for_ways(&self) -> u64 {
+        let states = (self.members.states.len() as u64).saturating_mul(RANK_BYTES);
+        let ways = self.finder.ways.saturating_mul(WAY_BYTES);
+        self.room().saturating_add(states).saturating_add(ways)
     }
 
     /// Takes up states until none is left, or until a limit is reached.
@@ -434,6 +442,7 @@ impl Search {
         &mut self,
         setting: &Setting<'_>,
         most_states: usize,
+        most_bytes: u64,
         watcher: &mut W,
     ) -> Result<(), AllocError>
         requires holds { Holds setting.now self.old.members }
@@ -450,6 +459,10 @@ impl Search {
                 return Ok(());
             }
             if turn.step >= self.members.limit {
+                return Ok(());
+            }
+            if self.room() > most_bytes {
+                self.finder.is_at_memory = true;
                 return Ok(());
             }
             if turns % TURNS_ASKED == 0 && !watcher.goes_on() {

@@ -112,7 +112,7 @@ fn search_all<W: Watcher>(
         search.old.runner.machine from }
 {
     search.run_on(setting, from, Origin::START)?;
-    search.run(setting, bounds.states, watcher)
+    search.run(setting, bounds.states, bounds.memory, watcher)
 }
 
 /// Searches states by the least step first, and begins anew when a step refutes a guess.
