@@ -8,4 +8,4 @@ returns-then-branch g c =
     rw (← like.searched.begins, ← like.same.rate, ← like.same.allowed, ← like.same.goals) (rw c.of.ensures at (c.in_ok-always_can.ensures.always (search rules) n far)))
 
 pub returns : goal.returns
-returns g c = rw c.of-2.ensures (c.in_ok-verdict.ensures (search (rules, c.if-not-verdict.false)))
+returns g c = c.in_ok-verdict.ensures (search (rules, c.if-not-verdict.false))
