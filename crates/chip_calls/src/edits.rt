@@ -8,8 +8,8 @@ use crate::text::{number, split_word};
 use chip_asm::Source;
 use std::alloc::{AllocError, Global};
 
-/// With this number of lines or more, an edit inserts a line only at the end. With more, an edit
-/// anywhere else deletes a line.
+/// The number of lines from which on edits insert lines only at the end. In a longer source, all other
+/// edits delete a line.
 const MOST_LINES: usize = 24;
 
 /// The lines of edits: 16 that are data, instructions or without effect, and then 16 that move other

@@ -125,7 +125,7 @@ fn tape(alloc: Global, seed: &str) -> Result<String, Error> {
     Ok(hex::encode(alloc, &tape_of(alloc, seed.parse::<u64>()?)?)?)
 }
 
-/// Returns a text of a status, the output and the text of the errors.
+/// Returns one text with a status, the output and the text of the errors.
 fn told(alloc: Global, status: u8, output: &[u8], errors: &[u8]) -> Result<String, Error> {
     let output = String::from_utf8_lossy(alloc, output)?;
     let errors = String::from_utf8_lossy(alloc, errors)?;

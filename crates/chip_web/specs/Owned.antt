@@ -1,4 +1,4 @@
--- What an owner of a session owns (chosen by this project).
+-- The things that an owner of a session owns (chosen by this project).
 use base.Fml.{Fml, ftrue}
 use base.Stored.{Coded}
 use denote.RawPtr.{Ptr}
