@@ -22,8 +22,8 @@ FILES = {
     "quiet.asm": b"LOOP: LD V0, 1\nJP LOOP ; never ;!\n;! V0 <= 5 at LOOP\nEND\n\n; the end\n",
     "behind.asm": b"LOOP: JP LOOP\nEND\n; the end\n;! V0 <= 5\n",
     "stops.asm": b"LD V0, 5\nRET\n",
-    # a search meets more than one state: each frame asks for a key
-    "keys.asm": b"LOOP: LD V0, K\nADD V1, V0\nJP LOOP\n",
+    # V1 has 256 values, and each decides which step is next
+    "keys.asm": b";! ever V2 = 1\nLOOP: LD V0, K\nADD V1, V0\nSE V1, 3\nJP LOOP\nJP LOOP\n",
     "broken.asm": b";! V0 < 1\nLOOP: LD V0, 1\nJP LOOP\n",
 }
 ONE = (
@@ -91,7 +91,7 @@ NOTES = [
     (["picture", "stops.asm", "--steps", "9"], "", STOPPED),
     (["picture", "stops.asm", "--steps", "9", "--png", "a.png"], "", STOPPED),
     (["explore", "keys.asm", "--states", "3", "--no-facts"], "", STATES),
-    (["prove", "keys.asm", "--states", "3", "--no-facts"], "", "chipbench: keys.asm states no property: a line such as `;! always V0 <= 9` does\n"),
+    (["prove", "keys.asm", "--states", "3", "--no-facts"], "", STATES),
     (["dis", "quiet.asm"], "", TEXT.format("quiet.asm")),
     (["run", "--image", "quiet.asm", "--steps", "1"], "", TEXT.format("quiet.asm")),
     (["prove", "broken.asm", "--keys-to", "none/"], "chipbench: cannot write none/\nreason: ", "help: make the folder of this file first, as by mkdir\n"),

@@ -16,6 +16,7 @@ SOURCES = {
 LINE = re.compile(r"chipbench: step [0-9]+, ([0-9]+) states, about ([0-9]+) MB\n")
 # The line comes with 200,001 states. There are not many more than that, so it doesn't matter how soon it is read.
 MOST_STATES = "260000"
+ENDED = f"chipbench: a search ended because it kept {MOST_STATES} states; raise that with --states\n"
 # What the program holds beside the states, in MB, and how far an allocator's room and the word 'about' may lead from the figure.
 OTHERS = 8
 FACTOR = 1.6
@@ -36,9 +37,10 @@ def wrong_memory(program, source):
         with subprocess.Popen(words, cwd=folder, stdin=subprocess.DEVNULL, stdout=subprocess.DEVNULL, stderr=subprocess.PIPE, text=True) as ran:
             for line in ran.stderr:
                 found = LINE.fullmatch(line)
-                if found is None:
+                if found is None and line != ENDED:
                     return f"standard error has {line!r}"
-                told.append((int(found[1]), int(found[2]), held(ran.pid)))
+                if found is not None:
+                    told.append((int(found[1]), int(found[2]), held(ran.pid)))
     if not told:
         return "no progress was told"
     wrong = [f"{states} states, about {about} MB, and {held:.0f} MB are held" for states, about, held in told if not about <= held + OTHERS <= FACTOR * about + 2 * OTHERS]

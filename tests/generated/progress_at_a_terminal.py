@@ -12,7 +12,11 @@ import tempfile
 LONG = b"LD V1, 1\nLD I, #300\nLOOP: LD V0, K\nLD [I], V0\nADD I, V1\nJP LOOP\n"
 SHORT = b"LOOP: JP LOOP\n"
 KEYS = ["--keys-allowed", "4,6"]
-LINES = re.compile(rb"(chipbench: step [0-9]+, [0-9]+ states, about [0-9]+ MB\n)+")
+# The last line says that the search ended with its states, of which it may keep a million.
+LINES = re.compile(
+    rb"(chipbench: step [0-9]+, [0-9]+ states, about [0-9]+ MB\n)+"
+    rb"chipbench: a search ended because it kept 1000000 states; raise that with --states\n"
+)
 # Each run: the source, the options, whether standard error is a terminal, and whether there is progress.
 RUNS = {
     "a long search at a terminal": (LONG, KEYS, True, True),

@@ -50,14 +50,14 @@ SAID = {
     "list now": "C1: the words don't fit the command: `list` shows the lines with what they assemble to\n",
     "faults now": "C1: the words don't fit the command: `faults` shows the lines that have a fault\n",
     "regs\x01": f"C1: no such command: the commands are {WORDS}\n",
-    " " * 401: "C2: line too long: Make the line shorter; a source's line has at most 200 bytes.\n",
+    " " * 401: "C2: line too long: Make the line shorter. A line of a source has at most 200 bytes.\n",
     "del 4": "N1: no such line: the source has 3 lines\n",
     "rep 1 ;" + 200 * "a": "N2: text too long: Split the line in two, or shorten its comment.\n",
     "kins 1000001 5 down": "N5: step above the last: Use a step from 0 to 1,000,000.\n",
     "kins 0 16 down": "N6: no such key: Use a key from 0 to 15.\n",
     "kdel 2 5": "N8: no such event: `kins` adds one.\n",
     "regs 1000001": "Q2: step above the last: Use a step from 0 to 1,000,000.\n",
-    "mem 0 4095 2": "Q3: past address 4096: Ask for fewer bytes, or from a lower address; a word of `dis` has two bytes.\n",
+    "mem 0 4095 2": "Q3: past address 4096: Ask for fewer bytes, or begin at a lower address. A word of `dis` has two bytes.\n",
 }
 
 
