@@ -130,13 +130,13 @@ none_there (column ∷ columns) rest = none_there columns rest
 
 unknown_at : (columns : List Column) (rest : List (Option Column)) → position_or_len is_none (map Some columns ++ (None ∷ rest)) ≡ length columns
 unknown_at [] rest = refl
-unknown_at (column ∷ columns) rest = ap (λ n. 1 + n) (unknown_at columns rest)
+unknown_at (column ∷ columns) rest = ap (λ n. 1 + n) (unknown_at columns rest) ∙ omega arith
 
-pub unknown_name : (line : List ℕ) (columns : List Column) (rest : List (Option Column)) → begins line ≡ true → map Some columns ++ (None ∷ rest) ≡ columns_named line
-    → header_fault line ≡ Some (UnknownColumn (length columns + 1))
-unknown_name line columns rest e named =
+pub unknown_name : (line : List ℕ) (columns : List Column) (rest : List (Option Column)) (count : ℕ) → begins line ≡ true → map Some columns ++ (None ∷ rest) ≡ columns_named line
+    → count ≡ length columns → header_fault line ≡ Some (UnknownColumn (count + 1))
+unknown_name line columns rest count e named is =
     let unknown : list_any is_none (columns_named line) ≡ true = ap (list_any is_none) (sym named) ∙ none_there columns rest in
-    let place : first_unknown (columns_named line) ≡ length columns + 1 = ap first_unknown (sym named) ∙ ap (λ n. n + 1) (unknown_at columns rest) in
+    let place : first_unknown (columns_named line) ≡ count + 1 = ap first_unknown (sym named) ∙ ap (λ n. n + 1) (unknown_at columns rest ∙ sym is) in
     fault_is line ∙ ap₂ (λ b u. fault_by (first_unknown (columns_named line)) b u (has_text (columns_named line))) e unknown
     ∙ ap (λ n. Some (UnknownColumn n)) place
 

@@ -1,4 +1,4 @@
-use Rattle.std.proofs.Common.{◌∙◌, None, Some, append-nil, ap, cond, inr, map, sym}
+use Rattle.std.proofs.Common.{◌∙◌, None, Some, append-nil, ap, arith, cond, inr, map, sym}
 use Rattle.chip_trace.specs.declared.header.HeaderError.TheVariants.{TextNotLast}
 use Rattle.chip_trace.proofs.Names.{header_is, late_fault, not_a_header, unknown_name}
 use Rattle.chip_trace.proofs.header.read_header.Goals as goal
@@ -10,7 +10,8 @@ pub returns-in_default-column_of-clause-fault : goal.returns-in_default-column_o
 returns-in_default-column_of-clause-fault c =
     let none = sym c.column_of.ensures ∙ c.in_default-column_of.is in
     let named = rw (c.in-Some.is, c.first_name.ensures.names, none) at c.loop-left.invariant in
-    inr (unknown_name c.args.line.now c.loop-left.columns.items _ (sym c.if-not-is_header.ensures.value) named)
+    inr (unknown_name c.args.line.now c.loop-left.columns.items _ c.len.result (sym c.if-not-is_header.ensures.value) named
+    (omega (arith, c.loop-left.columns.ok.0, c.len.ensures)))
 
 pub returns-then-has_early_text-clause-fault : goal.returns-then-has_early_text-clause-fault
 returns-then-has_early_text-clause-fault c =
