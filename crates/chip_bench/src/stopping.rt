@@ -17,7 +17,7 @@ pub(crate) fn tell_stop<F, E: Write>(
     bench: &mut Bench,
     errors: &mut E,
 ) {
-    if !system.host.has_reader || bench.source().image().is_none() {
+    if !system.host.has_reader {
         return;
     }
     let Ok(columns) = Columns::read_header(system.alloc, b"# pc text") else {
@@ -61,8 +61,11 @@ fn stop_step(alloc: Global, bench: &mut Bench, columns: &Columns, last: u32) -> 
     Some(most)
 }
 
-// Returns the row of this step, from a trace that has only this step.
+// Returns the row of this step, from a trace that has only this step. None without an image, or if memory runs out.
 fn row_at(alloc: Global, bench: &mut Bench, columns: &Columns, step: u32) -> Option<Vec<u8>> {
+    if bench.source().image().is_none() {
+        return None;
+    }
     let mut trace = Trace::new(alloc, columns, Form::Fields, step, step);
     let mut row = Vec::new(alloc);
     match bench.push_trace(&mut trace, &mut row, 1) {

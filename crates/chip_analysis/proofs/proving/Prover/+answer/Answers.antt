@@ -5,7 +5,7 @@ use Rattle.chip_analysis.proofs.NextLemmas.{at_each, at_place, is_within}
 use Rattle.chip_analysis.proofs.PropertiesLemmas.{even_after, fewer, no_heads, some_asked}
 use Rattle.chip_analysis.proofs.ProvingLemmas.{comes_all, comes_all_stopped, comes_none, comes_on, comes_stopped, comes_unwritten, others_left}
 use Rattle.chip_analysis.proofs.proving.Prover.+answer.Goals as goal
-use Rattle.chip_analysis.proofs.proving.Prover.+answer.Goals.{then-told, else-told, then-told-3, else-told-3, then-told-4, else-told-4}
+use Rattle.chip_analysis.proofs.proving.Prover.+answer.Goals.{then-told, else-told, then-told-2, else-told-2, then-told-3, else-told-3}
 
 pub returns-then-is_empty : goal.returns-then-is_empty
 returns-then-is_empty g t c = λ asked is.
@@ -57,8 +57,8 @@ returns-in-Some g t c = λ asked is.
     let took = c.take-head.ensures in
     let bad = c.in_ok-is_bad-in-Some.is_bad in
     let now : c.if-told-2.told ≡ (c.args.told.is_bad || bad) = elim c.if-told-2.branch [
-      | then-told-3 w ↦ w.told-is ∙ w.if-told-2.true ∙ sym (ap (λ b. b || bad) w.if-told-2.true)
-      | else-told-3 w ↦ w.told-is ∙ sym (ap (λ b. b || bad) w.if-told-2.false)
+      | then-told-2 w ↦ w.told-is ∙ w.if-told-2.true ∙ sym (ap (λ b. b || bad) w.if-told-2.true)
+      | else-told-2 w ↦ w.told-is ∙ sym (ap (λ b. b || bad) w.if-told-2.false)
     ] in
     let short : c.if-told.told ≡ (c.args.told.is_short || next.verdict.is_short) = elim c.if-told.branch [
       | then-told w ↦ w.told-is ∙ w.if-told.true ∙ sym (ap (λ b. b || next.verdict.is_short) w.if-told.true)
@@ -88,9 +88,9 @@ returns g t c = λ asked is.
     let next = c.next-next.result in
     let each = at_each p.rate p.keys p.start.now asked next.place next.verdict (c.next-next.ensures.right asked is) (sym c.in-None.is) in
     let bad = c.in_ok-is_bad-in-None.is_bad in
-    let now : c.if-told-4.result ≡ (c.args.told.is_bad || bad) = elim c.if-told-4.branch [
-      | then-told-4 w ↦ w.result-is ∙ w.if-told-4.true ∙ sym (ap (λ b. b || bad) w.if-told-4.true)
-      | else-told-4 w ↦ w.result-is ∙ sym (ap (λ b. b || bad) w.if-told-4.false)
+    let now : c.if-told-3.result ≡ (c.args.told.is_bad || bad) = elim c.if-told-3.branch [
+      | then-told-3 w ↦ w.result-is ∙ w.if-told-3.true ∙ sym (ap (λ b. b || bad) w.if-told-3.true)
+      | else-told-3 w ↦ w.result-is ∙ sym (ap (λ b. b || bad) w.if-told-3.false)
     ] in
     let short : c.if-told.told ≡ (c.args.told.is_short || next.verdict.is_short) = elim c.if-told.branch [
       | then-told w ↦ w.told-is ∙ w.if-told.true ∙ sym (ap (λ b. b || next.verdict.is_short) w.if-told.true)
