@@ -30,7 +30,7 @@ IMAGE_BYTES = 3584
 
 
 class Parser(argparse.ArgumentParser):
-    """The options. What is wrong with them is told in one line that says what would be right."""
+    """The options. An error is one line that says what is wrong and what would be right."""
 
     def error(self, message: str) -> NoReturn:
         unknown = message.removeprefix("unrecognized arguments: ")
@@ -39,7 +39,7 @@ class Parser(argparse.ArgumentParser):
             known = [name for action in self._actions for name in action.option_strings]
             is_option = first.startswith("-")
             hint = f": {advice.OTHER_OPTIONS[first]}" if first in advice.OTHER_OPTIONS else near(first, known)
-            message = f"no option {first}{hint}" if is_option else f"one SOURCE at a time, and {first} is another one"
+            message = f"no option {first}{hint}" if is_option else f"expected one SOURCE, and {first} is a second one"
         self.exit(2, f"{self.prog}: {message}; {advice.SHELL} --help lists the options\n")
 
 
@@ -52,7 +52,7 @@ def tape_of(text: str) -> bytes:
 
 
 def number_of(example: str) -> Callable[[str], int]:
-    """Reads a whole number from 0 on, in decimal. What is wrong is told with an example."""
+    """Reads a whole number from 0 on, in decimal. The error has an example."""
 
     def read(text: str) -> int:
         if not (text.isascii() and text.isdecimal()):
@@ -66,36 +66,36 @@ def parser() -> argparse.ArgumentParser:
     words = Parser(
         prog="chipbench-shell",
         usage="%(prog)s [SOURCE | --image FILE] [OPTIONS]",
-        description="A shell beside a source: goes to any step of its run, forward and back, and edits lines and keys.",
+        description="A debugger at the terminal: goes to any step of a game's run, forward and back, and edits its lines and keys.",
         epilog="Without a terminal it reads commands from standard input. The shell is not part of the proved workbench.",
         allow_abbrev=False,
     )
-    words.add_argument("source", nargs="?", metavar="SOURCE", help="the source; a file that isn't there is made by save")
-    of_image = "open the source that `chipbench dis` prints of an image, in place of SOURCE"
+    words.add_argument("source", nargs="?", metavar="SOURCE", help="the source; if the file doesn't exist, save makes it")
+    of_image = "open the source that `chipbench dis` prints for an image, in place of SOURCE"
     words.add_argument("--image", metavar="FILE", help=of_image)
     words.add_argument("--keys", metavar="FILE", help="add the key events of FILE")
     words.add_argument("--strict", action="store_true", help="end with status 1 at the first command that is refused")
-    words.add_argument("--echo", action="store_true", help="print each command before its answer, where it isn't typed")
+    words.add_argument("--echo", action="store_true", help="print each command before its answer, if commands aren't typed")
     words.add_argument("--quiet", action="store_true", help="print no line at the start")
     words.add_argument("--program", metavar="PATH", help="the chipbench to run (default: $CHIPBENCH, or the installed one)")
     rate, seed, every = number_of("--rate 10"), number_of("--seed 7"), number_of("--every 1000")
-    tick = "how many steps lie between two ticks of the timers: a tick is 1/60 of a second, so 10 is 600 steps a second"
+    tick = "the number of steps between two ticks of the timers: a tick is 1/60 of a second, so 10 is 600 steps a second"
     words.add_argument("--rate", metavar="N", type=rate, help=tick)
     words.add_argument("--tape", metavar="HEX", type=tape_of, help="the random bytes")
     words.add_argument("--seed", metavar="N", type=seed, help="a number that makes the random bytes")
-    words.add_argument("--profile", metavar="NAME", help="such as schip or vip")
-    words.add_argument("--quirks", metavar="LIST", help="what differs from the profile, such as shift=vy,edges=wrap")
-    words.add_argument("--every", metavar="P", type=every, help="how many steps lie between two checkpoints")
+    words.add_argument("--profile", metavar="NAME", help="a name for a choice of all quirks, such as schip or vip")
+    words.add_argument("--quirks", metavar="LIST", help="the quirks that differ from the profile, such as shift=vy,edges=wrap")
+    words.add_argument("--every", metavar="P", type=every, help="the number of steps between two checkpoints")
     return words
 
 
 def is_text(content: bytes) -> bool:
-    """Whether a file can be a source: it has no control characters but those of lines."""
+    """Whether a file can be a source: its only control characters are those that lines may have."""
     return not any(byte < 32 and byte not in TEXT_CONTROLS for byte in content)
 
 
 def kind_warning(words: argparse.Namespace, image: bytes | None) -> str | None:
-    """What to say where a source is taken for an image, or the other way around."""
+    """The warning for a source that was given as an image, or the other way around; None otherwise."""
     if image is not None:
         is_source = is_text(image) and b"\n" in image
         return f"{words.image} is a text, not an image: {advice.SHELL} {words.image} opens a source" if is_source else None
@@ -136,7 +136,7 @@ def needed(name: str) -> bytes:
 
 
 def option_text(told: str) -> str:
-    """What is wrong with a setting, by its option. The module names it as its caller does.
+    """Names a setting by its option in an error of the module, which names the parameter instead.
 
     >>> option_text("rate=0: 0 is not in 1..=1000"), option_text("profile='xo': possible values: schip")
     ('--rate 0: expected 1 to 1000', '--profile xo: possible values: schip')
@@ -146,7 +146,7 @@ def option_text(told: str) -> str:
 
 
 def closed_stream() -> str | None:
-    """Which of the streams is closed that a shell needs. Without standard error, what goes there is dropped."""
+    """The name of a closed stream that a shell needs; None if both are open. Without standard error, messages are dropped."""
     if sys.stderr is None:
         sys.stderr = open(os.devnull, "w", encoding="utf-8")
     return "standard input" if sys.stdin is None else "standard output" if sys.stdout is None else None
@@ -163,7 +163,7 @@ def main(arguments: list[str]) -> int:
     try:
         game = opened(words)
     except (ChipbenchError, FileError, Mistake) as error:
-        # of what the program says on its arguments the first part is enough: its help isn't the shell's
+        # only the first part of the program's message is shown, because the rest is the help of the program
         told = str(error).partition(chr(10) * 2)[0]
         print(f"chipbench-shell: {option_text(told) if isinstance(error, WrongValue) else told}", file=sys.stderr)
         return 3 if isinstance(error, FileError) else 2

@@ -1,4 +1,4 @@
-"""What to type instead: for the words of other debuggers, and for what is nearly a command."""
+"""Suggests what to type instead of the words of other debuggers, and of texts that are nearly a command."""
 
 from __future__ import annotations
 
@@ -18,7 +18,7 @@ PACKAGING = Path(__file__).resolve().parents[3] / "packaging"
 
 
 def tool(name: str) -> str:
-    """What starts a tool: its name where the PATH has it, otherwise its path in a clone."""
+    """The command that starts a tool: its name if the PATH has it, otherwise its path in a clone."""
     path = PACKAGING / name
     if shutil.which(name) is not None or not path.is_file():
         return name
@@ -35,15 +35,15 @@ ONE_SOURCE = f"a shell has one source: quit, and start {SHELL} FILE"
 KEYS = "press KEY holds a key, release KEY lets go of it, and keys shows the events"
 FILES_OF_KEYS = f"save keys FILE writes the key events, and {SHELL} game.asm --keys FILE plays them"
 AT_START = f"the settings are chosen at the start, as in {SHELL} game.asm --rate 15 --seed 7; profile shows them"
-CALLS = "backtrace shows the calls that lead to where one is"
+CALLS = "backtrace shows the calls that haven't returned"
 COMMENT = "a comment begins with `#` here"
-CONDITION = "a condition is given with its breakpoint: break PLACE if V0 = 5"
-HITS = "no breakpoint counts its hits: continue goes on to the next one, and break PLACE if V0 = 5 stops only where that holds"
+CONDITION = "give a condition with its breakpoint: break PLACE if V0 = 5"
+HITS = "breakpoints don't count hits: continue goes on to the next one, and break PLACE if V0 = 5 stops only where that holds"
 #: Settings that are chosen at the start, each by an option with its name.
 OPTIONS = ("rate", "seed", "tape", "quirks", "every")
-#: What is asked for in place of a label, where the end of the run is meant.
+#: Words that users type in place of a label when they mean the end of the run.
 ENDS = ("crash", "stop", "end", "halt", *(f"s{number}" for number in range(1, 8)))
-#: Words that other debuggers have, and what does the same here.
+#: Words that other debuggers have, and the advice for each.
 OTHER_WORDS = {
     **dict.fromkeys(("reset", "restart", "start", "rewind"), GO_TO_START),
     **dict.fromkeys(("set", "let", "poke", "jump"), NOTHING_SETS),
@@ -62,14 +62,14 @@ OTHER_WORDS = {
     "version": "chipbench --version prints the version",
     "search": "until goes to the next step at which a comparison becomes true",
 }
-#: What `step` is asked for by other debuggers.
+#: Words that follow `step` in other debuggers, and the advice for each.
 STEP_WORDS = {
-    **dict.fromkeys(("back", "backward", "backwards"), "step only goes forward: back goes a step back, back 3 three"),
+    **dict.fromkeys(("back", "backward", "backwards"), "step only goes forward: back goes one step back, back 3 goes three"),
     **dict.fromkeys(("over",), "next steps over a call"),
     **dict.fromkeys(("out",), "finish goes out of a subroutine"),
-    **dict.fromkeys(("in", "into"), "step goes into a call by itself: step"),
+    **dict.fromkeys(("in", "into"), "step already goes into calls"),
 }
-#: What an option is asked for that the shell hasn't.
+#: Options that the shell doesn't have, and the advice for each.
 OTHER_OPTIONS = dict.fromkeys(("--step", "--steps", "--at", "--goto"), "the command goto 5 goes to step 5")
 BREAK_WORDS = ("break", "breaks", "breakpoint", "breakpoints", "bp", "b")
 SUBJECT = rf"(?:\[[^\]]*\]|(?:{'|'.join(REGISTERS)})\b)"
@@ -78,7 +78,7 @@ WITHOUT_SIGN = re.compile(rf"({SUBJECT})\s*(?:(?:is|equals?|becomes|to|at|eq)\s+
 
 
 def with_sign(text: str) -> str | None:
-    """The comparison that is meant by a subject with a number behind it; None where the text is nothing like that.
+    """The comparison that a subject followed by a number means; None if the text isn't of that form.
 
     >>> with_sign("V3 6"), with_sign("v3 is 4"), with_sign("LOOP")
     ('V3 = 6', 'v3 = 4', None)
@@ -88,7 +88,7 @@ def with_sign(text: str) -> str | None:
 
 
 def for_break(text: str) -> str | None:
-    """What to type in place of a breakpoint whose place or whose `if` is missing; None where both are there.
+    """Advice for a breakpoint whose place or whose `if` is missing; None if both are there.
 
     >>> for_break("if V3 = 2")
     'break takes a place first: break PLACE if V3 = 2; until V3 = 2 goes to where it becomes true at any place'
@@ -114,19 +114,19 @@ def for_break(text: str) -> str | None:
 
 
 def for_register(name: str, what: str) -> str:
-    """What to type in place of a register where a place or a step is taken."""
+    """Advice for a register that was typed in place of a place or a step."""
     return f"{name} is a register, not a {what}: watch {name} goes to the next step that changes it, until {name} = 5 to where it becomes 5"
 
 
 def for_place(text: str, what: str = "place") -> str | None:
-    """What to type in place of a place, a line or a step that is no value; None where nothing is known.
+    """Advice for a place, a line or a step that has no value; None if there is no advice.
 
     >>> for_place("line 13")
-    'a line is given by its number alone: 13'
+    'give a line by its number alone: 13'
     >>> for_place("line 13", "step")
     'line 13 is a place, not a step: until 13 goes to the next step there'
     >>> for_place("step 100"), for_place("LOOP:")
-    ('goto 100 goes to step 100', 'a label is named without its colon: LOOP')
+    ('goto 100 goes to step 100', 'type a label without its colon: LOOP')
     >>> for_place("crash")
     'continue goes to where the machine stops'
     """
@@ -135,17 +135,17 @@ def for_place(text: str, what: str = "place") -> str | None:
         return f"goto {step[1]} goes to step {step[1]}"
     label = re.fullmatch(r"([A-Za-z_]\w*):", text.strip())
     if label is not None:
-        return f"a label is named without its colon: {label[1]}"
+        return f"type a label without its colon: {label[1]}"
     found = re.fullmatch(r"line\s+([0-9]+)", text.strip(), re.IGNORECASE)
     if found is not None and what == "step":
         return f"line {found[1]} is a place, not a step: until {found[1]} goes to the next step there"
     if found is not None:
-        return f"a line is given by its number alone: {found[1]}"
+        return f"give a line by its number alone: {found[1]}"
     return "continue goes to where the machine stops" if text.strip().lower() in ENDS else None
 
 
 def for_setting(text: str) -> str | None:
-    """What to type in place of `set` before something that is no state; None where it may be one.
+    """Advice for `set` before a setting or a key; None for anything else, which may be a part of the state.
 
     >>> for_setting("profile vip"), for_setting("keys 4")
     ('profile vip runs the same lines and keys under that profile', 'press 4 holds key 4, and release 4 lets go of it')
@@ -163,12 +163,12 @@ def for_setting(text: str) -> str | None:
 
 
 def for_line(line: str) -> str | None:
-    """What to type in place of a line that is no command; None where nothing is known.
+    """Advice for a line that isn't a command; None if there is no advice.
 
     >>> for_line("100"), for_line(";! V0 <= 63")
     ('goto 100 goes to step 100', 'a property is a line of the source: insert LINE ;! V0 <= 63')
     >>> for_line("condition 1 V0 = 5")
-    'a condition is given with its breakpoint: break PLACE if V0 = 5'
+    'give a condition with its breakpoint: break PLACE if V0 = 5'
     """
     text = line.strip()
     word, _, rest = text.partition(" ")
@@ -178,12 +178,12 @@ def for_line(line: str) -> str | None:
         return f"a property is a line of the source: insert LINE {text}"
     condition = re.fullmatch(r"condition\s+[0-9]+\s+(\S.*)", text, re.IGNORECASE)
     if condition is not None:
-        return f"a condition is given with its breakpoint: break PLACE if {with_sign(condition[1]) or condition[1]}"
+        return f"give a condition with its breakpoint: break PLACE if {with_sign(condition[1]) or condition[1]}"
     return for_setting(rest) if word.lower() == "set" else None
 
 
 def for_comment(line: str) -> str | None:
-    """What to type in place of a comment that is a hexadecimal number alone; None where it is a comment.
+    """Advice for a comment that is only a hexadecimal number; None for any other comment.
 
     >>> for_comment("#210"), for_comment("# 210"), for_comment("#add")
     ('a comment begins with `#`: until #210 goes to that address, and x #210 shows its bytes', None, None)
@@ -195,7 +195,7 @@ def for_comment(line: str) -> str | None:
 
 
 def for_keys(text: str) -> str:
-    """What to type in place of `keys` with something behind it.
+    """Advice for `keys` followed by a text.
 
     >>> for_keys("4 down")
     'press 4 holds a key, release 4 lets go of it, and keys > FILE writes the key events'
@@ -212,7 +212,7 @@ def for_keys(text: str) -> str:
 
 
 def told(text: str, read: Callable[[str], Read], what: str = "place") -> Read:
-    """What is read of a text. Where it is none, the mistake names what to type, if that is known."""
+    """Reads a text. If that fails, the mistake names what to type, if there is advice for the text."""
     try:
         return read(text)
     except Mistake as mistake:

@@ -1,4 +1,4 @@
-"""What all commands of the shell share: the session, the console, and the words for where one is."""
+"""The base of all commands of the shell: the session, the console, and the text for the current step."""
 
 from __future__ import annotations
 
@@ -15,7 +15,7 @@ WORD_BYTES = 2
 
 
 class Snapshot:
-    """The state at a step, read to its end, so that it can be compared after an edit. There is none while a line has a fault."""
+    """The state at a step, read completely, so that it can be compared after an edit. There is none while a line has a fault."""
 
     def __init__(self, game: Game) -> None:
         self.step = game.step
@@ -23,20 +23,20 @@ class Snapshot:
         self.state = game.state_or_none()
         if self.state is not None:
             self.image = game.bench.image
-            # they are read now: after an edit they would be of another run
+            # the screen and the memory are read now, because after an edit they would come from another run
             _ = self.state.screen, self.state.memory
 
 
 class Commands:
-    """The base of the commands. Those of a subject are a class on top of it."""
+    """The base of the commands. Each group of commands is a subclass."""
 
     game: Game
     console: Console
-    #: What `display` shows after each move.
+    #: The values that `display` shows after each move.
     displayed: tuple[str, ...] = ()
 
     def fail(self, text: str) -> None:
-        """Tells a refusal."""
+        """Prints a refusal."""
         raise NotImplementedError
 
     def carry_out(self, line: str) -> None:
@@ -44,7 +44,7 @@ class Commands:
         raise NotImplementedError
 
     def keep(self) -> None:
-        """Keeps what isn't saved in files of its own."""
+        """Keeps unsaved edits in separate files."""
         raise NotImplementedError
 
     def save_keys(self, text: str) -> None:
@@ -54,7 +54,7 @@ class Commands:
     def say(self, *lines: str) -> None:
         self.console.say(*lines)
 
-    # -- where one is
+    # -- the current step
 
     def stop_text(self, code: str) -> str:
         sentence = sentences(self.game.bench.program).get(code, "")
@@ -90,7 +90,7 @@ class Commands:
         self.show_displayed()
 
     def show_where(self, old: State | None = None) -> None:
-        """Says where one is, and which registers have changed since an older state."""
+        """Shows the current step, and which registers have changed since an older state."""
         state = self.game.state()
         changed = views.changes(old, state) if old is not None else ""
         if changed:
@@ -115,7 +115,7 @@ class Commands:
     # -- edits
 
     def edit(self, change: Callable[[], None], done: str) -> None:
-        """Makes an edit that can be undone, and tells what differs at the step where one is."""
+        """Makes an edit that can be undone, and says what differs at the current step."""
         before, snapshot = self.game.edition(), Snapshot(self.game)
         try:
             change()
@@ -127,7 +127,7 @@ class Commands:
         self.say(f"{done}; {self.difference(snapshot)}")
 
     def difference(self, snapshot: Snapshot) -> str:
-        """What differs at the step where one is from a state before an edit."""
+        """Says what differs at the current step from a state before an edit."""
         step = self.game.step
         try:
             state = self.game.state()
@@ -146,5 +146,5 @@ class Commands:
         """The words of a command's text, at most so many."""
         words = text.split()
         if len(words) > most:
-            raise Mistake(f"there is too much behind the command: {form}")
+            raise Mistake(f"too many words after the command; expected {form}")
         return words

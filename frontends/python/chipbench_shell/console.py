@@ -30,11 +30,11 @@ def state_folder() -> Path:
 
 
 class OutputGone(Exception):
-    """The output can't be written: the terminal has gone away, or who reads it. The text says why; it is empty for a reader."""
+    """The output can't be written: its terminal or its reader has gone away. The text says why; it is empty for a reader."""
 
 
 class Console:
-    """Standard input and output. Only where both are a terminal is there a prompt, editing of the line and a history."""
+    """Standard input and output. A prompt, editing of the line and a history need both to be a terminal."""
 
     def __init__(self, echoes: bool = False) -> None:
         self.is_terminal = sys.stdin.isatty() and sys.stdout.isatty()
@@ -46,7 +46,7 @@ class Console:
         self._is_told = False
         self._pasted: list[str] = []
         self.line = 0
-        # bytes that are not UTF-8 stay what they are, and what can't be printed is escaped
+        # bytes that are not UTF-8 stay as they are, and unprintable characters are escaped
         for stream, errors in ((sys.stdin, "surrogateescape"), (sys.stdout, "backslashreplace"), (sys.stderr, "backslashreplace")):
             if isinstance(stream, io.TextIOWrapper):
                 stream.reconfigure(errors=errors)
@@ -85,7 +85,7 @@ class Console:
     def complain(self, text: str) -> None:
         """A refusal, on standard error; from a pipe or a file with the number of its line."""
         self.end_report()
-        # what was typed may be in it, whatever characters that has
+        # the text may quote what the user typed, with any characters
         plain = "\n".join(map(printable, text.split("\n")))
         shown = self.paint("error", plain) if self.is_terminal else f"line {self.line}: {plain}"
         # a failure of standard error is ignored, as by the program
@@ -140,7 +140,7 @@ class Console:
 
     @contextlib.contextmanager
     def without_history(self) -> Iterator[None]:
-        """What is read meanwhile isn't a command, and goes to no history."""
+        """Keeps the lines that are read meanwhile out of the history, because they aren't commands."""
         if readline is None or not self.is_terminal:
             yield
             return
@@ -169,7 +169,7 @@ class History:
         self._length = readline.get_current_history_length()
 
     def add(self) -> None:
-        """Adds what was typed since to the file. Where it can't be written, the session goes on without it."""
+        """Adds the lines typed since to the file. If it can't be written, the session goes on without it."""
         if not self._is_kept:
             return
         length = readline.get_current_history_length()

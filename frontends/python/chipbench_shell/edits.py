@@ -22,14 +22,14 @@ class Edits(Commands):
     def do_edit(self, text: str) -> None:
         """edit LINE [TEXT]
 
-        Replaces a line by TEXT, blanks included. Without TEXT the line is offered at the terminal to be changed; Ctrl+C
-        leaves it. A label stands for its line.
+        Replaces a line by TEXT, blanks included. Without TEXT you change the line at the terminal; Ctrl+C leaves it as it is.
+        LINE is a number, or a label for its line.
         """
         number, given = self._line_and_text(text, "edit LINE [TEXT]")
         old = to_text(self.game.bench.lines[number - 1])
         if given is None:
             if not self.console.is_terminal:
-                raise Mistake("edit takes the new text here: edit LINE TEXT")
+                raise Mistake("without a terminal, edit needs the new text: edit LINE TEXT")
             with self.console.without_history():
                 given = self.console.read(f"{number}: ", old)
         content = to_bytes(given)
@@ -38,7 +38,7 @@ class Edits(Commands):
     def do_insert(self, text: str) -> None:
         """insert LINE [TEXT]
 
-        Inserts TEXT before a line, blanks included. Without TEXT it reads lines up to one that is a full stop.
+        Inserts TEXT before a line, blanks included. Without TEXT you type lines, and a full stop alone on a line ends them.
         """
         most = len(self.game.bench.lines) + 1
         number, given = self._line_and_text(text, "insert LINE [TEXT]", most)
@@ -54,12 +54,12 @@ class Edits(Commands):
             if self.game.note(before):
                 self.tell_difference(f"{counted(count, 'line')} inserted before line {number}", snapshot)
         if count == 0:
-            raise Mistake("no line was given: nothing is inserted")
+            raise Mistake("nothing is inserted, because no line was given")
 
     def _insert_lines(self, number: int) -> None:
-        """Reads lines up to a full stop, and inserts each as it comes, so that one that was typed is lost by nothing."""
+        """Reads lines up to a full stop, and inserts each as it comes, so that no typed line is ever lost."""
         if self.console.is_terminal:
-            self.say(f"lines before line {number}; a line that is a full stop ends them")
+            self.say(f"lines before line {number}; a full stop alone on a line ends them")
         with self.console.without_history():
             while True:
                 try:
@@ -79,7 +79,7 @@ class Edits(Commands):
     def do_delete(self, text: str) -> None:
         """delete LINE [LAST]
 
-        Deletes a line, or the lines from one to another. A label stands for its line.
+        Deletes a line, or the lines from LINE to LAST. Each is a number, or a label for its line.
         """
         lines = re.fullmatch(r"(\d+)\s*(?:-|\.\.|:|,|to)\s*(\d+)", text.strip())
         if lines is not None:
@@ -88,10 +88,10 @@ class Edits(Commands):
         if not words:
             raise Mistake("delete takes a line: delete 12, delete 12 14")
         if words[0].lower() in BREAK_WORDS and words[0].upper() not in self.game.symbols():
-            raise Mistake("delete removes lines: clear removes all breakpoints, clear PLACE those at a place")
+            raise Mistake("delete removes lines; clear removes all breakpoints, and clear PLACE those at a place")
         first, last = self.game.line_number(words[0]), self.game.line_number(words[-1])
         if last < first:
-            raise Mistake(f"line {last} stands before line {first}")
+            raise Mistake(f"line {last} is before line {first}: delete takes the first line first")
 
         def delete() -> None:
             for number in range(last, first - 1, -1):
@@ -100,18 +100,18 @@ class Edits(Commands):
         self.edit(delete, f"{counted(last - first + 1, 'line')} deleted")
         # GDB's delete removes the breakpoint of a number
         if len(words) == 1 and words[0].isdecimal() and first <= len(self.game.breakpoints):
-            self.say("delete removes lines: undo takes this back, and clear removes breakpoints")
+            self.say("delete removes lines; undo takes this back, and clear removes breakpoints")
 
     def _line_and_text(self, text: str, form: str, most: int = 0) -> tuple[int, str | None]:
-        """The number of a line, and what stands behind the one blank after it; None where there is no such blank."""
+        """The number of a line, and the text after the one blank that follows it; None if there is no such blank."""
         found = re.fullmatch(r"(\S+)(?: (.*))?", text, re.DOTALL)
         if found is None:
-            raise Mistake(f"which line? {form}")
+            raise Mistake(f"expected a line: {form}")
         word = found[1]
         if most and word.isdecimal():
             number = int(word)
             if not 1 <= number <= most:
-                raise Mistake(f"no line {number} to insert before: 1 to {most}")
+                raise Mistake(f"no line {number}: insert takes a line from 1 to {most}")
             return number, found[2]
         try:
             return self.game.line_number(word), found[2]
@@ -134,7 +134,7 @@ class Edits(Commands):
     def do_redo(self, text: str) -> None:
         """redo
 
-        Makes an edit again that was taken back.
+        Makes the edit again that undo took back.
         """
         self.words_of(text, 0, "redo")
         snapshot = Snapshot(self.game)
@@ -163,11 +163,11 @@ class Edits(Commands):
         if found is None and both is not None and down:
             raise Mistake(f"press takes one step: press {both[1]} at {both[2]}, then release {both[1]} at {both[3]}")
         if found is None:
-            raise Mistake(f"which key, and when? {form}")
+            raise Mistake(f"expected a key, and perhaps a step: {form}")
         key = self._key(found[1])
         step = self.game.step_number(found[2]) if found[2] else self.game.step
         if step > LAST_STEP:
-            raise Mistake(f"the steps are 0 to {LAST_STEP}")
+            raise Mistake(f"no step {step}: the steps are 0 to {LAST_STEP}")
         bench = self.game.bench
         known = bench.events.get((step, key))
         told = f"key {key:X} is {'down' if down else 'up'} from step {step} on"
@@ -193,7 +193,7 @@ class Edits(Commands):
     def do_save(self, text: str) -> None:
         """save [FILE] [over]
 
-        Writes the lines to the source's file, or to FILE. What another program has written there since stays, unless
+        Writes the lines to the source's file, or to FILE. If another program has written there since, it refuses, unless
         `over` is given. `save keys [FILE] [over]` writes the key events, to the file of --keys or to one beside the source.
         """
         words = text.split()
@@ -217,16 +217,16 @@ class Edits(Commands):
         """The file that a text names, and whether it may be written over."""
         is_forced = text.split()[-1:] == ["over"]
         name = text.strip().removesuffix("over").strip() if is_forced else text.strip()
-        # who types `save as FILE` names no file that begins with `as`
+        # a user who types `save as FILE` doesn't mean a file whose name begins with `as`
         if name == "as":
-            raise Mistake("which file? save FILE")
+            raise Mistake("save as needs a file: save FILE")
         name = re.sub(r"^as\s+", "", name)
         return (Path(name) if name else None), is_forced
 
     def do_reload(self, text: str) -> None:
         """reload
 
-        Takes the lines of the file in the place of those here. undo brings these back.
+        Replaces the lines by those of the file. undo brings your lines back.
         """
         self.words_of(text, 0, "reload")
         snapshot = Snapshot(self.game)

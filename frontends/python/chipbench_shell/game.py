@@ -18,7 +18,7 @@ from .key_file import command_of, key_file, lines_of
 from .values import Mistake, Values, counted
 
 Events = dict[tuple[int, int], bool]
-# what is said of a line of a file of key events by its refusal, as `chipbench run --keys` says it
+# the sentences for refused lines of a file of key events, in the words of `chipbench run --keys`
 KEY_LINES = {
     "C1": "expected STEP KEY down or STEP KEY up, as in `10 4 down` (KEY is 0 to 15, or A to F); a comment begins with `;`",
     "N5": "STEP is too large; expected at most 1000000",
@@ -64,7 +64,7 @@ class Edition:
 
 
 def changed_count(old: Sequence[bytes], new: Sequence[bytes]) -> int:
-    """How many lines differ: of each replaced part the longer side counts.
+    """The number of lines that differ. Each replaced part counts with its longer side.
 
     >>> changed_count([b"A", b"B", b"C"], [b"A", b"X", b"Y", b"C"])
     2
@@ -105,7 +105,7 @@ class Game:
         self.saved_events: Events = {}
         self._keys_content = b""
         self._keeper = Keeper(path.parent if path is not None else Path())
-        # what the file held when its lines were taken or written last, and when it was looked at last
+        # the file's content when its lines were last taken or written, and when it was last looked at
         self._content = self._seen = content
         self._stamp = self._file_stamp()
         self._undone: list[Edition] = []
@@ -126,12 +126,12 @@ class Game:
 
     @property
     def is_edited(self) -> bool:
-        """Whether the lines are other ones than the file's."""
+        """Whether the lines differ from the file's."""
         return tuple(self.bench.lines) != self.saved
 
     @property
     def has_new_keys(self) -> bool:
-        """Whether the key events are other ones than those of their file; without one, whether there are any."""
+        """Whether the key events differ from those of their file; without a file, whether there are any."""
         return self.bench.events != self.saved_events
 
     @property
@@ -148,7 +148,7 @@ class Game:
 
     @property
     def unsaved(self) -> str:
-        """What would be lost without saving; empty where nothing would."""
+        """Names everything that would be lost without saving; empty if nothing would."""
         lines = f"the edits of {self.name}" if self.is_edited else ""
         keys = f"the key events for {self.keys_name}" if self.has_new_keys else ""
         return " and ".join(filter(None, (lines, keys)))
@@ -182,12 +182,12 @@ class Game:
         self.keys_path, self._keys_content, self.saved_events = path, content, self.bench.events
 
     def sentence(self, code: str) -> str:
-        """A code with its sentence, and where the source's faults are the cause, the first of them."""
+        """A code with its sentence; if the source's faults are the cause, the first fault instead."""
         said = str(refusal(self.bench.program, code))
         if code != "Q1":
             return said
         fault = self.faults()[0]
-        return f"line {fault.line} has a fault: {fault.code}: {fault.sentence}; there are no states until it is fixed"
+        return f"line {fault.line} has a fault: {fault.code}: {fault.sentence}; the game can't run until it is fixed"
 
     # -- what the source and the machine are
 
@@ -198,11 +198,11 @@ class Game:
         return self.bench.symbols
 
     def state(self, step: int | None = None) -> State:
-        """The machine at a step, or where one is."""
+        """The machine at a step, by default at the current one."""
         return self.bench.at(self.step if step is None else step)
 
     def state_or_none(self) -> State | None:
-        """The machine where one is; None while a line has a fault."""
+        """The machine at the current step; None while a line has a fault."""
         try:
             return self.state()
         except Refused:
@@ -212,7 +212,7 @@ class Game:
         return Values(self.symbols(), self.state_or_none())
 
     def step_number(self, text: str) -> int:
-        """A number of steps. A label is none: its value is an address."""
+        """A number of steps. A label is refused, because its value is an address."""
         name = text.strip().upper()
         symbols = self.symbols()
         if name in symbols and self.bench.listing[symbols[name].line - 1].value is None:
@@ -229,7 +229,7 @@ class Game:
         return number
 
     def place(self, text: str) -> tuple[int, int | None]:
-        """The address of a place, and its line where it was given by that: a decimal number is a line, all else an address."""
+        """The address of a place, and its line if the place is a decimal number. Anything else is an address."""
         plain = text.strip()
         if plain.isdecimal():
             number = self.line_number(plain)
@@ -240,11 +240,11 @@ class Game:
         return self.values().address(plain), None
 
     def address_of_line(self, number: int) -> int:
-        """Where the code of a line, or of the first one with code after it, stands."""
+        """The address of the code of a line, or of the first line after it that has code."""
         for line in self.bench.listing[number - 1 :]:
             if line.code and line.address is not None:
                 return line.address
-        raise Mistake(f"line {number} has no code, and no line after it has")
+        raise Mistake(f"neither line {number} nor any line after it has code")
 
     def line_at(self, address: int) -> int | None:
         """The line whose code is at an address."""
@@ -258,7 +258,7 @@ class Game:
         return found.number if address < found.address + size else None
 
     def _size_of(self, number: int, address: int, shown: int, is_longer: bool) -> int:
-        """How many bytes a line has: where the listing doesn't show all, up to the next address."""
+        """The number of bytes of a line. If the listing doesn't show all, they go up to the next address."""
         if not is_longer:
             return shown
         later = [line.address for line in self.bench.listing[number:] if line.address is not None]
@@ -270,7 +270,7 @@ class Game:
         return Edition(tuple(self.bench.lines), self.bench.events)
 
     def note(self, before: Edition) -> bool:
-        """Keeps what was there before an edit, so that it can be undone. False where nothing changed."""
+        """Keeps the edition before an edit, so that it can be undone. False if nothing changed."""
         if before == self.edition():
             return False
         self._done.append(before)
@@ -305,7 +305,7 @@ class Game:
         self._move_breakpoints(now.lines)
 
     def become(self, wanted: Edition) -> None:
-        """Makes the lines and the key events others. A text that no command can hold restarts the session."""
+        """Changes the lines and the key events to those wanted. A text that no command can hold restarts the session."""
         edits = line_edits(self.bench.lines, wanted.lines)
         events = self.bench.events
         edits += [b"kdel %d %d" % event for event in events if event not in wanted.events]
@@ -351,11 +351,11 @@ class Game:
 
     @property
     def is_gone(self) -> bool:
-        """Whether the file was there, and isn't any more."""
+        """Whether the file existed and has gone."""
         return self.path is not None and self._content is not None and self._file_stamp() is None
 
     def look_at_file(self) -> bytes | None:
-        """The file's content where another program has written it since it was looked at last; None otherwise."""
+        """The file's content if another program has written it since it was last looked at; None otherwise."""
         stamp = self._file_stamp()
         if self.path is None or stamp is None or stamp == self._stamp:
             return None
@@ -366,7 +366,7 @@ class Game:
         return None if is_known else content
 
     def take(self, content: bytes) -> int:
-        """Takes the lines of the file, and returns how many differ. An edit that wasn't saved can be had back by `undo`."""
+        """Takes the lines of the file, and returns how many differ. `undo` brings back an edit that wasn't saved."""
         lines = split_lines(content)
         faulty = over_limits(lines)
         if faulty:
@@ -380,7 +380,7 @@ class Game:
         return count
 
     def file_content(self) -> bytes:
-        """What the file holds now."""
+        """The present content of the file."""
         content = read_file(self.path) if self.path is not None else None
         if content is None:
             raise Mistake(f"there is no file {self.name}")
@@ -388,7 +388,7 @@ class Game:
         return content
 
     def save(self, path: Path | None, is_forced: bool) -> Path:
-        """Writes the lines to the file, or to another one, atomically. What another program wrote there stays, unless forced."""
+        """Writes the lines to the file, or to another one, atomically. Unless forced, keeps what another program wrote there."""
         target = path or self.path
         if target is None:
             raise Mistake("the source has no file yet: save FILE")
@@ -396,7 +396,7 @@ class Game:
         there = read_file(target)
         known = self._content if is_own else None
         if there is not None and there != known and not is_forced:
-            told = "has changed since it was read: reload takes it, " if is_own else "is there already: "
+            told = "has changed since it was read: reload reads it again, " if is_own else "already exists: "
             raise Mistake(f"{target} {told}save {'' if is_own else str(target) + ' '}over writes over it")
         content = self.content()
         write_file(target, content)
@@ -407,13 +407,13 @@ class Game:
         return target
 
     def save_keys(self, path: Path | None, is_forced: bool) -> Path:
-        """Writes the key events to their file, or to another one. What is there already stays, unless forced."""
+        """Writes the key events to their file, or to another one. Unless forced, keeps what another program wrote there."""
         target = path or self.keys_name
         is_own = self.keys_path is not None and target == self.keys_path
         there = read_file(target)
         known = self._keys_content if is_own else None
         if there is not None and there != known and not is_forced:
-            told = "has changed since it was read" if is_own else "is there already"
+            told = "has changed since it was read" if is_own else "already exists"
             raise Mistake(f"{target} {told}: save keys {target} over writes over it")
         content = key_file(self._keys_content, self.bench.events)
         write_file(target, content)
@@ -422,8 +422,8 @@ class Game:
         return target
 
     def keep_unsaved(self) -> dict[str, Path]:
-        """Writes what isn't saved to new files beside the history, and returns them by what they have. Files of what was saved since
-        are removed."""
+        """Writes everything unsaved to new files beside the history, and returns the files by their content. Removes those whose
+        content was saved since."""
         keys = key_file(self._keys_content, self.bench.events) if self.has_new_keys else None
         wanted = {
             f"the edits of {self.name}": ("lines", self.lines_name, self.content() if self.is_edited else None),
@@ -435,7 +435,7 @@ class Game:
         return {told: path for told, path in kept.items() if path is not None}
 
     def drop_unsaved(self) -> None:
-        """Removes the files of what isn't saved: whoever typed it has given it up."""
+        """Removes the files of unsaved edits, because the user has given them up."""
         for what in ("lines", "keys"):
             self._keeper.keep(what, "", None)
 

@@ -1,4 +1,4 @@
-"""Files in which edits stand that aren't saved yet, so that a shell that is killed loses none."""
+"""Files that keep unsaved edits, so that a shell that is killed loses none."""
 
 from __future__ import annotations
 
@@ -17,16 +17,16 @@ PREFIX = "unsaved-"
 
 
 class Keeper:
-    """A new file for the lines, and one for the key events, each for as long as it has something that isn't saved."""
+    """A new file for the lines, and one for the key events. Each exists as long as there is something unsaved."""
 
     def __init__(self, beside: Path) -> None:
-        # where the folder of the history can't be written, that of the source and that of temporary files are tried
+        # if the folder of the history can't be written, the source's folder and the temporary folder are tried
         self._folders = (state_folder(), beside, Path(tempfile.gettempdir()))
         self._kept: dict[str, tuple[Path, bytes]] = {}
 
     def keep(self, what: str, name: str, content: bytes | None) -> None:
-        """Writes a content to a file of this name, or to the one that has `what` already; None removes that. `OSError` where no
-        folder can be written."""
+        """Writes a content to a file of this name, or to the file that already keeps `what`; None removes it. Raises `OSError` if
+        no folder can be written."""
         path, known = self._kept.get(what, (None, b""))
         if content is None:
             if path is not None:
@@ -40,7 +40,7 @@ class Keeper:
             self._kept[what] = path, content
 
     def path(self, what: str) -> Path | None:
-        """The file that has `what`; None where nothing is kept of it."""
+        """The file that keeps `what`; None if there is none."""
         return self._kept[what][0] if what in self._kept else None
 
     def _write_new(self, name: str, content: bytes) -> Path:

@@ -1,4 +1,4 @@
-"""A file of key events that a shell reads and writes: what its author wrote beside the events stays."""
+"""A file of key events that a shell reads and writes. Comments and blank lines stay."""
 
 from __future__ import annotations
 
@@ -17,7 +17,7 @@ DIRECTIONS = {True: b"down", False: b"up"}
 
 @dataclass(frozen=True)
 class KeyLine:
-    """A line of the file, and the event that it has: none where it is blank or a comment."""
+    """A line of the file, and its event; None if it is blank or a comment."""
 
     text: bytes
     event: tuple[int, int] | None
@@ -31,7 +31,7 @@ class KeyLine:
 
 
 def command_of(line: bytes) -> bytes:
-    """What a line gives the session, with its key as a number; empty where the line has no event."""
+    """The event of a line as the session reads it, with its key as a number; empty if the line has no event."""
     return KEY_LETTER.sub(rb"\1#\2", line.partition(b";")[0].strip(b" "))
 
 
@@ -48,7 +48,7 @@ def event_line(event: tuple[int, int], is_down: bool) -> bytes:
 
 
 def key_file(content: bytes, events: Events) -> bytes:
-    """A file with these events. Lines of `content` stay as far as their events do; a new event stands before those of later steps.
+    """A file with these events. Lines of `content` stay if their events do; a new event goes before those of later steps.
 
     >>> key_file(b"; start\\n10 4 down ; go\\n30 4 up\\n", {(10, 4): True, (20, 5): True})
     b'; start\\n10 4 down ; go\\n20 5 down\\n'

@@ -1,4 +1,4 @@
-"""Commands that show something, and change nothing but what is shown next."""
+"""Commands that show something, and change only what an empty line shows next."""
 
 from __future__ import annotations
 
@@ -23,7 +23,7 @@ CHECK_SECONDS = 60.0
 SHOWING = frozenset("regs screen list x dis backtrace info check explain profile syms faults image mem".split())
 #: A line that ends the source, with a label or a comment perhaps.
 END_LINE = re.compile(r"\s*(?:\w+:\s*)?END\s*(?:;.*)?", re.IGNORECASE)
-#: What GDB shows by `info`, and the commands that show it here.
+#: The words that GDB's `info` takes, and the commands that show the same here.
 INFO = {
     "registers": "regs",
     "breakpoints": "break",
@@ -38,7 +38,7 @@ INFO = {
 }
 
 
-#: What shows or removes one of those that `info` shows together.
+#: The commands that show or remove one of the things that `info` shows together.
 ONE_OF = {
     **dict.fromkeys(("registers", "symbols", "variables"), "print {0} shows one"),
     **dict.fromkeys(("source", "line"), "list {0} shows the lines around one"),
@@ -58,7 +58,7 @@ class Looks(Commands):
     def do_regs(self, text: str) -> None:
         """regs
 
-        Shows the registers, the timers, the call stack and the flags. regs STEP answers as the session does.
+        Shows the registers, the timers, the call stack and the flags. regs STEP answers as chipbench debug does.
         """
         if self._is_at_step("regs", text):
             return
@@ -68,20 +68,20 @@ class Looks(Commands):
         self.say(*state.rows(self.console.width, names))
 
     def _is_at_step(self, command: str, text: str) -> bool:
-        """Whether a step is behind a command; the session answers it then."""
+        """Whether a step follows a command; then the session answers it."""
         words = self.words_of(text, 1, f"{command}, or {command} STEP")
         if words:
             self.carry_out(f"{command} {words[0]}")
         return bool(words)
 
     def check_is_no_redirection(self, name: str, text: str) -> None:
-        """Refuses `> FILE` behind a command that shows something: only keys writes a file."""
+        """Refuses `> FILE` after a command that shows something, because only `keys` writes a file."""
         before, mark, file = text.partition(">")
         if mark and name in SHOWING:
             # in quotes, because # begins a comment in sh
             command = f"'{name} {before.strip()}'" if before.strip() else name
             written = f"echo {command} | {SHELL} game.asm --quiet > {file.strip(' >') or 'FILE'}"
-            raise Mistake(f"{name} writes no file, and only keys takes `> FILE`; outside of the shell: {written}")
+            raise Mistake(f"{name} writes no file, and only keys takes `> FILE`; outside the shell, run {written}")
 
     def _keys_down(self, step: int) -> str:
         held = {key: down for (at, key), down in sorted(self.game.bench.events.items()) if at <= step}
@@ -90,8 +90,8 @@ class Looks(Commands):
     def do_screen(self, text: str) -> None:
         """screen
 
-        Draws the screen, a character for two pixels, or for four where the window is narrow. screen STEP answers as
-        the session does.
+        Draws the screen, one character for two pixels, or for four if the window is narrow. screen STEP answers as
+        chipbench debug does.
         """
         if self._is_at_step("screen", text):
             return
@@ -103,7 +103,7 @@ class Looks(Commands):
         """list [PLACE]
 
         Shows the lines of the source around the current one, which has the mark =>, or around a place. A breakpoint
-        has the mark *. An empty line shows the lines after them. `session list` shows the whole listing.
+        has the mark *. An empty line then shows the next lines. `session list` shows the whole listing.
         """
         listing = self.game.bench.listing
         if not listing:
@@ -120,7 +120,7 @@ class Looks(Commands):
         self._show_lines(listing, max(1, middle - LISTED // 2), current)
 
     def list_on(self) -> None:
-        """Shows the lines after those that were shown last."""
+        """Shows the lines after the last ones shown."""
         listing = self.game.bench.listing
         if self.list_end is None or self.list_end > len(listing):
             raise Mistake("this is the end of the source")
@@ -157,7 +157,7 @@ class Looks(Commands):
     def do_x(self, text: str) -> None:
         """x ADDRESS [N]
 
-        Shows N bytes of the memory, or 16. An address is a number, a name, a register, or a sum: x BALL 2, x I+2.
+        Shows N bytes of the memory, 16 by default. An address is a number, a name, a register, or a sum: x BALL 2, x I+2.
         """
         # GDB has the count in front: x/16 ADDRESS
         in_front = re.fullmatch(r"/(\d+)[a-z]*\s+(.*)", text)
@@ -176,7 +176,7 @@ class Looks(Commands):
     def do_dis(self, text: str) -> None:
         """dis [ADDRESS [N]]
 
-        Shows N words of the memory as instructions, or 8, from pc or from an address on.
+        Shows N words of the memory as instructions, 8 by default, from pc or from an address on.
         """
         words = self.words_of(text, 2, "dis [ADDRESS [N]]")
         state = self.game.state()
@@ -197,7 +197,7 @@ class Looks(Commands):
         return self.game.bench.listing[line - 1].value is None
 
     def go_on(self, command: str) -> None:
-        """Shows the bytes or the words after those that were shown last."""
+        """Shows the bytes or the words after the last ones shown."""
         if self.next_address is None or self.next_address >= 4096:
             raise Mistake("this is the end of the memory")
         left = 4096 - self.next_address
@@ -218,7 +218,7 @@ class Looks(Commands):
     def do_display(self, text: str) -> None:
         """display [VALUE]
 
-        Shows a value after each move, as print shows it. Without a value it shows those that are displayed.
+        Shows a value after each move, as print shows it. Without VALUE it shows all displayed values.
         """
         if not text:
             if not self.displayed:
@@ -232,18 +232,18 @@ class Looks(Commands):
     def do_undisplay(self, text: str) -> None:
         """undisplay [VALUE]
 
-        Displays a value no more, or none.
+        Stops displaying a value, or all values.
         """
         left = tuple(one for one in self.displayed if text and one.upper() != text.upper())
         if len(left) == len(self.displayed):
-            raise Mistake(f"{text or 'nothing'} is not displayed: display shows what is")
+            raise Mistake(f"{text} is not displayed: display shows all displayed values" if text else "no value is displayed")
         self.displayed = left
-        self.say(f"{text or 'nothing'} is displayed no more" if text else "nothing is displayed any more")
+        self.say(f"{text} is no longer displayed" if text else "no value is displayed any more")
 
     def do_info(self, text: str) -> None:
         """info WHAT
 
-        Shows what GDB shows under a name: registers, breakpoints, display, frame, stack, keys, source, line, symbols or
+        Shows what GDB shows by the same words: registers, breakpoints, display, frame, stack, keys, source, line, symbols or
         variables. regs, break, display, backtrace, keys, list and syms show the same.
         """
         words = text.split()
@@ -251,15 +251,15 @@ class Looks(Commands):
         if not found:
             raise Mistake(f"info takes one of these: {', '.join(INFO)}")
         if len(words) > 1:
-            one = ONE_OF.get(found[0], "nothing stands behind it")
+            one = ONE_OF.get(found[0], "it takes no second word")
             raise Mistake(f"info {found[0]} shows all of them: {one.format(words[1])}")
         self.carry_out(INFO[found[0]])
 
     def do_assert(self, text: str) -> None:
         """assert COMPARISON
 
-        Says so where a comparison of a register or a byte doesn't hold here; a script then ends with status 1. With --strict
-        it ends at once.
+        Reports an error if a comparison of a register or a byte doesn't hold here. A script then ends with status 1, and with
+        --strict it ends at once.
         """
         condition = self.game.values().condition(text)
         if condition is None:
@@ -268,12 +268,12 @@ class Looks(Commands):
         value = condition.subject.value(state)
         if not condition.holds(value, lambda name: register_value(state, name)):
             self.has_asserted_wrongly = True
-            raise Mistake(f"not so: {condition}; {condition.subject.shown} is {value} at step {state.step}")
+            raise Mistake(f"assertion failed: {condition}; {condition.subject.shown} is {value} at step {state.step}")
 
     def do_backtrace(self, text: str) -> None:
         """backtrace
 
-        Shows the calls that lead to where one is, the newest first.
+        Shows the calls that haven't returned, the newest first.
         """
         self.words_of(text, 0, "backtrace")
         state = self.game.state()
@@ -292,7 +292,7 @@ class Looks(Commands):
         """
         if text.startswith(">"):
             if not text[1:].strip():
-                raise Mistake("which file? keys > FILE")
+                raise Mistake("`>` needs a file: keys > FILE")
             self.save_keys(text[1:])
             return
         if text:
@@ -316,14 +316,14 @@ class Looks(Commands):
         self.say(*(found or ["no faults and no warnings"]), *self._behind_end())
 
     def _behind_end(self) -> list[str]:
-        """A sentence on the lines behind END, which aren't assembled; none where there are none."""
+        """A sentence about the lines after END, which aren't assembled; empty if there are none."""
         listing = self.game.bench.listing
         for line in listing:
             # a line that isn't active has no address
             if line.address is not None and END_LINE.fullmatch(line.text):
                 behind = sum(bool(one.text.strip()) for one in listing[line.number :])
                 are = "is" if behind == 1 else "are"
-                sentence = f"END in line {line.number} ends the source: {counted(behind, 'line')} behind it {are} not read"
+                sentence = f"END in line {line.number} ends the source: {counted(behind, 'line')} after it {are} not read"
                 return [sentence] if behind else []
         return []
 
@@ -340,7 +340,7 @@ class Looks(Commands):
             page = self._run(["explain", *(word.upper() for word in words)])
         except Mistake:
             raise Mistake(
-                f"no page on {word.upper()}: explain takes a code such as F9, W4 or S2, and without one it lists them; "
+                f"no page on {word.upper()}: explain takes a code such as F9, W4 or S2, and without one it lists all codes; "
                 "docs/MACHINE.md has the instructions"
             ) from None
         self.say(*page.splitlines())

@@ -30,10 +30,10 @@ class Moves(Commands):
         return Search(self.game, self.console.report)
 
     def go(self, step: int, *told: str) -> None:
-        """Goes to a step, and shows it. No step past that at which the machine stops."""
+        """Goes to a step, and shows it; not past the step at which the machine stops."""
         old = self.game.state()
         if not 0 <= step <= LAST_STEP:
-            raise Mistake(f"the steps are 0 to {LAST_STEP}")
+            raise Mistake(f"no step {step}: the steps are 0 to {LAST_STEP}")
         state = self.game.state(step)
         if state.stopped:
             step = bisect.bisect_left(range(step), True, key=lambda at: self.game.state(at).stopped is not None)
@@ -44,7 +44,7 @@ class Moves(Commands):
     def do_step(self, text: str) -> None:
         """step [N]
 
-        Makes N steps, or one.
+        Goes N steps forward, 1 by default.
         """
         below = re.fullmatch(r"-\s*(\d+)", text)
         if below is not None:
@@ -58,7 +58,7 @@ class Moves(Commands):
     def do_back(self, text: str) -> None:
         """back [N]
 
-        Goes N steps back, or one.
+        Goes N steps back, 1 by default.
         """
         self._check_is_behind_start()
         self.go(max(0, self.game.step - self._count(text, "back [N]")))
@@ -77,7 +77,7 @@ class Moves(Commands):
     def do_next(self, text: str) -> None:
         """next [N]
 
-        Makes N steps, or one, in this subroutine: a call is made to its end.
+        Goes N steps forward in this subroutine, 1 by default. A whole call counts as one step.
         """
         for _ in range(self._count(text, "next [N]")):
             self._check_is_running()
@@ -92,25 +92,25 @@ class Moves(Commands):
     def do_finish(self, text: str) -> None:
         """finish
 
-        Goes to where this subroutine has returned to its caller.
+        Goes forward until this subroutine has returned to its caller.
         """
         self.words_of(text, 0, "finish")
         self._take(self.search().first(self._is_outside(), self.game.step), "this subroutine doesn't return")
         self.show_place()
 
     def _is_outside(self) -> Test:
-        """Whether a step is outside of this subroutine. `Mistake` where one is in none."""
+        """Whether a step is outside this subroutine. Raises `Mistake` if no subroutine is running."""
         depth = len(self.game.state().call_stack)
         if depth == 0:
-            raise Mistake("this is no subroutine: the call stack is empty")
+            raise Mistake("no subroutine is running: the call stack is empty")
         return not_deeper(depth - 1)
 
     def do_until(self, text: str) -> None:
         """until PLACE | SUBJECT = NUMBER
 
-        Goes to the next step at a place, or at which a comparison becomes true. A place is a label, a line by its
-        number, or an address such as #2a0. A subject is a register (V0 to VF, I, PC, DT, ST), or a byte of the memory
-        such as [BALL+1]. The signs are = <> < <= > >=; != is <> too.
+        Goes to the next step at a place, or to the next at which a comparison becomes true. PLACE is a label, the number of a
+        line, or an address such as #2a0. SUBJECT is a register (V0 to VF, I, PC, DT, ST), or a byte of the memory such as
+        [BALL+1]. The signs are = <> < <= > >=; != means <> too.
         """
         if not text:
             raise Mistake("until takes a place or a comparison: until LOOP, until V3 = 5")
@@ -121,13 +121,13 @@ class Moves(Commands):
             return
         meant = advice.with_sign(text)
         if meant is not None:
-            raise Mistake(f"a comparison has a sign: until {meant}")
+            raise Mistake(f"a comparison needs a sign: until {meant}")
         address, _ = self.game.place(text)
         self._take(self._first(at_address(address)), f"{text} isn't reached")
         self.show_place()
 
     def _went_to_condition(self, text: str) -> bool:
-        """Goes to where a comparison becomes true; False where the text is none."""
+        """Goes to the step at which a comparison becomes true; False if the text isn't a comparison."""
         condition = self.game.values().condition(text)
         if condition is None:
             return False
@@ -140,7 +140,7 @@ class Moves(Commands):
         """watch SUBJECT
 
         Goes to the next step at which a register or a byte of the memory has another value, and says which step
-        changed it. SUBJECT is V0 to VF, I, PC, DT, ST, or such as [BALL+1].
+        changed it. SUBJECT is V0 to VF, I, PC, DT, ST, or a byte such as [BALL+1].
         """
         if not text:
             raise Mistake("watch takes a register or a byte of the memory: watch V3, watch [#300]")
@@ -181,8 +181,8 @@ class Moves(Commands):
     def do_break(self, text: str) -> None:
         """break [PLACE [if SUBJECT = NUMBER]]
 
-        Sets a breakpoint at a place, as for until. With `if` the breakpoint counts only where a comparison of a register
-        holds. Both of its sides are read at each step: break LOOP if V3 = V4. Without a place it lists the breakpoints.
+        Sets a breakpoint at a place, as for until. With `if` the run stops there only while a comparison of a register holds,
+        as in break LOOP if V3 = V4. Both sides are read at each step. Without PLACE it lists the breakpoints.
         """
         if not text:
             self.say(*(f"breakpoint {point}" for point in self.game.breakpoints) if self.game.breakpoints else ["no breakpoints"])
@@ -192,7 +192,7 @@ class Moves(Commands):
     def do_tbreak(self, text: str) -> None:
         """tbreak PLACE [if SUBJECT = NUMBER]
 
-        Sets a breakpoint as break does, which is removed where one stops at it.
+        Sets a breakpoint as break does, and removes it once the run stops there.
         """
         if not text:
             raise Mistake("tbreak takes a place: tbreak LOOP, tbreak LOOP if V3 = 5")
@@ -216,19 +216,19 @@ class Moves(Commands):
         condition = self.game.values().condition(text)
         if condition is None or condition.subject.register is None:
             meant = advice.with_sign(text)
-            raise Mistake(f"behind `if` stands a comparison of a register: break LOOP if {meant or 'V3 = 5'}")
+            raise Mistake(f"`if` takes a comparison of a register: break LOOP if {meant or 'V3 = 5'}")
         return condition
 
     def do_clear(self, text: str) -> None:
         """clear [PLACE]
 
-        Removes the breakpoints at a place, or all.
+        Removes the breakpoints at a place, or all breakpoints.
         """
         if not text or (text.lower() == "all" and "ALL" not in self.game.symbols()):
             removed = list(map(str, self.game.breakpoints))
             self.game.breakpoints.clear()
-            told = f"{counted(len(removed), 'breakpoint')} removed: {', '.join(removed)}" if removed else "there was no breakpoint to remove"
-            self.say(told)
+            told = f"{counted(len(removed), 'breakpoint')} removed: {', '.join(removed)}"
+            self.say(told if removed else "there is no breakpoint to remove")
             return
         left = [point for point in self.game.breakpoints if text not in (point.place, str(point))]
         if len(left) == len(self.game.breakpoints):
@@ -257,7 +257,7 @@ class Moves(Commands):
         return lambda line: any(test(line) for test in tests)
 
     def _drop_temporary(self) -> None:
-        """Removes the temporary breakpoints at which one has stopped."""
+        """Removes the temporary breakpoints at which the run has stopped."""
         state = self.game.state()
 
         def is_met(point: Breakpoint) -> bool:
@@ -284,13 +284,13 @@ class Moves(Commands):
         """
         self.words_of(text, 0, "reverse")
         found = self.search().last(self._breakpoint_test(), self.game.step)
-        self.go(found or 0, *([] if found is not None else ["no breakpoint before: this is the start"]))
+        self.go(found or 0, *([] if found is not None else ["no breakpoint is before this step: this is the start"]))
         self._drop_temporary()
 
     def do_reverse_next(self, text: str) -> None:
         """reverse-next
 
-        Goes a step back in this subroutine: over a call that was made to its end.
+        Goes one step back in this subroutine. A whole call counts as one step.
         """
         self.words_of(text, 0, "reverse-next")
         self._check_is_behind_start()
@@ -310,21 +310,21 @@ class Moves(Commands):
     def do_blame(self, text: str) -> None:
         """blame
 
-        Finds the press or the release that makes the machine stop, by halving the key events: without it, and without those
-        after it, the machine runs past that step. Goes to its step.
+        Finds the press or the release that makes the machine stop, by halving the key events, and goes to its step. Without it
+        and all later key events the machine runs past the step where it stops now.
         """
         self.words_of(text, 0, "blame")
         found = self.search().blamed()
         if found.stop is None:
-            raise Mistake(f"the machine doesn't stop up to step {LAST_STEP}: there is nothing to blame a key for")
+            raise Mistake(f"the machine doesn't stop up to step {LAST_STEP}, so there is no stop to blame a key for")
         stopped = self.game.state(found.stop)
         cause = f"the machine stops for {self.stop_text(stopped.stopped or '')}, at step {found.stop}"
         if found.event is None:
             raise Mistake(f"no key is to blame: {cause}, also without any key")
         step, key = found.event
         what = f"the {'press' if found.is_press else 'release'} of key {key:X} at step {step}"
-        blamed = f"{what} is to blame: with the key events up to it the machine stops by then"
-        self.go(step, f"{cause}; {blamed}, with those before it alone it doesn't")
+        blamed = f"{what} is to blame: with the key events up to this one the machine stops by then"
+        self.go(step, f"{cause}; {blamed}, and with only the earlier ones it doesn't")
 
     def do_run(self, text: str) -> None:
         """run
@@ -334,14 +334,14 @@ class Moves(Commands):
         self.words_of(text, 0, "run")
         self._take_or_stop(self.search().first(self._breakpoint_test(), -1))
 
-    # -- what they share
+    # -- helpers
 
     def _first(self, test: Test) -> Found:
         self._check_is_running()
         return self.search().first(test, self.game.step)
 
     def _take_or_stop(self, found: Found) -> None:
-        """Goes to what was found, or to where the machine has stopped before."""
+        """Goes to the step that was found, or to the earlier step at which the machine stopped."""
         if found.step is None and found.is_stopped:
             found = Found(found.last, found.last, True)
         self._take(found, "there is no breakpoint and no stop")
@@ -355,7 +355,7 @@ class Moves(Commands):
             self.game.step = found.step
 
     def _refuse(self, found: Found, failed: str) -> None:
-        """Says why a search has found nothing. One stays where one is."""
+        """Says why a search has found nothing, and stays at the current step."""
         here = f"still at step {self.game.step}"
         if found.is_stopped:
             code = self.game.state(found.last).stopped or ""
@@ -377,5 +377,5 @@ class Moves(Commands):
             return 1
         number = self.game.step_number(text)
         if number == 0:
-            raise Mistake(f"0 steps lead nowhere: {form}")
+            raise Mistake(f"expected 1 step or more: {form}")
         return number

@@ -1,4 +1,4 @@
-"""Finds steps of a run by the lines that `chipbench trace` prints, from the step where one is."""
+"""Finds steps of a run in the lines that `chipbench trace` prints, from the current step on."""
 
 from __future__ import annotations
 
@@ -18,12 +18,12 @@ from .values import Condition, ReadRegister, Subject, register_value
 
 LAST_STEP = 1_000_000
 BLOCK = 1 << 18
-# how many writes without a change are looked at before the shell says at which step it is
+# the shell reports its step after so many writes that change nothing
 TOLD_STEPS = 1000
-# how long a search goes on before it says at which step it is, and how often it does so
+# the seconds before a search first reports its step, and between two reports
 SILENT_SECONDS, TOLD_SECONDS = 0.7, 0.2
 
-#: Where the columns of a line stand behind its step (docs/FORMATS.md). `depth` is decimal, and goes on to the next blank.
+#: The columns of a line after its step (docs/FORMATS.md). `depth` is decimal, and ends at the next blank.
 COLUMNS = {
     "PC": slice(0, 4),
     **{f"V{register:X}": slice(10 + 3 * register, 12 + 3 * register) for register in range(16)},
@@ -43,7 +43,7 @@ Report = Callable[[int], None]
 
 @dataclass(frozen=True)
 class Found:
-    """What a search has found: a step, or None. `last` is the step that was looked at last; there the machine may have stopped."""
+    """The result of a search: a step, or None. `last` is the last step that was looked at; the machine may have stopped there."""
 
     step: int | None
     last: int
@@ -66,8 +66,8 @@ def depth_of(line: bytes) -> int:
 
 
 def may_write(line: bytes, address: int) -> bool:
-    """Whether the step may write a byte: `LD B, Vx` and `LD [I], Vx` write at most 16 bytes from I on. Whether one does is for the
-    program to say."""
+    """Whether the step may write a byte: `LD B, Vx` and `LD [I], Vx` write at most 16 bytes from I on. Only the program knows
+    whether it does."""
     return line[WORD][2:] in (b"33", b"55") and (address - int(line[COLUMNS["I"]], 16)) % 4096 < 16
 
 
@@ -88,7 +88,7 @@ def not_deeper(depth: int) -> Test:
 
 
 def register_test(condition: Condition) -> Test:
-    """Whether a comparison of a register holds at a line of a trace: both of its sides are read there."""
+    """Whether a comparison of a register holds at a line of a trace, from which both sides are read."""
     name = condition.subject.register
     assert name is not None
     column = COLUMNS[name]
@@ -96,7 +96,7 @@ def register_test(condition: Condition) -> Test:
 
 
 def becomes(test: Test, is_now: bool) -> Test:
-    """Whether a test holds at a line and didn't hold at the one before, where it is given line after line."""
+    """Whether a test holds at a line and didn't hold at the line before. The result must be called with each line in turn."""
     held = is_now
 
     def has_become(line: bytes) -> bool:
@@ -108,7 +108,7 @@ def becomes(test: Test, is_now: bool) -> Test:
 
 
 def becomes_of_byte(condition: Condition, is_now: bool) -> Callable[[int, bytes], bool]:
-    """Whether a comparison of a byte holds and didn't hold where it was tested last."""
+    """Whether a comparison of a byte holds and didn't hold the last time it was tested."""
     held = is_now
 
     def has_become(value: int, line: bytes) -> bool:
@@ -120,14 +120,14 @@ def becomes_of_byte(condition: Condition, is_now: bool) -> Callable[[int, bytes]
 
 
 class Search:
-    """The lines of a trace from one step to another, in their order, while `report` is told now and then how far it is."""
+    """The lines of a trace from one step to another, in order. `report` gets the current step now and then."""
 
     def __init__(self, game: Game, report: Report) -> None:
         self._game = game
         self._report = report
 
     def lines(self, first: int, last: int = LAST_STEP) -> Iterator[Line]:
-        """The steps from `first` to `last`, or to the one at which the machine has stopped. `Refused` where a line has a fault."""
+        """The steps from `first` to `last`, or to the step at which the machine stops. Raises `Refused` if a line has a fault."""
         self._game.state()
         with tempfile.TemporaryDirectory(prefix="chipbench-shell-") as folder:
             arguments = self._arguments(Path(folder), first, last)
@@ -165,7 +165,7 @@ class Search:
                     if line.startswith((b"# profile ", b"# quirks ")):
                         continue
                     if line != HEAD:
-                        raise ChipbenchError("`trace` prints other columns than the shell knows")
+                        raise ChipbenchError("the program isn't of the shell's version: its `trace` prints other columns")
                     is_head = False
                     continue
                 number, _, columns = line.partition(b" ")
@@ -245,8 +245,8 @@ class Search:
     # -- key events
 
     def blamed(self) -> Blamed:
-        """The key event without which, and without those after it, the machine runs past the step at which it stops. `Refused` where a
-        line has a fault."""
+        """The key event that makes the machine stop: without it and all later ones, the machine runs past that step. Raises
+        `Refused` if a line has a fault."""
         stop = self.stop()
         if stop is None:
             return Blamed(None, None)

@@ -1,4 +1,4 @@
-"""The words of `chipbench debug`, taken as they are, with names where a number may stand."""
+"""The commands of `chipbench debug`, taken as they are, except that a name may replace a number."""
 
 from __future__ import annotations
 
@@ -25,9 +25,9 @@ SESSION_WORDS = {
     "screen": "screen STEP",
     "dis": "dis STEP ADDRESS N",
 }
-# words that the shell has too, with the number of arguments that makes them the session's
+# commands that the shell has too, with the number of arguments that makes them the session's
 SHARED = {"regs": 1, "screen": 1, "dis": 3}
-#: What shows the same at the current step.
+#: The commands that show the same at the current step.
 HERE = {
     "mem": "x ADDRESS [N] shows the bytes at this step",
     "regs": "regs alone shows the registers at this step",
@@ -44,7 +44,7 @@ PLAIN = re.compile(r"[0-9]+|#[0-9A-Fa-f]+")
 
 
 def is_of_session(line: str) -> bool:
-    """Whether a line is a command of the session, by its first word and, where the shell has that too, by the words after it.
+    """Whether a line is a command of the session, by its first word and, if the shell has the same word, by those after it.
 
     >>> is_of_session("regs 1000"), is_of_session("regs"), is_of_session("del 3"), is_of_session("dis LOOP 4")
     (True, False, True, False)
@@ -70,7 +70,7 @@ class SessionWords(Commands):
         self.session_command(text)
 
     def session_command(self, line: str) -> None:
-        """Prints the answer of the session to a command, and tells what a refusal means."""
+        """Prints the answer of the session to a command, and says what a refusal means."""
         command, unknown = self._with_numbers(line.lstrip())
         before = self.game.edition()
         try:
@@ -84,7 +84,7 @@ class SessionWords(Commands):
             raise Mistake(self._refusal(answer[3:].strip(), command.split()[0], unknown))
 
     def _refusal(self, code: str, word: str, unknown: str) -> str:
-        """What a refusal means; for a command that isn't read also its form, and the name in it that isn't known."""
+        """The sentence for a refusal. For a command that can't be read, also its form, and the unknown name in it."""
         said = self.game.sentence(code)
         if code != "C1" or word not in SESSION_WORDS:
             return said
@@ -92,8 +92,8 @@ class SessionWords(Commands):
         return f"{said}: expected {SESSION_WORDS[word]}{f'; {unknown}' if unknown else ''}{here}"
 
     def _with_numbers(self, line: str) -> tuple[str, str]:
-        """The command with numbers for names, and what is wrong with the first one that has no value. That one stays, and the
-        session refuses it."""
+        """The command with numbers in place of names, and the mistake about the first name that has no value. That name stays,
+        and the session refuses it."""
         word, *arguments = line.split(" ", 2) if line.startswith(("ins ", "rep ")) else line.split()
         if word not in SESSION_WORDS or not arguments:
             return line, ""

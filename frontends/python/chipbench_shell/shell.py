@@ -1,4 +1,4 @@
-"""The loop of the shell: reads a line, finds its command by its beginning, carries it out, and tells what was refused."""
+"""The loop of the shell: reads a line, finds its command by its first letters, carries it out, and reports what was refused."""
 
 from __future__ import annotations
 
@@ -32,10 +32,10 @@ GROUPS = {
     "Go": "step back goto next finish until continue reverse reverse-next reverse-finish run watch who blame break tbreak clear",
     "Look": "regs screen list x dis print display undisplay backtrace info keys check explain profile",
     "Edit": "edit insert delete undo redo press release save reload",
-    "Besides": "assert session help quit",
+    "Other": "assert session help quit",
 }
 COMMANDS = tuple(" ".join(GROUPS.values()).split())
-# beginnings that several commands have, and the one that is meant, as in GDB
+# short forms that several commands begin with, and the command that each means, as in GDB
 PREFERRED = {
     **{"reverse"[:length]: "reverse" for length in range(3, 7)},
     "s": "step", "b": "break", "ba": "back", "bac": "back", "n": "next", "c": "continue", "l": "list", "f": "finish", "u": "until",
@@ -48,11 +48,11 @@ PREFERRED = {
 # commands of the program that aren't commands here
 OUTSIDE = ("asm", "explore", "picture", "prove", "test", "trace")
 REPEATED = {"step", "back", "next", "finish", "until", "continue", "reverse", "reverse-next", "reverse-finish", "watch", "who"}
-# commands behind which a name of the source may stand
+# commands that take a name of the source
 WITH_NAMES = {
     *"until break tbreak clear list x dis print display undisplay assert edit insert delete goto watch who".split(),
 }
-# those behind which a register may stand
+# commands that take a register
 WITH_REGISTERS = {"watch", "until", "who", "print", "display", "assert"}
 PROMPT = "> "
 #: The answers to the question at the end.
@@ -61,7 +61,7 @@ FORM_WIDTH = 26
 
 
 def form_of(command: Callable[..., None]) -> tuple[str, str]:
-    """The form of a command, and what it does."""
+    """The form of a command, and the text of its help."""
     form, _, about = (inspect.getdoc(command) or "").partition("\n\n")
     return form, " ".join(about.split())
 
@@ -85,7 +85,7 @@ def command_named(word: str) -> str:
     if small.startswith((";", "//")):
         raise Mistake(advice.COMMENT)
     if small in OUTSIDE:
-        raise Mistake(f"'{small}' isn't a command of the shell: save, and run `chipbench {small}` outside of it")
+        raise Mistake(f"'{small}' isn't a command of the shell: save, and run `chipbench {small}` outside it")
     if small in advice.OTHER_WORDS:
         raise Mistake(f"no command '{word}': {advice.OTHER_WORDS[small]}")
     raise Mistake(f"no command '{word}'{near(small, [*COMMANDS, *SESSION_WORDS])}; help lists the commands")
@@ -111,20 +111,20 @@ class Shell(Moves, Looks, Edits, SessionWords):
 
     def banner(self) -> str:
         faults = self.game.faults()
-        kind = "; a new file, made by save" if self.game.is_new else ""
+        kind = "; a new file, which save makes" if self.game.is_new else ""
         lines = counted(len(self.game.bench.lines), "line")
         state = counted(len(faults), "fault") + ": check shows them" if faults else "no faults"
         return f"{self.game.name}: {lines}, {state}{kind}; help lists the commands"
 
     def left_before(self) -> list[str]:
-        """Where edits are that another shell on a source of this name has left."""
+        """Names the files with the edits that another shell on a source of this name has left."""
         lines = kept_before(self.game.lines_name)[:1]
         keys = kept_before(self.game.keys_name.name)[:1]
-        told = [f"another shell has edits that weren't saved in {path}" for path in lines]
-        return told + [f"another shell has key events that weren't saved in {path}" for path in keys]
+        told = [f"another shell left unsaved edits in {path}" for path in lines]
+        return told + [f"another shell left unsaved key events in {path}" for path in keys]
 
     def run(self) -> int:
-        """Reads commands up to the end, and returns the status. Whatever ends it, what isn't saved is kept."""
+        """Reads commands up to the end, and returns the status. However it ends, it keeps unsaved edits."""
         history = History(self.console)
         history.load()
         with self._completing(), self._signals_taken():
@@ -158,7 +158,7 @@ class Shell(Moves, Looks, Edits, SessionWords):
             raise SystemExit(128 + signal.SIGINT)
 
     def onecmd(self, line: str) -> bool:
-        """Carries out one line. What is refused is told, and changes nothing."""
+        """Carries out one line. A refused line changes nothing, and the shell says why it was refused."""
         step, breakpoints, self._typed = self.game.step, list(self.game.breakpoints), line
         try:
             self._follow_file()
@@ -208,7 +208,7 @@ class Shell(Moves, Looks, Edits, SessionWords):
                 raise Mistake(f"no command '{word}': {meant}") from None
             raise
         self.check_is_no_redirection(name, text)
-        # what stands behind a line's number is text, blanks included
+        # everything after the blank behind a line's number is text, blanks included
         given = text if name in ("edit", "insert") else text.strip()
         self._last_command = name
         if name in REPEATED:
@@ -216,12 +216,12 @@ class Shell(Moves, Looks, Edits, SessionWords):
         self.method(name)(given)
 
     def method(self, name: str) -> Callable[[str], None]:
-        """What carries out a command."""
+        """The method that carries out a command."""
         found: Callable[[str], None] = getattr(self, f"do_{name.replace('-', '_')}")
         return found
 
     def _check_is_no_value(self, text: str) -> None:
-        """Refuses a register, a byte or a name that is typed alone, or with a value that it should get."""
+        """Refuses a register, a byte or a name that is typed alone, or with a value to set it to."""
         shown, *given = (part.strip() for part in text.split("=", 1))
         is_named = shown.upper() in (*REGISTERS, *self.game.symbols())
         if not is_named and not re.fullmatch(r"\[[^\]]*\]", shown):
@@ -232,13 +232,13 @@ class Shell(Moves, Looks, Edits, SessionWords):
 
     @staticmethod
     def _split(line: str) -> tuple[str, str]:
-        """The first word of a line, and what is behind the blanks after it. A slash ends the word, as in GDB's x/16."""
+        """The first word of a line, and the text after the blanks that follow it. A slash ends the word, as in GDB's x/16."""
         found = re.match(r"\s*(\?|[#A-Za-z][\w-]*|\S+)(.*)", line, re.DOTALL)
         assert found is not None
         return found[1], found[2].lstrip()
 
     def _repeat(self) -> None:
-        """What an empty line does at a terminal: the last step again, or what comes after what was shown."""
+        """Carries out an empty line at a terminal: repeats the last move, or shows the next lines, bytes or words."""
         if not self.console.is_terminal:
             return
         if self._last_command == "list":
@@ -251,7 +251,7 @@ class Shell(Moves, Looks, Edits, SessionWords):
     # -- the file
 
     def _follow_file(self) -> None:
-        """Takes the lines of the file where another editor has changed it. Edits that aren't saved stay instead."""
+        """Takes the lines of the file if another editor has changed it. Unsaved edits stay instead."""
         content = self.game.look_at_file()
         if self.game.is_gone and not self._is_gone_told:
             self.say(f"{self.game.name} is gone: the lines stay here, and save writes them")
@@ -260,8 +260,8 @@ class Shell(Moves, Looks, Edits, SessionWords):
             return
         if self.game.is_edited:
             self.say(
-                f"{self.game.name} changed, and the edits here aren't saved: they stay; "
-                "reload takes the file, save over writes it"
+                f"{self.game.name} changed, but the unsaved edits here stay; "
+                "reload reads the file, save over writes over it"
             )
             return
         snapshot = Snapshot(self.game)
@@ -284,13 +284,13 @@ class Shell(Moves, Looks, Edits, SessionWords):
             return
         word = arg.split()[0]
         if word in SESSION_WORDS and word not in COMMANDS:
-            self.say(f"{SESSION_WORDS[word]}: answered as chipbench debug answers it")
+            self.say(f"{SESSION_WORDS[word]}: chipbench debug answers this command")
             return
         form, about = form_of(self.method(command_named(word)))
         self.say(form, *self._filled(about))
 
     def _filled(self, text: str) -> list[str]:
-        """A text in lines that the window takes."""
+        """A text wrapped to the width of the window."""
         return textwrap.wrap(text, max(self.console.width, 20))
 
     def _list_commands(self) -> None:
@@ -298,7 +298,7 @@ class Shell(Moves, Looks, Edits, SessionWords):
             self.say(self.console.paint("strong", group))
             for name in names.split():
                 self.say(*self._row_of(*form_of(self.method(name))))
-        self.say(*self._filled("A command is known by its beginning. help COMMAND says more."))
+        self.say(*self._filled("The first letters of a command are enough. help COMMAND says more."))
 
     def _row_of(self, form: str, about: str) -> list[str]:
         """A command and the first sentence on it, side by side; in a narrow window the form alone."""
@@ -313,11 +313,11 @@ class Shell(Moves, Looks, Edits, SessionWords):
     def do_quit(self, text: str) -> None:
         """quit [yes | no]
 
-        Ends the shell, as Ctrl+D does. It asks first where lines or key events aren't saved; yes saves them, and no gives
-        them up.
+        Ends the shell, as Ctrl+D does. It asks first if lines or key events aren't saved: yes saves them, and no discards
+        them.
         """
         if text and text not in ANSWERS:
-            raise Mistake("quit asks where something isn't saved: quit yes saves it, quit no gives it up")
+            raise Mistake("expected quit, quit yes (saves everything) or quit no (discards everything unsaved)")
         if not self.game.unsaved or (not text and not self.console.is_terminal):
             self.is_ended = True
             return
@@ -343,7 +343,7 @@ class Shell(Moves, Looks, Edits, SessionWords):
             self.save_keys("")
 
     def _ask_for_save(self) -> str:
-        """The answer to whether the edits are saved: yes, no or stay. It is asked until it has one."""
+        """Asks whether to save the edits until the user answers yes, no or stay, and returns the answer."""
         while True:
             with self.console.without_history():
                 typed = self.console.read(f"save {self.game.unsaved}? yes, no, or stay: ").strip().lower()
@@ -353,15 +353,15 @@ class Shell(Moves, Looks, Edits, SessionWords):
             self.say(*(f"{answer:5} {what}" for answer, what in ANSWERS.items()))
 
     def keep(self) -> None:
-        """Keeps what was typed at a terminal and isn't saved, so that a shell that is killed loses none of it. A script is there
-        still, so what it has changed is kept at the end alone."""
+        """Keeps unsaved edits that were typed at a terminal, so that a shell that is killed loses none. Edits of a script are kept
+        only at the end, because the script still exists."""
         if self.console.is_terminal:
-            # where no folder can be written, that is told at the end
+            # if no folder can be written, the shell says so at the end
             with contextlib.suppress(OSError):
                 self.game.keep_unsaved()
 
     def _keep_at_end(self) -> bool:
-        """Keeps what isn't saved, unless it was given up, and says where. False where there is nothing to keep."""
+        """Keeps unsaved edits, unless the user gave them up, and says where. False if there is nothing to keep."""
         try:
             if self._is_given_up:
                 self.game.drop_unsaved()
@@ -376,14 +376,14 @@ class Shell(Moves, Looks, Edits, SessionWords):
 
     @contextlib.contextmanager
     def _signals_taken(self) -> Iterator[None]:
-        """Takes the signals of the terminal. Where it goes away, or the shell is ended from outside, `run` keeps what isn't saved."""
+        """Handles the signals of the terminal. If it goes away, or the shell is ended from outside, `run` keeps unsaved edits."""
 
         def end(number: int, _: object) -> None:
             raise SystemExit(128 + number)
 
         before = {number: signal.signal(number, end) for number in (signal.SIGHUP, signal.SIGTERM)}
         if self.console.is_terminal:
-            # what started the shell may ignore Ctrl+C, and who types it means the shell
+            # the parent process may ignore Ctrl+C, but a user who types it means the shell
             before[signal.SIGINT] = signal.signal(signal.SIGINT, signal.default_int_handler)
         try:
             yield
@@ -411,17 +411,17 @@ class Shell(Moves, Looks, Edits, SessionWords):
         return sorted(name for name in {*COMMANDS, *SESSION_WORDS} if name.startswith(text))
 
     def complete(self, text: str, state: int) -> str | None:
-        """The completions of what is typed, one after another, as readline asks for them."""
+        """Returns the completions of the typed text one after another, as readline asks for them."""
         if state == 0:
             line, start = readline.get_line_buffer(), readline.get_begidx()
             try:
                 self._offered = self.completions(line[:start], text)
-            except Exception:  # what isn't known can't be offered
+            except Exception:  # an unknown command has no completions
                 self._offered = []
         return self._offered[state] if state < len(self._offered) else None
 
     def completions(self, before: str, text: str) -> list[str]:
-        """What may stand where `text` is, behind the words before it."""
+        """The words that may replace `text`, given the words before it."""
         words = before.split()
         if not words:
             return [name + " " for name in self.completenames(text)]

@@ -1,4 +1,4 @@
-"""What is typed where a number may stand: numbers, names, registers and bytes of the memory, with `+` and `-` between them."""
+"""Reads typed values: numbers, names, registers and bytes of the memory, joined by `+` and `-`."""
 
 from __future__ import annotations
 
@@ -19,11 +19,11 @@ TERM = re.compile(
     )(?![A-Za-z0-9_])\s*""",
     re.VERBOSE,
 )
-# a letter as other assemblers and C write it
+# a letter in quotes, as in other assemblers and in C
 LETTER = re.compile(r"'.'|\".\"")
-# before a sum: it is below 0, which its caller tells
+# the sign before a sum below 0, which the caller refuses
 SIGN = re.compile(r"\s*-")
-# what joins two comparisons in other languages
+# words and signs that join two comparisons in other languages
 JOIN = re.compile(r"\s(?:and|or|&&|\|\|)(?:\s|$)", re.IGNORECASE)
 COMPARISON = re.compile(r"\s*(==|!=|<>|<=|>=|=|<|>)\s*")
 COMPARED: dict[str, Callable[[int, int], bool]] = {
@@ -41,7 +41,7 @@ LAST_ADDRESS = 4095
 
 
 class Mistake(Exception):
-    """What was typed can't be carried out. The text says why, and what would be right."""
+    """A typed command can't be carried out. The text says why, and what would be right."""
 
 
 def counted(number: int, what: str) -> str:
@@ -54,7 +54,7 @@ def counted(number: int, what: str) -> str:
 
 
 def near(word: str, known: Iterable[str]) -> str:
-    """A question for a word that is like a known one; empty where none is.
+    """A question that suggests the known word most like this one; empty if none is like it.
 
     >>> near("hlep", ["help", "step"])
     '; did you mean help?'
@@ -72,7 +72,7 @@ def register_value(state: State, name: str) -> int:
 
 @dataclass(frozen=True)
 class Subject:
-    """What a command looks at: a register, or the byte of the memory at an address."""
+    """The value that a command looks at: a register, or the byte of the memory at an address."""
 
     register: str | None
     address: int = 0
@@ -99,7 +99,7 @@ ReadRegister = Callable[[str], int]
 
 @dataclass(frozen=True)
 class Sum:
-    """A number, and registers that are added to it or subtracted from it at each step, as `V4 + 1` has them."""
+    """A number, and registers that are added to it or subtracted from it at each step, as in `V4 + 1`."""
 
     number: int
     registers: tuple[tuple[int, str], ...]
@@ -121,7 +121,7 @@ class Condition:
     right: Sum
 
     def holds(self, value: int, read: ReadRegister) -> bool:
-        """Whether it holds where the subject has a value, and the registers those that `read` gives."""
+        """Whether the comparison holds if the subject has this value and the registers have those that `read` gives."""
         return COMPARED[self.sign](value, self.right.value(read))
 
     def __str__(self) -> str:
@@ -149,14 +149,14 @@ class Values:
     def sum(self, text: str) -> Sum:
         """A sum of numbers, names and registers, whose registers are read later."""
         if LETTER.fullmatch(text.strip()):
-            raise Mistake(f"{text.strip()} is a letter, and letters have no numbers here: a number such as 65 or #41")
+            raise Mistake(f"{text.strip()} is a letter, and letters have no values here: type a number such as 65 or #41")
         begin = SIGN.match(text)
         number, place, sign = 0, begin.end() if begin else 0, -1 if begin else 1
         registers: list[tuple[int, str]] = []
         while True:
             found = TERM.match(text, place)
             if found is None:
-                raise Mistake(f"'{text.strip()}' is not a number: 100, #2a0, 0x2a0, a name, a register, or a sum of these")
+                raise Mistake(f"'{text.strip()}' is not a number: expected 100, #2a0, 0x2a0, a name, a register, or a sum of these")
             term = self._term(found)
             if isinstance(term, str):
                 registers.append((sign, term))
@@ -166,7 +166,7 @@ class Values:
             if place == len(text):
                 return Sum(number, tuple(registers), text.strip())
             if text[place] not in "+-":
-                raise Mistake(f"'{text.strip()}' is not a number: only + and - may stand between its parts")
+                raise Mistake(f"'{text.strip()}' is not a number: only + and - may join its parts")
             sign = 1 if text[place] == "+" else -1
             place += 1
 
@@ -212,12 +212,12 @@ class Values:
         if found is None:
             return None
         if JOIN.search(text):
-            raise Mistake("one comparison at a time: `and` and `or` join none")
+            raise Mistake("expected one comparison: `and` and `or` can't join two")
         right = self.sum(text[found.end() :])
         if right.number < 0 and not right.registers:
             raise Mistake(f"'{right.shown}' is below 0")
         subject = self.subject(text[: found.start()])
         least = right.number + (found[1] == ">")
         if not right.registers and least > subject.most and found[1] in ("=", "==", ">", ">="):
-            raise Mistake(f"{subject.shown} is at most {subject.most}: {subject.shown} {found[1]} {right} is never so")
+            raise Mistake(f"{subject.shown} is at most {subject.most}: {subject.shown} {found[1]} {right} is never true")
         return Condition(subject, found[1], right)

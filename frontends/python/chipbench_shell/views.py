@@ -1,4 +1,4 @@
-"""What the shell shows of a machine and a source, as plain text for a window of some width."""
+"""Draws a machine and a source as plain text for a window of some width."""
 
 from __future__ import annotations
 
@@ -13,9 +13,9 @@ ASCII_LETTERS = " '.:"
 # by the pixels at the upper left, upper right, lower left and lower right, the last one the highest bit
 QUARTER_BLOCKS = " ▘▝▀▖▌▞▛▗▚▐▜▄▙▟█"
 BYTES_OF_ROW = 16
-#: The lone surrogates in which Python has the bytes 128 to 255 that are not UTF-8: their low eight bits are the byte.
+#: The lone surrogates by which Python represents the bytes 128 to 255 that are not UTF-8: their low eight bits are the byte.
 BYTE_SURROGATES = range(0xDC80, 0xDD00)
-#: What is shown of a word that was typed has at most so many characters.
+#: At most this many characters of a typed word are shown.
 LONGEST_WORD = 80
 
 
@@ -73,7 +73,7 @@ def printable(text: str) -> str:
 
 
 def escaped(code: int) -> str:
-    """A character by its number; a byte that is not UTF-8 by its own, which stands in a lone surrogate."""
+    """The escape of a character by its number; for a byte that is not UTF-8, the number of the byte."""
     if code in BYTE_SURROGATES:
         code &= 0xFF
     if code < 0x100:
@@ -94,7 +94,7 @@ def shortened(text: str, typed: str) -> str:
 
 
 def cut(text: str, width: int) -> str:
-    """A text of at most `width` characters; two full stops stand for what is left out.
+    """A text of at most `width` characters; two full stops replace the rest.
 
     >>> cut("LD V0, 5", 6)
     'LD V..'
@@ -103,7 +103,7 @@ def cut(text: str, width: int) -> str:
 
 
 def differences(old: State, new: State, is_of_image: Container[int]) -> list[str]:
-    """What differs between two states whose screens and memories were read. Bytes that the images differ in don't count."""
+    """Names the differences between two states whose screens and memories were read, without bytes that differ in the images."""
     found = [f"V{number:X}" for number in range(16) if old.v[number] != new.v[number]]
     pairs = {
         "PC": (old.pc, new.pc),
@@ -126,7 +126,7 @@ def differences(old: State, new: State, is_of_image: Container[int]) -> list[str
 
 
 def lit_differences(old: Screen, new: Screen) -> int:
-    """How many pixels differ, of the larger size where the sizes do."""
+    """The number of pixels that differ, in the larger size if the sizes differ."""
     rows = set(old.stored) | set(new.stored)
     stored = sum((old.stored.get(row, 0) ^ new.stored.get(row, 0)).bit_count() for row in rows)
     return stored if old.high or new.high else stored // 4

@@ -164,7 +164,7 @@ class Moves(AtTerminal):
             ("rc", "step 21, 020c, line 9: UP:     ADD V0, 1"),
         )
         terminal.ask("clear")
-        self.answers(terminal, ("reverse", "no breakpoint before: this is the start\nstep 0, 0200, line 3: START:  LD V0, 0"))
+        self.answers(terminal, ("reverse", "no breakpoint is before this step: this is the start\nstep 0, 0200, line 3: START:  LD V0, 0"))
 
     def test_run(self) -> None:
         terminal = self.opened()
@@ -327,7 +327,7 @@ class Looks(AtTerminal):
         for command in ("step [N]", "watch SUBJECT", "press KEY [at STEP]", "quit"):
             self.assertIn(f"\n  {command}", shown)
         self.assertTrue(terminal.ask("help ste").startswith("step [N]\n"))
-        self.assertEqual(terminal.ask("help kins"), "kins STEP KEY down|up: answered as chipbench debug answers it")
+        self.assertEqual(terminal.ask("help kins"), "kins STEP KEY down|up: chipbench debug answers this command")
 
     def test_each_command_has_its_help(self) -> None:
         terminal = self.opened(columns=200)
@@ -380,7 +380,7 @@ class Edits(AtTerminal):
             terminal,
             ("delete 1", "1 line deleted; the state at step 0 is as it was"),
             ("delete 9 10", "2 lines deleted; the state at step 0 is as it was"),
-            ("delete UP", "1 line deleted; line 4 has a fault: F9: undefined name; there are no states until it is fixed"),
+            ("delete UP", "1 line deleted; line 4 has a fault: F9: undefined name; the game can't run until it is fixed"),
             ("undo", "undone; no line has a fault any more: the state at step 0 can be shown"),
         )
 
@@ -431,7 +431,7 @@ class Edits(AtTerminal):
 
     def test_a_file_that_is_not_there_is_made_by_save(self) -> None:
         terminal = self.opened("")
-        self.assertEqual(self.banner, "game.asm: 0 lines, no faults; a new file, made by save; help lists the commands\n> ")
+        self.assertEqual(self.banner, "game.asm: 0 lines, no faults; a new file, which save makes; help lists the commands\n> ")
         terminal.ask("insert 1 CLS")
         self.answers(terminal, ("save", "game.asm: 1 line written"))
         self.assertEqual(self.file.read_text(), "CLS\n")
@@ -466,7 +466,7 @@ class Refusals(AtTerminal):
             self.opened(),
             ("hlep", "no command 'hlep'; did you mean help?; help lists the commands"),
             ("qqqq", "no command 'qqqq'; help lists the commands"),
-            ("prove", "'prove' isn't a command of the shell: save, and run `chipbench prove` outside of it"),
+            ("prove", "'prove' isn't a command of the shell: save, and run `chipbench prove` outside it"),
             ("explain until", "until is a command: help until says what it does"),
             ("re", "'re' begins several commands: reverse, reverse-next, reverse-finish, regs, redo, release, reload"),
         )
@@ -476,38 +476,38 @@ class Refusals(AtTerminal):
             self.opened(),
             ("goto", "goto takes a step: goto 1000"),
             ("goto LOOP", "LOOP is a label, not a step: until LOOP goes to the next step there"),
-            ("goto 1000001", "the steps are 0 to 1000000"),
+            ("goto 1000001", "no step 1000001: the steps are 0 to 1000000"),
             ("back", "this is step 0, the start: no step is before it"),
-            ("step 0", "0 steps lead nowhere: step [N]"),
+            ("step 0", "expected 1 step or more: step [N]"),
             ("step x", "no name x in the source"),
-            ("finish", "this is no subroutine: the call stack is empty"),
+            ("finish", "no subroutine is running: the call stack is empty"),
             ("until", "until takes a place or a comparison: until LOOP, until V3 = 5"),
             ("until LOP", "no name LOP in the source; did you mean LOOP?"),
             ("until 99", "no line 99: the source has 12 lines"),
             ("until #1000", "'#1000' is 4096: the memory has the addresses 0 to 4095"),
-            ("until V0 = ", "'' is not a number: 100, #2a0, 0x2a0, a name, a register, or a sum of these"),
+            ("until V0 = ", "'' is not a number: expected 100, #2a0, 0x2a0, a name, a register, or a sum of these"),
             ("watch", "watch takes a register or a byte of the memory: watch V3, watch [#300]"),
             ("watch 5", "'5' is not a register (V0 to VF, I, PC, DT, ST), an address such as [#300], or a label; did you mean V5?"),
             ("who", "who takes a register or a byte of the memory: who V3, who [#300]"),
             ("who V7", "V7 hasn't changed since step 0"),
             ("clear LOOP", "there is no breakpoint at LOOP"),
-            ("break LOOP if [BUF] = 1", "behind `if` stands a comparison of a register: break LOOP if V3 = 5"),
-            ("finish now", "there is too much behind the command: finish"),
+            ("break LOOP if [BUF] = 1", "`if` takes a comparison of a register: break LOOP if V3 = 5"),
+            ("finish now", "too many words after the command; expected finish"),
             ("list #900", "no line has the address 0900"),
             ("x", "x takes an address: x #300 16, x BALL 2, x I"),
             ("x 4095 2", "Q3: past address 4096"),
-            ("x 5*5", "'5*5' is not a number: only + and - may stand between its parts"),
+            ("x 5*5", "'5*5' is not a number: only + and - may join its parts"),
             ("print", "print takes a value: print V3, print BALL+1, print [#300]"),
             ("print 1-2", "'1-2' is below 0"),
             ("profile chip", "no profile chip: schip, vip, chip48, schip10, schip-modern or octo"),
-            ("edit", "which line? edit LINE [TEXT]"),
+            ("edit", "expected a line: edit LINE [TEXT]"),
             ("edit 13 CLS", "no line 13: the source has 12 lines"),
-            ("insert 14 CLS", "no line 14 to insert before: 1 to 13"),
+            ("insert 14 CLS", "no line 14: insert takes a line from 1 to 13"),
             ("delete", "delete takes a line: delete 12, delete 12 14"),
-            ("delete 4 3", "line 3 stands before line 4"),
-            ("press", "which key, and when? press KEY [at STEP]"),
+            ("delete 4 3", "line 3 is before line 4: delete takes the first line first"),
+            ("press", "expected a key, and perhaps a step: press KEY [at STEP]"),
             ("press 16", "no key 16: the keys are 0 to 15, or 0 to 9 and A to F"),
-            ("press 1 at 1000001", "the steps are 0 to 1000000"),
+            ("press 1 at 1000001", "no step 1000001: the steps are 0 to 1000000"),
             ("session", "session takes a command of chipbench debug: ins, rep, del, kins, krep, kdel, image, syms, list, faults, regs, mem, screen, dis"),
             ("edit 3 ; " + "x" * 200, "N2: text too long"),
         )
@@ -543,7 +543,7 @@ class Refusals(AtTerminal):
 
     def test_where_a_line_has_a_fault(self) -> None:
         terminal = self.opened(COUNTER.replace("CALL UP", "CALL UPP"))
-        wanted = "line 5 has a fault: F9: undefined name; there are no states until it is fixed"
+        wanted = "line 5 has a fault: F9: undefined name; the game can't run until it is fixed"
         self.answers(terminal, *((command, wanted) for command in ("regs", "step", "screen", "run", "until LOOP", "x BUF")))
         self.assertIn("      5       F9: LOOP:   CALL UPP", terminal.ask("list"))
 

@@ -39,7 +39,7 @@ AT_START = "goto 0 goes to the start, and run from there to the first breakpoint
 NOTHING_SETS = "a state follows from the lines and the keys, and can't be set: edit changes a line, press and release change keys"
 
 
-ONLY_KEYS = "and only keys takes `> FILE`; outside of the shell"
+ONLY_KEYS = "and only keys takes `> FILE`; outside the shell, run"
 WRITTEN = "and keys > FILE writes the key events"
 CHOSEN = "the settings are chosen at the start, as in chipbench-shell game.asm"
 
@@ -79,13 +79,13 @@ class WrongTurns(AtPipe):
             ("break if", "break takes a place and a comparison: break PLACE if V3 = 2"),
             ("break UP when V3 = 2", "break takes `if` before a comparison: break UP if V3 = 2"),
             ("break UP V3 2", "break takes `if` before a comparison: break UP if V3 = 2"),
-            ("break UP if V3 2", "behind `if` stands a comparison of a register: break LOOP if V3 = 2"),
-            ("break UP if", "behind `if` stands a comparison of a register: break LOOP if V3 = 5"),
+            ("break UP if V3 2", "`if` takes a comparison of a register: break LOOP if V3 = 2"),
+            ("break UP if", "`if` takes a comparison of a register: break LOOP if V3 = 5"),
             ("break V3", REGISTER.format("V3", "place")),
             ("until I", REGISTER.format("I", "place")),
-            ("until V3 6", "a comparison has a sign: until V3 = 6"),
-            ("until v3 is 4", "a comparison has a sign: until v3 = 4"),
-            ("until [BUF] 4", "a comparison has a sign: until [BUF] = 4"),
+            ("until V3 6", "a comparison needs a sign: until V3 = 6"),
+            ("until v3 is 4", "a comparison needs a sign: until v3 = 4"),
+            ("until [BUF] 4", "a comparison needs a sign: until [BUF] = 4"),
             ("goto V3", REGISTER.format("V3", "step")),
             ("mem BUF", "C1: no such command: expected mem STEP ADDRESS N; x ADDRESS [N] shows the bytes at this step"),
             (
@@ -94,20 +94,20 @@ class WrongTurns(AtPipe):
             ),
             (
                 "explain LD",
-                "no page on LD: explain takes a code such as F9, W4 or S2, and without one it lists them; "
+                "no page on LD: explain takes a code such as F9, W4 or S2, and without one it lists all codes; "
                 "docs/MACHINE.md has the instructions",
             ),
-            ("regs > y.txt", f"regs writes no file, {ONLY_KEYS}: echo regs | chipbench-shell game.asm --quiet > y.txt"),
-            ("screen >x.txt", f"screen writes no file, {ONLY_KEYS}: echo screen | chipbench-shell game.asm --quiet > x.txt"),
-            ("x #300 4 > z", f"x writes no file, {ONLY_KEYS}: echo 'x #300 4' | chipbench-shell game.asm --quiet > z"),
-            ("regs 5 6", "there is too much behind the command: regs, or regs STEP"),
-            ("screen 5 6", "there is too much behind the command: screen, or screen STEP"),
+            ("regs > y.txt", f"regs writes no file, {ONLY_KEYS} echo regs | chipbench-shell game.asm --quiet > y.txt"),
+            ("screen >x.txt", f"screen writes no file, {ONLY_KEYS} echo screen | chipbench-shell game.asm --quiet > x.txt"),
+            ("x #300 4 > z", f"x writes no file, {ONLY_KEYS} echo 'x #300 4' | chipbench-shell game.asm --quiet > z"),
+            ("regs 5 6", "too many words after the command; expected regs, or regs STEP"),
+            ("screen 5 6", "too many words after the command; expected screen, or screen STEP"),
             ("key 4 down", f"press 4 holds a key, release 4 lets go of it, {WRITTEN}"),
             ("keys 4", f"press 4 holds a key, release 4 lets go of it, {WRITTEN}"),
             ("keys 60 a up", f"release a at 60 lets go of a key, press a at 60 holds it, {WRITTEN}"),
             ("save key", "save keys writes the key events, and save ./key the lines to a file of that name"),
             ("save k over", "save keys writes the key events, and save ./k the lines to a file of that name"),
-            ("save as", "which file? save FILE"),
+            ("save as", "save as needs a file: save FILE"),
             ("set rate 20", f"no command 'set': {CHOSEN} --rate 20; profile shows them"),
             ("set profile vip", "no command 'set': profile vip runs the same lines and keys under that profile"),
             ("set keys 4", "no command 'set': press 4 holds key 4, and release 4 lets go of it"),
@@ -119,13 +119,13 @@ class WrongTurns(AtPipe):
                 "insert LD V0, 5",
                 "no name LD in the source; insert takes a line before the text: insert LINE LD V0, 5",
             ),
-            ("break UP:", "a label is named without its colon: UP"),
-            ("until UP:", "a label is named without its colon: UP"),
+            ("break UP:", "type a label without its colon: UP"),
+            ("until UP:", "type a label without its colon: UP"),
             ("press 4 60 70", "press takes one step: press 4 at 60, then release 4 at 70"),
-            ("condition 1 V0 = 5", "no command 'condition': a condition is given with its breakpoint: break PLACE if V0 = 5"),
+            ("condition 1 V0 = 5", "no command 'condition': give a condition with its breakpoint: break PLACE if V0 = 5"),
             (
                 "ignore 1 5",
-                "no command 'ignore': no breakpoint counts its hits: continue goes on to the next one, "
+                "no command 'ignore': breakpoints don't count hits: continue goes on to the next one, "
                 "and break PLACE if V0 = 5 stops only where that holds",
             ),
             (
@@ -134,14 +134,14 @@ class WrongTurns(AtPipe):
             ),
             ("info registers V0", "info registers shows all of them: print V0 shows one"),
             ("until UP if V0 = 3", "until takes no `if`: break UP if V0 = 3, then continue"),
-            ("until V0 = 300", "V0 is at most 255: V0 = 300 is never so"),
-            ("until V0 > 255", "V0 is at most 255: V0 > 255 is never so"),
-            ("until [BUF] >= 256", "[BUF] is at most 255: [BUF] >= 256 is never so"),
-            ("print 'A'", "'A' is a letter, and letters have no numbers here: a number such as 65 or #41"),
+            ("until V0 = 300", "V0 is at most 255: V0 = 300 is never true"),
+            ("until V0 > 255", "V0 is at most 255: V0 > 255 is never true"),
+            ("until [BUF] >= 256", "[BUF] is at most 255: [BUF] >= 256 is never true"),
+            ("print 'A'", "'A' is a letter, and letters have no values here: type a number such as 65 or #41"),
             ("press left", "no key left: the keys are 0 to 9 and A to F, as in press 4"),
-            ("step back", "step only goes forward: back goes a step back, back 3 three"),
+            ("step back", "step only goes forward: back goes one step back, back 3 goes three"),
             ("step over", "next steps over a call"),
-            ("delete break", "delete removes lines: clear removes all breakpoints, clear PLACE those at a place"),
+            ("delete break", "delete removes lines; clear removes all breakpoints, and clear PLACE those at a place"),
             ("reset", f"no command 'reset': {AT_START}"),
             ("restart", f"no command 'restart': {AT_START}"),
             ("set V3 5", f"no command 'set': {NOTHING_SETS}"),
@@ -183,14 +183,14 @@ class WrongTurns(AtPipe):
 
     def test_check_names_the_lines_behind_end(self) -> None:
         for source, wanted in (
-            (COUNTER + "STOP: END ; here\n\n        FOO\n", ["END in line 13 ends the source: 1 line behind it is not read"]),
-            (COUNTER + "        END\n        FOO\n        BAR\n", ["END in line 13 ends the source: 2 lines behind it are not read"]),
+            (COUNTER + "STOP: END ; here\n\n        FOO\n", ["END in line 13 ends the source: 1 line after it is not read"]),
+            (COUNTER + "        END\n        FOO\n        BAR\n", ["END in line 13 ends the source: 2 lines after it are not read"]),
             (COUNTER + "        END\n\n", []),
         ):
             with self.subTest(source[len(COUNTER) :]):
                 Path(self.folder, "game.asm").write_text(source)
                 shown = self.shell("check\n", "game.asm", "--quiet")[1].splitlines()
-                self.assertEqual([line for line in shown if "behind" in line], wanted)
+                self.assertEqual([line for line in shown if "after it" in line], wanted)
 
     def test_pc_inside_a_line_is_told(self) -> None:
         Path(self.folder, "game.asm").write_text(INSIDE)
@@ -201,7 +201,7 @@ class WrongTurns(AtPipe):
     def test_clear_says_what_is_removed(self) -> None:
         Path(self.folder, "game.asm").write_text(COUNTER)
         _, output, _ = self.shell("break UP\nbreak 8 if V0 = 5\nclear\nclear\n", "game.asm", "--quiet")
-        told = ["2 breakpoints removed: UP, line 8 if V0 = 5", "there was no breakpoint to remove"]
+        told = ["2 breakpoints removed: UP, line 8 if V0 = 5", "there is no breakpoint to remove"]
         self.assertEqual(output.splitlines()[2:], told)
 
 
@@ -209,7 +209,7 @@ class Echoes(AtPipe):
     def test_control_characters_and_long_words_are_not_echoed_raw(self) -> None:
         for typed, wanted in (
             ("\x1b[2J", "line 1: no command '\\x1b[2J'; help lists the commands\n"),
-            ("goto \x07", "line 1: '\\x07' is not a number: 100, #2a0, 0x2a0, a name, a register, or a sum of these\n"),
+            ("goto \x07", "line 1: '\\x07' is not a number: expected 100, #2a0, 0x2a0, a name, a register, or a sum of these\n"),
             ("x \u2028QQ", "line 1: no name QQ in the source\n"),
             ("press \u0100\u202e", "line 1: no key \u0100\\u202e: the keys are 0 to 9 and A to F, as in press 4\n"),
             ("y" * 5000, f"line 1: no command '{'y' * 78}..'; help lists the commands\n"),

@@ -60,7 +60,7 @@ class Gdb(AtPipe):
         _, _, errors = self.shell("reverse-finish\nreverse-next\n", "game.asm")
         self.assertEqual(
             errors,
-            "line 1: this is no subroutine: the call stack is empty\nline 2: this is step 0, the start: no step is before it\n",
+            "line 1: no subroutine is running: the call stack is empty\nline 2: this is step 0, the start: no step is before it\n",
         )
 
     def test_a_temporary_breakpoint(self) -> None:
@@ -102,10 +102,10 @@ class Gdb(AtPipe):
                 "step 5, 0210, line 11: RET",
                 "V0 = 1 = #01 = $00000001",
                 "[BUF] = 1 = #01 = $00000001",
-                "v0 is displayed no more",
+                "v0 is no longer displayed",
                 "step 6, 0206, line 6: SE V0, LIMIT",
                 "[BUF] = 1 = #01 = $00000001",
-                "nothing is displayed any more",
+                "no value is displayed any more",
             ],
         )
 
@@ -120,7 +120,7 @@ class Scripts(AtPipe):
         right = "goto 5\nassert V0 = 1\nassert [BUF] = V0\nassert pc = UP+4\n"
         self.assertEqual(self.shell(right, "game.asm", "--strict")[::2], (0, ""))
         status, output, errors = self.shell(right + "assert V0 > 1\nprint V0\n", "game.asm")
-        self.assertEqual((status, errors), (1, "line 5: not so: V0 > 1; V0 is 1 at step 5\n"))
+        self.assertEqual((status, errors), (1, "line 5: assertion failed: V0 > 1; V0 is 1 at step 5\n"))
         self.assertIn("V0 = 1 =", output)
         self.assertEqual(self.shell("assert V0\nassert V0 1\n", "game.asm")[::2], (0, "line 1: assert takes a comparison: assert V3 = 5\nline 2: assert takes a comparison: assert V0 = 1\n"))
 
@@ -132,7 +132,7 @@ class Scripts(AtPipe):
         # after step 2 the loop of two steps waits for key 4, and reads it at step 20; that of key 6 begins at step 21, so that it
         # reads key 6 at step 41, and DW, which step 42 would execute, stops the machine: it has stopped after 43 steps
         told = "the machine stops for S2: no instruction, at step {}; the press of key 6 at step 40 is to blame: "
-        up_to = "with the key events up to it the machine stops by then, with those before it alone it doesn't"
+        up_to = "with the key events up to this one the machine stops by then, and with only the earlier ones it doesn't"
         self.assertEqual((output.splitlines()[0], errors), (told.format(43) + up_to, ""))
         self.assertTrue(output.splitlines()[1].startswith("step 40, "))
 
@@ -151,7 +151,7 @@ class Scripts(AtPipe):
         self.assertEqual(errors, "line 2: no key is to blame: the machine stops for S2: no instruction, at step 2, also without any key\n")
         Path(self.folder, "game.asm").write_text("HERE: JP HERE\n")
         _, _, errors = self.shell("blame\n", "game.asm")
-        self.assertEqual(errors, "line 1: the machine doesn't stop up to step 1000000: there is nothing to blame a key for\n")
+        self.assertEqual(errors, "line 1: the machine doesn't stop up to step 1000000, so there is no stop to blame a key for\n")
 
 
 if __name__ == "__main__":

@@ -130,8 +130,8 @@ class Killed(AtTerminal):
         terminal.end_by(signal.SIGKILL)
         self.opened()
         kept = self.folder / "state/chipbench"
-        self.assertIn(f"\nanother shell has edits that weren't saved in {kept / 'unsaved-game.asm'}\n", self.banner)
-        self.assertIn(f"\nanother shell has key events that weren't saved in {kept / 'unsaved-game.keys'}\n", self.banner)
+        self.assertIn(f"\nanother shell left unsaved edits in {kept / 'unsaved-game.asm'}\n", self.banner)
+        self.assertIn(f"\nanother shell left unsaved key events in {kept / 'unsaved-game.keys'}\n", self.banner)
 
     def test_where_the_folder_of_the_history_cannot_be_written(self) -> None:
         terminal = self.opened(XDG_STATE_HOME="/dev/null")
@@ -169,8 +169,8 @@ class KeyEvents(AtTerminal):
         terminal.ask("press 4")
         self.answers(
             terminal,
-            ("save keys", "game.keys is there already: save keys game.keys over writes over it"),
-            ("keys > game.keys", "game.keys is there already: save keys game.keys over writes over it"),
+            ("save keys", "game.keys already exists: save keys game.keys over writes over it"),
+            ("keys > game.keys", "game.keys already exists: save keys game.keys over writes over it"),
             ("keys game.keys", "keys shows the key events: keys > game.keys writes them to a file, press and release add some"),
             ("keys > other.keys", "other.keys: 1 key event written"),
             ("press 5", "key 5 is down from step 0 on; the state at step 0 is as it was"),

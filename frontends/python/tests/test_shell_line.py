@@ -162,7 +162,7 @@ class Beside(AtTerminal):
         self.change_beside(COUNTER.replace("RET", "REM"))
         self.answers(
             terminal,
-            ("keys", "game.asm changed: 1 line; line 11 has a fault: F3: unknown word; there are no states until it is fixed\nno key events"),
+            ("keys", "game.asm changed: 1 line; line 11 has a fault: F3: unknown word; the game can't run until it is fixed\nno key events"),
         )
         self.change_beside(COUNTER)
         self.answers(terminal, ("keys", "game.asm changed: 1 line; no line has a fault any more: the state at step 0 can be shown\nno key events"))
@@ -171,11 +171,11 @@ class Beside(AtTerminal):
         terminal = self.opened()
         terminal.ask("edit 3 START:  LD V0, 3")
         self.change_beside(COUNTER.replace("; A", "; Another"))
-        told = "game.asm changed, and the edits here aren't saved: they stay; reload takes the file, save over writes it"
+        told = "game.asm changed, but the unsaved edits here stay; reload reads the file, save over writes over it"
         self.answers(
             terminal,
             ("goto 1", f"{told}\nV0 00 -> 03\nstep 1, 0202, line 4: LD I, BUF"),
-            ("save", "game.asm has changed since it was read: reload takes it, save over writes over it"),
+            ("save", "game.asm has changed since it was read: reload reads it again, save over writes over it"),
             ("reload", "2 lines taken from game.asm; the state at step 1 differs in V0"),
             ("undo", "undone; the state at step 1 differs in V0"),
             ("save", "game.asm: 12 lines written"),
@@ -195,7 +195,7 @@ class Beside(AtTerminal):
         terminal = self.opened()
         self.answers(
             terminal,
-            ("save other.asm", "other.asm is there already: save other.asm over writes over it"),
+            ("save other.asm", "other.asm already exists: save other.asm over writes over it"),
             ("save other.asm over", "other.asm: 12 lines written"),
         )
 

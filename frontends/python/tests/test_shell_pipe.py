@@ -130,7 +130,7 @@ class Pipes(AtPipe):
 
     def test_edit_without_a_text_needs_a_terminal(self) -> None:
         _, _, errors = self.shell("edit 1\n", "game.asm")
-        self.assertEqual(errors, "line 1: edit takes the new text here: edit LINE TEXT\n")
+        self.assertEqual(errors, "line 1: without a terminal, edit needs the new text: edit LINE TEXT\n")
 
     def test_settings_reach_the_run(self) -> None:
         Path(self.folder, "random.asm").write_text("        RND V0, 255\n        LD DT, V0\nLOOP:   JP LOOP\n")

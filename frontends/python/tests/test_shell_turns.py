@@ -14,10 +14,10 @@ from at_terminal import COUNTER  # noqa: E402
 FILES_OF_KEYS = "save keys FILE writes the key events, and chipbench-shell game.asm --keys FILE plays them"
 HOLDS = "press KEY holds a key, release KEY lets go of it, and keys shows the events"
 AT_START = "the settings are chosen at the start, as in chipbench-shell game.asm --rate 15 --seed 7; profile shows them"
-CALLS = "backtrace shows the calls that lead to where one is"
+CALLS = "backtrace shows the calls that haven't returned"
 COMMENT = "a comment begins with `#` here"
 CRASH = "continue goes to where the machine stops"
-ONE_COMPARISON = "one comparison at a time: `and` and `or` join none"
+ONE_COMPARISON = "expected one comparison: `and` and `or` can't join two"
 TAPE = "expected two hexadecimal digits for each byte, without 0x or #, as in --tape 2a07; found {}"
 # after two steps pc is at the zeros behind the program
 FALLS_OFF = "        LD V0, 5\n        CLS\n"
@@ -43,17 +43,17 @@ class Turns(AtPipe):
             ("; a comment", COMMENT),
             ("// a comment", COMMENT),
             ("step -5", "step only goes forward: back 5 goes back"),
-            ("step -", "'-' is not a number: 100, #2a0, 0x2a0, a name, a register, or a sum of these"),
+            ("step -", "'-' is not a number: expected 100, #2a0, 0x2a0, a name, a register, or a sum of these"),
             ("goto -5", "'-5' is below 0"),
             ("list 1 20", "list shows the lines around one place, as in list 1; session list shows all lines"),
             ("list 1,20", "list shows the lines around one place, as in list 1; session list shows all lines"),
             ("until V0 = 3 and V1 = 2", ONE_COMPARISON),
             ("break UP if V0 = 3 && V1 = 2", ONE_COMPARISON),
             ("watch V0 if V0 == 5", "watch takes no `if`: until V0 == 5 goes to where that becomes true"),
-            ("press 6 at 1000001", "the steps are 0 to 1000000"),
-            ("break line 3", "a line is given by its number alone: 3"),
-            ("until LINE 3", "a line is given by its number alone: 3"),
-            ("list line 3", "a line is given by its number alone: 3"),
+            ("press 6 at 1000001", "no step 1000001: the steps are 0 to 1000000"),
+            ("break line 3", "give a line by its number alone: 3"),
+            ("until LINE 3", "give a line by its number alone: 3"),
+            ("list line 3", "give a line by its number alone: 3"),
             ("until crash", CRASH),
             ("break S4", CRASH),
             ("goto end", CRASH),
@@ -89,7 +89,7 @@ class Turns(AtPipe):
 
     def test_delete_beside_breakpoints(self) -> None:
         """GDB's delete 1 removes the first breakpoint. Here it removes a line, which is told as long as there is such a breakpoint."""
-        told = "delete removes lines: undo takes this back, and clear removes breakpoints"
+        told = "delete removes lines; undo takes this back, and clear removes breakpoints"
         _, output, _ = self.shell("break UP\ndelete 2\ndelete 1\nundo\nclear\ndelete 1\nquit no\n", "game.asm", "--quiet")
         self.assertEqual([line == told for line in output.splitlines()], [False, False, False, True, False, False, False])
 
@@ -128,7 +128,7 @@ class Files(AtPipe):
             (("--tape", "123"), f"argument --tape: {TAPE.format('123')}{see}"),
             (("--rate", "0"), "--rate 0: expected 1 to 1000"),
             (("--profile", "xo"), "--profile xo: possible values: schip, vip, chip48, schip10, schip-modern, octo"),
-            (("other.asm",), f"one SOURCE at a time, and other.asm is another one{see}"),
+            (("other.asm",), f"expected one SOURCE, and other.asm is a second one{see}"),
         ):
             with self.subTest(arguments):
                 self.assertEqual(self.refused("game.asm", *arguments), wanted)
