@@ -1,4 +1,4 @@
-"""Makes the wheel of this folder, for pip: it needs no package, and so no network.
+"""Makes the wheel of this folder for pip, without other packages and without the network.
 
 pip calls `build_wheel`, `build_sdist` and `build_editable`; packaging/wheel calls `write_wheel`, to put the program inside. The same
 files give the same bytes. pyproject.toml has the names; the version is that of packaging/version, or of PKG-INFO in a source archive.
@@ -28,7 +28,7 @@ PURE = "py3-none-any"
 EXECUTABLE, PLAIN = 0o755, 0o644
 # a zip has no time before this one
 FIRST_TIME = 315532800
-#: What a source archive has beside the modules.
+#: The files of a source archive besides the modules.
 BESIDE = ("pyproject.toml", "build_backend.py", "README.md")
 LICENCES = ("LICENSE", "THIRD-PARTY")
 # a key of pyproject.toml with a text, or with a list of texts on one line, which JSON reads too
@@ -39,7 +39,7 @@ Files = dict[str, tuple[bytes, int]]
 
 
 def table(name: str) -> dict[str, Any]:
-    """A table of pyproject.toml. Python has a reader of TOML from 3.11 on alone."""
+    """A table of pyproject.toml. Python has a reader of TOML only from 3.11 on."""
     found: dict[str, Any] = {}
     current = ""
     for line in (HERE / "pyproject.toml").read_text(encoding="utf-8").splitlines():
@@ -71,7 +71,7 @@ def metadata() -> bytes:
 
 
 def scripts(has_program: bool) -> bytes:
-    """The commands; `chipbench` is one where the program is inside."""
+    """The commands. `chipbench` is one of them if the program is inside."""
     named = table("project.scripts") | ({"chipbench": "chipbench.commands:program"} if has_program else {})
     lines = [f"{name} = {place}\n" for name, place in sorted(named.items())]
     return ("[console_scripts]\n" + "".join(lines)).encode()
@@ -118,7 +118,7 @@ def write_wheel(folder: Path, files: Files, tag: str = PURE, has_program: bool =
 
 
 def record(files: Files, own: str) -> bytes:
-    """The names with checksums and sizes; that of this list itself has none."""
+    """The names with checksums and sizes. The name of this list itself has neither."""
     rows = []
     for place, (content, _) in sorted(files.items()):
         digest = base64.urlsafe_b64encode(hashlib.sha256(content).digest()).rstrip(b"=").decode()
@@ -131,7 +131,7 @@ def moment() -> int:
     return max(FIRST_TIME, int(os.environ.get("SOURCE_DATE_EPOCH", "0")))
 
 
-# -- what pip calls
+# -- the functions that pip calls
 
 
 def get_requires_for_build_wheel(config_settings: Mapping[str, Any] | None = None) -> list[str]:

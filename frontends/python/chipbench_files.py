@@ -1,4 +1,4 @@
-"""Reads and writes the author's files: a file is at each moment the old one or the new one."""
+"""Reads and writes the author's files. At each moment a file is the old one or the new one."""
 
 from __future__ import annotations
 
@@ -21,12 +21,12 @@ class FileError(Exception):
 
 
 def shown(path: Path | str) -> str:
-    """A name as text that can be printed and sent, whatever bytes it has."""
+    """A name as text that can be printed and sent, even if its bytes aren't UTF-8."""
     return os.fsencode(path).decode("utf-8", "replace")
 
 
 def read_file(path: Path) -> bytes | None:
-    """The content of a file, or none where there is no such file."""
+    """The content of a file, or None if there is no such file."""
     try:
         # a pipe without a writer must not block
         handle = os.open(path, os.O_RDONLY | os.O_NONBLOCK | os.O_CLOEXEC)
@@ -45,8 +45,8 @@ def read_file(path: Path) -> bytes | None:
 
 
 def replace_file(path: Path, content: bytes) -> None:
-    """Writes a file by a new one in its folder that takes its name. Links are followed; a file with several names, or with another
-    owner, is written in place."""
+    """Writes a new file in the same folder, and gives it the file's name. Links are followed. A file with several names, or with
+    another owner, is written in place."""
     target = path.resolve()
     try:
         before = target.stat()
@@ -73,7 +73,7 @@ def takes_its_place(new: os.stat_result, old: os.stat_result) -> bool:
 
 
 def write_in_place(target: Path, content: bytes) -> None:
-    """Writes a file that keeps its names and its owner. Room is taken first: a full disk leaves it as it was."""
+    """Writes a file that keeps its names and its owner. Room is reserved first, so that a full disk leaves the file as it was."""
     with target.open("r+b") as file:
         size = os.fstat(file.fileno()).st_size
         try:

@@ -1,4 +1,4 @@
-"""The lines of a source beside a running session: the limits that they have to keep, and the edits that make others of them."""
+"""The lines of a source beside a running session: their limits, and the edits that change them to other lines."""
 
 from __future__ import annotations
 
@@ -22,7 +22,7 @@ def over_limits(lines: Sequence[bytes]) -> list[tuple[int, str, str]]:
 
 
 def same_ends(old: Sequence[AnyStr], new: Sequence[AnyStr]) -> tuple[int, int]:
-    """How many lines are equal at the beginning, and how many of the others at the end.
+    """The number of equal lines at the beginning, and of the others at the end.
 
     >>> same_ends("abcd", "abxyd")
     (2, 1)
@@ -40,7 +40,7 @@ def same_ends(old: Sequence[AnyStr], new: Sequence[AnyStr]) -> tuple[int, int]:
 
 
 def line_edits(old: Sequence[bytes], new: Sequence[bytes]) -> list[bytes]:
-    """Commands that make the new lines of the old ones: what is equal at both ends stays.
+    """Commands that change the old lines to the new ones. Equal lines at both ends stay.
 
     >>> line_edits([b"A", b"B", b"C"], [b"A", b"X", b"Y", b"C"])
     [b'rep 2 X', b'ins 3 Y']

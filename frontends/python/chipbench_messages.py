@@ -1,6 +1,6 @@
-"""Messages between an editor and what it starts: JSON behind a header with its length, on standard input and output.
+"""Messages between an editor and a program that it starts: JSON after a header with its length, on standard input and output.
 
-The language server and the debug adapter both speak so.
+The language server and the debug adapter both use them.
 """
 
 from __future__ import annotations
@@ -16,12 +16,12 @@ from typing import Any, BinaryIO, NoReturn
 HEADER = b"content-length:"
 LONGEST_HEADER = 10_000
 LONGEST_MESSAGE = 1 << 28
-#: What is taken from `Incoming` behind the last message.
+#: The value that `Incoming` gives after the last message.
 END = object()
 
 
 class BadMessage(Exception):
-    """Bytes that aren't a message. What follows them can be read."""
+    """Bytes that aren't a message. The bytes after them can be read."""
 
 
 def read_length(stream: BinaryIO) -> int | None:
@@ -38,7 +38,7 @@ def read_length(stream: BinaryIO) -> int | None:
         if line.lower().startswith(HEADER):
             digits = line[len(HEADER) :].strip()
             if not digits.isdigit() or len(digits) > 9 or int(digits) > LONGEST_MESSAGE:
-                raise BadMessage("the header Content-Length has no length of a message")
+                raise BadMessage("the header Content-Length doesn't have the length of a message")
             length = int(digits)
 
 
@@ -60,7 +60,7 @@ def read_message(stream: BinaryIO) -> Any:
 
 
 class Incoming(queue.Queue[Any]):
-    """Messages in their order: a `BadMessage` in the place of bytes that are none, and `END` behind the last one.
+    """Messages in order, with a `BadMessage` for bytes that aren't a message, and `END` after the last one.
 
     One thread reads them, and `hear` has each one before its turn, so that a request can be cancelled while it is answered.
     """
@@ -103,7 +103,7 @@ class Outgoing:
 
 
 def serve_streams(serve: Callable[[BinaryIO, BinaryIO], int]) -> NoReturn:
-    """Serves on standard input and output, and ends the process. What is printed by mistake goes to standard error."""
+    """Serves on standard input and output, and ends the process. Anything printed by mistake goes to standard error."""
     output = os.fdopen(os.dup(1), "wb")
     os.dup2(2, 1)
     status = serve(sys.stdin.buffer, output)

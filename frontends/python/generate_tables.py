@@ -1,10 +1,10 @@
 #!/usr/bin/env python3
-"""Writes the tables of the language server, and those of the page, from those of the documents.
+"""Writes the tables of the language server and of the page from the tables of the documents.
 
     frontends/python/generate_tables.py           writes chipbench_lsp/tables.json and frontends/page/static/language_table.mjs
-    frontends/python/generate_tables.py --check   writes nothing; the status is 1 where a file isn't what the documents give
+    frontends/python/generate_tables.py --check   writes nothing; the status is 1 if a file differs from the documents' tables
 
-Instructions come from the tables of docs/MACHINE.md (with SYS, which docs/LANGUAGE.md alone has), directives and faults from
+Instructions come from the tables of docs/MACHINE.md (with SYS, which only docs/LANGUAGE.md has), directives and faults from
 docs/LANGUAGE.md, stops from docs/MACHINE.md, the reserved words from crates/chip_lang/specs/Keyword.antt.
 """
 
@@ -48,7 +48,7 @@ def instructions(machine: str) -> list[dict[str, Any]]:
     for word, source, effect, stops in rows(machine, "| Word | Source | Effect | Stops |"):
         pattern = quoted(word)[0]
         forms = [form for form in quoted(source)]
-        # there is no table below it where it is shown
+        # the cell is shown without the table below it
         effect = effect.removesuffix(", see below")
         also = vip.get(pattern, "") or (f"n = 0: {vip['DXY0']}" if pattern == "DXYN" else "")
         found.append({"word": pattern, "forms": forms, "effect": effect, "stops": stops, "vip": also})
@@ -138,7 +138,7 @@ def main(arguments: list[str]) -> int:
         if not is_check:
             path.write_text(text, encoding="utf-8")
         elif not path.is_file() or path.read_text(encoding="utf-8") != text:
-            print(f"{path.relative_to(TOP)} isn't what the documents give: run frontends/python/generate_tables.py", file=sys.stderr)
+            print(f"{path.relative_to(TOP)} differs from the documents' tables: run frontends/python/generate_tables.py", file=sys.stderr)
             status = 1
     return status
 

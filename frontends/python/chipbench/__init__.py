@@ -9,7 +9,7 @@ properties read what the program answers:
 600570011202
 6
 
-A refused command raises `Refused`, with the code and the sentence of the program. The module needs the standard library alone.
+A refused command raises `Refused`, with the code and the sentence of the program. The module needs only the standard library.
 """
 
 from .bench import BATCH, Bench, event_command, read_number

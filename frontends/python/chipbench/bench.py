@@ -22,9 +22,9 @@ SCRIPT_BYTES = 45_000_000
 BATCH = 500
 
 OK = b"ok\n"
-# the answer to `kdel` where there is no such event
+# the answer to `kdel` if there is no such event
 NO_EVENT = b"no N8\n"
-# the code of a question to a source that has no image, since a line has a fault
+# the code of a question to a source that has no image, because a line has a fault
 NO_IMAGE = "Q1"
 
 
@@ -32,8 +32,8 @@ class Bench:
     """A source, key events, and the machine at each step, as one `chipbench debug` answers them.
 
     Give one of `source` (text or bytes), `path` (a file, as `Bench.open` takes it), and `image` (bytes, which `dis` turns into a
-    source). An argument that can't be right raises `WrongType` or `WrongValue`, which are a `TypeError` and a `ValueError`, and
-    name it.
+    source). A wrong argument raises `WrongType` or `WrongValue`, which are a `TypeError` and a `ValueError`, and whose text names
+    it.
     `profile`, `quirks`, `rate`, `tape` (bytes), `seed` and `every` are the options of `chipbench debug`. `program` is the
     program's name, by default that of `find_program`.
 
@@ -93,7 +93,7 @@ class Bench:
         quirks: str | None = None,
         program: str | os.PathLike[str] | None = None,
     ) -> Bench:
-        """A bench on the source in a file, with the other arguments of `Bench`. `OSError` where it can't be read.
+        """A bench on the source in a file, with the other arguments of `Bench`. Raises `OSError` if it can't be read.
 
         >>> import tempfile
         >>> with tempfile.NamedTemporaryFile(suffix=".asm") as file:
@@ -108,7 +108,7 @@ class Bench:
         )
 
     def _refused_start(self, ended: Ended) -> Exception:
-        """What to raise where the program ends before its first answer: by the argument that it names, where it is chipbench."""
+        """The error for a program that ends before its first answer. If it is chipbench, the error names the wrong argument."""
         told = what_it_is(self.program)
         if told is not None:
             return ChipbenchError(told)
@@ -129,7 +129,7 @@ class Bench:
         self.close()
 
     def close(self) -> None:
-        """Ends the program. Questions are then refused with `ChipbenchError`."""
+        """Ends the program. Later questions raise `ChipbenchError`."""
         self._is_closed = True
         if self._running is not None:
             self._running.close()
@@ -150,9 +150,9 @@ class Bench:
                 self._running = Program([self.program, "debug", *self._options, name])
             except OSError as error:
                 if error.errno == errno.E2BIG:
-                    raise WrongValue("tape has more bytes than the system takes as an argument") from None
+                    raise WrongValue("tape is longer than the system allows for an argument") from None
                 raise cannot_run(self.program, error) from None
-            # its answer shows that the source was read: there is no event yet
+            # the answer shows that the source was read, because there is no event yet
             if self._exchange_now([b"kdel 0 0"]) != [NO_EVENT]:
                 self._running.close()
                 self._running = None
@@ -173,18 +173,18 @@ class Bench:
                 raise refusal(self.program, ended.text.split()[1]) from None
             raise
         except BaseException:
-            # answers that weren't read would be taken for those of the next commands
+            # unread answers would be taken for those of the next commands
             self._running.close()
             self._running = None
             raise
 
     def exchange(self, commands: Iterable[str | bytes]) -> list[bytes]:
-        """Gives commands to the program, and returns their answers as they are, refusals included. The program is restarted
+        """Gives commands to the program, and returns their answers as they are, with refusals. The program is restarted
         after it has ended, and before its script grows too long."""
         given = [to_bytes(text_or_bytes("command", command)) for command in commands]
         for command in given:
             if b"\n" in command or not command.strip(b" \r"):
-                raise ValueError("a command is one line that isn't blank")
+                raise ValueError("a command must be one line that isn't blank")
         if self._is_closed:
             raise ChipbenchError("the bench is closed")
         answers: list[bytes] = []
@@ -211,7 +211,7 @@ class Bench:
             self._running = None
         self._start()
 
-    # -- what the bench keeps, so that the program can be restarted
+    # -- the lines and events that the bench keeps, so that the program can be restarted
 
     def _keep_all(self, commands: Sequence[bytes], answers: Sequence[bytes]) -> None:
         for command, answer in zip(commands, answers):
@@ -263,7 +263,7 @@ class Bench:
             return answer
         refused = refusal(self.program, answer[3:].strip().decode("ascii"))
         if refused.code == NO_IMAGE:
-            # what has to be fixed is the first fault
+            # the error names the first fault, which has to be fixed
             fault = self.faults[0]
             raise Refused(refused.code, f"{refused.sentence}: line {fault.line} has a fault: {fault.code}: {fault.sentence}")
         raise refused
@@ -295,7 +295,7 @@ class Bench:
         self._answer(event_command(b"kins", at, key, False))
 
     def change_event(self, key: int, *, at: int, down: bool) -> None:
-        """Changes what the key event of a step says."""
+        """Changes whether the key event of a step is down or up."""
         self._answer(event_command(b"krep", at, key, down))
 
     def remove_event(self, key: int, *, at: int) -> None:
@@ -304,7 +304,7 @@ class Bench:
 
     @property
     def image(self) -> bytes:
-        """The image. `Refused` with Q1 where a line has a fault."""
+        """The image. Raises `Refused` with Q1 if a line has a fault."""
         return bytes.fromhex(self.ask("image"))
 
     @property
@@ -349,7 +349,7 @@ class Bench:
                 yield State(self, step, self._checked(answer))
 
     def first_step_at(self, pc: int, *, limit: int = 100_000) -> int | None:
-        """The first step, up to `limit`, before which pc has a value; None where there is none.
+        """The first step, up to `limit`, before which pc has a value; None if there is none.
 
         >>> with Bench("CLS\\nCLS\\nHALT: JP HALT") as bench:
         ...     bench.first_step_at(bench.symbols["HALT"].value)
@@ -374,7 +374,7 @@ class Bench:
 
 
 def reason_in(text: str) -> str:
-    """What is wrong with an argument, of what the program says on it.
+    """The reason why an argument is wrong, taken from the program's message.
 
     >>> reason_in("error: invalid value '0' for '--rate <N>': 0 is not in 1..=1000")
     '0 is not in 1..=1000'

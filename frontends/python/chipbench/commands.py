@@ -1,4 +1,4 @@
-"""The commands that an installation of the module has, beside `chipbench` where the program is in it too."""
+"""The commands of an installation of the module. If the program is inside it, `chipbench` is one of them."""
 
 from __future__ import annotations
 
@@ -39,14 +39,14 @@ def steps() -> int:
 
 
 def program() -> int:
-    """chipbench: the program that is inside of this package. It takes the place of this process where that is possible."""
+    """chipbench: the program inside this package. It replaces this process if the system can do that."""
     try:
         found = inner_program()
     except ChipbenchError as error:
         print(f"chipbench: {error}", file=sys.stderr)
         return 127
     if found is None:
-        print("chipbench: this installation has no program inside", file=sys.stderr)
+        print("chipbench: this installation doesn't contain the program chipbench", file=sys.stderr)
         return 127
     words = command_of([found, *sys.argv[1:]])
     if os.name == "nt":

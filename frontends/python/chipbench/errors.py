@@ -1,4 +1,4 @@
-"""What is raised: each is a `ChipbenchError`."""
+"""The errors of this module. Each is a `ChipbenchError`."""
 
 from __future__ import annotations
 
@@ -8,11 +8,11 @@ class ChipbenchError(Exception):
 
 
 class WrongType(ChipbenchError, TypeError):
-    """An argument has a type that it can't have. The text names it."""
+    """An argument has a wrong type. The text names the argument."""
 
 
 class WrongValue(ChipbenchError, ValueError):
-    """An argument has a value that it can't have. The text names it."""
+    """An argument has a wrong value. The text names the argument."""
 
 
 class Refused(ChipbenchError):
@@ -42,7 +42,7 @@ class Ended(ChipbenchError):
 
 
 class TooMuch(ChipbenchError):
-    """The answers to one exchange are over their bound. The program is of no more use."""
+    """The answers to one exchange are over their bound. The program can't be used any more."""
 
 
 class Stale(ChipbenchError):

@@ -1,4 +1,4 @@
-"""The streams of a running program: a script goes in, and what comes back is read piece by piece."""
+"""The streams of a running program: a script goes in, and the output is read piece by piece."""
 
 from __future__ import annotations
 
@@ -13,7 +13,7 @@ from typing import Protocol
 
 PIECE_BYTES = 1 << 18
 WRITTEN_BYTES = 1 << 16
-# so many bytes always fit into an empty pipe
+# the number of bytes that always fit into an empty pipe
 SHORT_SCRIPT = 4096
 
 
@@ -21,12 +21,12 @@ class Pipes(Protocol):
     """The standard input and output of one program."""
 
     def pieces(self, script: bytes, seconds: float) -> Iterator[bytes]:
-        """Writes a script, and yields what the program prints as it comes; an empty piece is the end of the output. `TimeoutError`
-        where that many seconds have passed. Whoever has read enough stops asking."""
+        """Writes a script, and yields the output of the program as it comes; an empty piece is its end. Raises `TimeoutError` after
+        that many seconds. A caller that has read enough stops asking."""
 
 
 class SelectedPipes:
-    """By `select`, where pipes can be waited for."""
+    """Uses `select`, on systems that can wait for pipes."""
 
     def __init__(self, process: subprocess.Popen[bytes]) -> None:
         assert process.stdin is not None and process.stdout is not None
@@ -55,7 +55,7 @@ class SelectedPipes:
 
 
 class ThreadedPipes:
-    """By a thread that reads, and one that writes a long script: Windows can't wait for pipes."""
+    """Uses a thread that reads, and one that writes a long script, because Windows can't wait for pipes."""
 
     def __init__(self, process: subprocess.Popen[bytes]) -> None:
         assert process.stdin is not None and process.stdout is not None
@@ -88,7 +88,7 @@ def read_all(output: int, read: queue.SimpleQueue[bytes]) -> None:
 
 
 def write_all(target: int, script: bytes) -> None:
-    """Writes a script. A program that has ended takes no more of it, which its output shows."""
+    """Writes a script. A program that has ended takes no more of it, and its output shows that."""
     left = memoryview(script)
     while left:
         try:
@@ -98,7 +98,7 @@ def write_all(target: int, script: bytes) -> None:
 
 
 def pipes_of(process: subprocess.Popen[bytes]) -> Pipes:
-    """The pipes of a program, in the way that this system has."""
+    """The pipes of a program, of the kind that this system supports."""
     if os.name == "nt":
         return ThreadedPipes(process)
     return SelectedPipes(process)

@@ -1,4 +1,4 @@
-"""The program: where it is, one run of it, and the protocol of `debug`. Nothing of the language."""
+"""The program: its path, one run of it, and the protocol of `debug`. Nothing here knows the language."""
 
 from __future__ import annotations
 
@@ -23,21 +23,21 @@ ONCE_SECONDS = 20.0
 # The most bytes of the answers of one exchange, unless a program has another bound.
 MOST_BYTES = 1 << 30
 
-# An answer whose first line is `no CODE` ends there. Of the others these end with a line `.`, and these have several lines.
+# An answer whose first line is `no CODE` ends there. Other answers to these commands end with a line `.`, or have several lines.
 ENDED_BY_DOT = {b"syms", b"list", b"faults", b"screen", b"dis"}
 LINES = {b"regs": 3}
-# What the program prints in place of all answers where the source doesn't open.
+# The program's output, in place of all answers, for a source that doesn't open.
 NOT_OPENED = b"no O"
 # The codes of sources that don't open.
 UNOPENED = ("O1", "O2")
-#: What runs the program in WebAssembly.
+#: The command that runs the program in WebAssembly.
 NODE = "node"
-#: How a program is started that Ctrl+C doesn't reach.
+#: The arguments that start a program that Ctrl+C doesn't reach.
 OWN_SESSION: dict[str, Any] = {"creationflags": 0x200} if os.name == "nt" else {"start_new_session": True}
 
 
 def answer_end(command: bytes, read: bytes | bytearray, start: int) -> int:
-    """Where the answer to a command ends that begins at `start`, or -1 where it isn't whole yet.
+    """The end of the answer that begins at `start`, or -1 if the answer isn't whole yet.
 
     >>> answer_end(b"image", b"00e0\\nok\\n", 0)
     5
@@ -63,14 +63,14 @@ def answer_end(command: bytes, read: bytes | bytearray, start: int) -> int:
 
 
 class Program:
-    """One running program `chipbench debug`. It is for one thread at a time. One that isn't closed ends with this object."""
+    """One running program `chipbench debug`, for one thread at a time. If it isn't closed, it ends with this object."""
 
     def __init__(
         self, arguments: Sequence[str], most_bytes: int = MOST_BYTES, pipes: Callable[[subprocess.Popen[bytes]], Pipes] = pipes_of
     ) -> None:
         self._errors = tempfile.TemporaryFile()
         try:
-            # in a session of its own: Ctrl+C at the terminal is for the script that reads the answers
+            # in a separate session, because Ctrl+C at the terminal is for the script that reads the answers
             self._process = subprocess.Popen(
                 command_of(arguments),
                 stdin=subprocess.PIPE,
@@ -165,8 +165,8 @@ def end(process: subprocess.Popen[bytes]) -> int:
 
 
 def end_unclosed(process: subprocess.Popen[bytes], errors: IO[bytes], owner: int) -> None:
-    """Ends the program of an object that nobody has any more. A process that was forked has the object from its parent, whose program
-    goes on: it lets go of its own ends of the streams alone."""
+    """Ends the program of an object that nobody uses any more. A forked process only closes its own ends of the streams, because
+    the program belongs to its parent and goes on."""
     if os.getpid() == owner:
         end(process)
     else:
@@ -178,7 +178,7 @@ def end_unclosed(process: subprocess.Popen[bytes], errors: IO[bytes], owner: int
 
 
 def find_program() -> str:
-    """The program: $CHIPBENCH, the one inside of this package, the one built, released or installed beside it, or `chipbench` of
+    """The program: $CHIPBENCH, the one inside this package, the one built, released or installed beside it, or `chipbench` on
     the PATH."""
     named = os.environ.get("CHIPBENCH")
     if named:
@@ -195,12 +195,12 @@ def find_program() -> str:
             return str(place.resolve())
     found = shutil.which("chipbench")
     if found is None:
-        raise ChipbenchError("no program chipbench: give program=, set $CHIPBENCH, or put chipbench on the PATH")
+        raise ChipbenchError("no program chipbench was found: give program=, set $CHIPBENCH, or put chipbench on the PATH")
     return found
 
 
 def inner_program() -> str | None:
-    """The program inside of this package: that for this system, or the one in WebAssembly, which needs node; None where there is
+    """The program inside this package: the one for this system, or the one in WebAssembly, which needs node; None if there is
     none."""
     package = Path(__file__).resolve().parent
     native, portable = package / "bin/chipbench", package / "wasm/chipbench.mjs"
@@ -209,7 +209,7 @@ def inner_program() -> str | None:
     if not portable.is_file():
         return None
     if shutil.which(NODE) is None:
-        raise ChipbenchError("the program in this package needs node, of version 20 or later, on the PATH; or set $CHIPBENCH")
+        raise ChipbenchError("the program in this package needs node 20 or later on the PATH; or set $CHIPBENCH")
     return str(portable)
 
 
@@ -238,7 +238,7 @@ def cannot_run(program: str, error: OSError) -> ChipbenchError:
 
 
 def what_it_is(program: str) -> str | None:
-    """What is wrong with a program that ends at once: None where it is chipbench, else a sentence."""
+    """A sentence that says why a program that ends at once isn't chipbench; None if it is chipbench."""
     status, output, _ = run_once([program, "--version"])
     if status == 0 and output.startswith(b"chipbench "):
         return None
@@ -248,7 +248,7 @@ def what_it_is(program: str) -> str | None:
 
 @functools.lru_cache(maxsize=8)
 def sentences(program: str) -> dict[str, str]:
-    """The sentence of each code, by the program's `explain`. Without that command there are none."""
+    """The sentence of each code, from the program's `explain`; empty if the program lacks that command."""
     try:
         status, output, _ = run_once([program, "explain"])
     except ChipbenchError:

@@ -14,7 +14,7 @@ from .program import UNOPENED, find_program, refusal, run_once
 
 
 def to_bytes(text: str | bytes) -> bytes:
-    """The bytes of a text in UTF-8. Bytes that `to_text` couldn't read become themselves again."""
+    """The bytes of a text in UTF-8. Bytes that `to_text` couldn't decode come back unchanged."""
     if isinstance(text, bytes):
         return text
     try:
@@ -41,14 +41,14 @@ def split_lines(source: bytes) -> list[bytes]:
 
 
 def join_lines(lines: Iterable[bytes]) -> bytes:
-    """A source that has these lines. A CR at a line's end gets a second one, since one is dropped."""
+    """A source that has these lines. A CR at a line's end gets a second one, because reading drops one."""
     return b"".join(line + (b"\r\n" if line.endswith(b"\r") else b"\n") for line in lines)
 
 
 @dataclass(frozen=True)
 class Fault:
-    """A fault of a line, or a warning, whose code begins with W, or with P where a property can't be read. `start` and `end`
-    are byte positions in the line, which only `check` reports, as it does warnings."""
+    """A fault of a line, or a warning. The code of a warning begins with W, or with P if a property can't be read. `start` and
+    `end` are byte positions in the line. Only `check` reports these and warnings."""
 
     line: int
     code: str
@@ -66,7 +66,7 @@ class Fault:
 
 
 class Symbol(NamedTuple):
-    """What a name is: its value, and the line that defines it."""
+    """A name of the source: its value, and the line that defines it."""
 
     value: int
     line: int
@@ -130,7 +130,7 @@ def check(
     [(1, 'F9', 7, 13)]
     """
     content, program = to_bytes(source_text(source)), program or find_program()
-    # settings of editors have an empty text or no bytes for what isn't set
+    # settings of editors have an empty text or no bytes for an option that isn't set
     given = {"profile": profile, "quirks": quirks, "tape": tape or None, "seed": None if seed == "" else seed}
     options = [f"--{name}={value}" for name, value in option_texts(given).items() if value]
     status, output, errors = run_once([program, "check", "--json", *options, "-"], content)

@@ -18,7 +18,7 @@ ROW_WIDTH = 80
 
 
 def wrapped(parts: Sequence[str], width: int) -> list[str]:
-    """Parts with two blanks between them, in lines of at most `width`, where each part is no longer.
+    """Parts with two blanks between them, in lines of at most `width`. A part must not be longer than that.
 
     >>> wrapped(["one", "two", "three"], 8)
     ['one  two', 'three']
@@ -68,7 +68,7 @@ class Screen:
         )
 
     def draw(self, letters: str = " ▀▄█") -> str:
-        """The screen as text, a character for two pixels, one above the other: `letters` for none, the upper, the lower, both."""
+        """The screen as text, one character for two pixels above each other: `letters` for none, the upper, the lower, both."""
         pairs = (zip(upper, lower) for upper, lower in zip(self.rows[::2], self.rows[1::2]))
         return "\n".join("".join(letters[(above == "#") + 2 * (below == "#")] for above, below in pair) for pair in pairs)
 
@@ -77,9 +77,9 @@ class Screen:
 
 
 class State:
-    """The machine after some steps. The registers are read at once, `screen` and `memory` when they are first used; that raises
-    `Stale` where the source or the key events have changed since. States are equal where all of them is, the step too. One that is
-    pickled or copied has its screen and its memory, and no bench."""
+    """The machine after some steps. The registers are read at once, `screen` and `memory` at their first use, which raises `Stale`
+    if the source or the key events have changed since. States are equal if everything is equal, with the step. A pickled or copied
+    state has its screen and its memory, and no bench."""
 
     def __init__(self, bench: Bench, step: int, answer: bytes) -> None:
         registers, counters, parts = answer.decode("ascii").splitlines()
@@ -135,8 +135,8 @@ class State:
         vars(self).update(parts, _bench=None)
 
     def rows(self, width: int = ROW_WIDTH, others: Iterable[str] = ()) -> list[str]:
-        """The registers, the timers, the call stack and the flags as the shell shows them, in rows of at most `width` characters;
-        `others` stand behind the timers."""
+        """The registers, the timers, the call stack and the flags as the shell shows them, in rows of at most `width` characters,
+        with `others` after the timers."""
         count = next((count for count in (16, 8, 4) if count * 7 - 2 <= width), 2)
         values = [f"V{number:X} {value:02x}" for number, value in enumerate(self.v)]
         parts = [f"PC {self.pc:04x}", f"I {self.i:04x}", f"DT {self.delay_timer:02x}", f"ST {self.sound_timer:02x}"]

@@ -20,7 +20,7 @@ def parser() -> argparse.ArgumentParser:
         description="A debug adapter for sources of chipbench, on standard input and output.",
         allow_abbrev=False,
     )
-    which = "the program chipbench; by default $CHIPBENCH, the one beside the adapter, or the one on the PATH"
+    which = "the chipbench to run (default: $CHIPBENCH, the one beside the adapter, or the one on the PATH)"
     words.add_argument("--program", metavar="PATH", help=which)
     return words
 

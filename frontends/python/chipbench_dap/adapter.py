@@ -1,6 +1,6 @@
-"""The adapter: takes requests in their order, and tells the client where the machine is.
+"""The adapter: takes requests in order, and tells the client where the machine is.
 
-One thread reads messages, so that a request can be cancelled before its turn. All else is done by the main thread: while the
+One thread reads messages, so that a request can be cancelled before its turn. The main thread does everything else: while the
 machine runs, it takes a slice of the search, looks whether a message waits, and goes on.
 """
 
@@ -30,7 +30,7 @@ from .variables import Variables
 from .wire import Arguments, Refusal, Writer, is_a, shown
 
 THREAD = 1
-#: How often the file is looked at while the machine stands still, and after how long a move reports its progress.
+#: The seconds between two looks at the file while the machine stands still, and before a move reports its progress.
 LOOK_SECONDS, SILENT_SECONDS, TOLD_SECONDS = 0.3, 0.7, 0.5
 #: The requests that are answered while the machine runs.
 WHILE_RUNNING = frozenset({
@@ -44,16 +44,16 @@ Handler = Callable[["Adapter", Any], "Arguments | None"]
 
 
 def check_program() -> None:
-    """Says what to do where there is no program."""
+    """Says what to do if no program is found."""
     try:
         find_program()
     except ChipbenchError:
-        raise Refusal('no program chipbench was found: install it, or name it as "chipbench" in the launch') from None
+        raise Refusal('no program chipbench was found: install it, or name it as "chipbench" in the launch configuration') from None
 
 
 @dataclass
 class Client:
-    """What the client has said of itself."""
+    """The abilities and conventions that the client has named."""
 
     first_line: int = 1
     first_column: int = 1
@@ -73,7 +73,7 @@ class Move:
     request: int
     task: Task
     began: float
-    #: What is added to the step that is found.
+    #: The number that is added to the step found.
     behind: int = 0
     told: float = 0.0
     progress: str | None = None
@@ -108,7 +108,7 @@ class Adapter:
     # -- the loop
 
     def serve(self) -> int:
-        """Serves until the client ends it. The status is 0 where it said `disconnect`."""
+        """Serves until the client ends it. The status is 0 if the client sent `disconnect`."""
         self._incoming.start()
         try:
             while not self._is_ended:
@@ -121,7 +121,7 @@ class Adapter:
         return 0 if self._was_asked_to_end else 1
 
     def _hear(self, message: Arguments) -> None:
-        """Notes at once what has to reach a request that is being answered."""
+        """Notes at once any message that concerns the request being answered."""
         command = message.get("command")
         if command == "cancel":
             request = dig(message, "arguments", "requestId")
@@ -132,7 +132,7 @@ class Adapter:
             self._is_ending.set()
 
     def _turn(self) -> None:
-        """Takes one message. Where none waits, goes on with a move, or looks at the file."""
+        """Takes one message. If none waits, goes on with a move, or looks at the file."""
         try:
             if self.move is not None:
                 message = self._incoming.get_nowait()
@@ -148,7 +148,7 @@ class Adapter:
         if message is END:
             self._is_ended = True
         elif isinstance(message, BadMessage):
-            self.output(f"a message is left out: {message}\n", "stderr")
+            self.output(f"the adapter skips a message that it can't read: {message}\n", "stderr")
         else:
             self._take(message)
 
@@ -157,7 +157,7 @@ class Adapter:
         if message.get("type") != "request":
             return
         if not is_a(request, int):
-            self.output("a request is left out: its seq is not a number\n", "stderr")
+            self.output("the adapter skips a request whose seq is not a number\n", "stderr")
             return
         assert isinstance(request, int)
         self.request = request
@@ -192,16 +192,16 @@ class Adapter:
         if command not in self._handlers:
             raise Refusal(f"no such request: {command[:60]}")
         if arguments is not None and not isinstance(arguments, dict):
-            raise Refusal(f"the arguments of {command} have to be an object, and are {shown(arguments)}")
+            raise Refusal(f"the arguments of {command} must be an object, but are {shown(arguments)}")
         if not self.is_initialized and command not in ("initialize", "disconnect", "cancel"):
-            raise Refusal("initialize comes first")
+            raise Refusal("initialize must come first")
         if self.is_cancelled():
             raise Refusal("cancelled", "cancelled", is_shown=False)
         if self.move is not None and command not in WHILE_RUNNING:
             raise Refusal("the machine runs: pause it first", "notStopped", is_shown=False)
         return self._handlers[command](self, arguments or {})
 
-    # -- what the handlers use
+    # -- helpers of the handlers
 
     @property
     def run(self) -> Run:
@@ -210,7 +210,7 @@ class Adapter:
         return self._run
 
     def later(self, action: Callable[[], None]) -> None:
-        """Does something once the request is answered."""
+        """Calls `action` once the request is answered."""
         self._later.append(action)
 
     def is_cancelled(self) -> bool:
@@ -218,7 +218,7 @@ class Adapter:
             return self.request in self._cancelled
 
     def drain(self, task: Task) -> Found:
-        """Carries out a search at once. `Refusal` where its request is cancelled, or the client ends."""
+        """Carries out a search at once. Raises `Refusal` if its request is cancelled, or the client ends."""
         while True:
             try:
                 next(task)
@@ -250,7 +250,7 @@ class Adapter:
         return self.variables
 
     def is_source(self, path: str | None, number: int | None) -> bool:
-        """Whether a source is the one that is debugged, by its path, or by the number of that of an image."""
+        """Whether a source is the debugged one, by its path, or for an image by the number of its source."""
         run = self.run
         if run.path is None:
             return number == 1
@@ -260,7 +260,7 @@ class Adapter:
         return os.path.realpath(plain) == os.path.realpath(run.path)
 
     def source(self) -> dict[str, Any]:
-        """The source as the protocol names it; the one of an image has no path, and is asked for."""
+        """The source as the protocol names it. The source of an image has no path, and the client asks for its text."""
         run = self.run
         if run.path is None:
             name = run.image.name if run.image is not None else "image"
@@ -270,7 +270,7 @@ class Adapter:
     # -- the game
 
     def open(self, arguments: Arguments) -> None:
-        """Opens the game of `launch`. `Refusal` where it has a fault."""
+        """Opens the game of `launch`. Raises `Refusal` if it has a fault."""
         launch = read_launch(arguments, self.program, self.client.has_uris)
         for told in misspelled(arguments):
             self.output(told + "\n", "important")
@@ -284,7 +284,7 @@ class Adapter:
             raise
         if fault is not None:
             run.close()
-            raise Refusal(f"{fault}; a game is debugged once its source has no fault")
+            raise Refusal(f"{fault}; fix the fault, and launch the game again")
         self._end_move()
         if self._run is not None:
             self._run.close()
@@ -328,7 +328,7 @@ class Adapter:
             self._tell_progress(move, step)
 
     def _attempt(self, action: Callable[[], None]) -> None:
-        """Does something that no request waits for."""
+        """Does something that no request waits for, and reports its failure as output."""
         try:
             action()
         except BrokenPipeError:
@@ -337,7 +337,7 @@ class Adapter:
             self._failed(error)
 
     def _failed(self, error: Exception) -> None:
-        """Says why the machine isn't where it was asked to be."""
+        """Says why a move failed."""
         self.output(f"{self._sentence(error)}\n", "stderr")
         self.stopped("pause", "this has failed")
 
@@ -361,7 +361,7 @@ class Adapter:
         self.writer.event("progressUpdate", {"progressId": move.progress, "message": f"step {step}", "percentage": share})
 
     def anew(self) -> None:
-        """Goes on with a move from where it is, under the breakpoints as they are now."""
+        """Goes on with a move from its present step, under the present breakpoints."""
         if self.move is not None:
             self.move.task.close()
             self.move.task = self.move.begin(self.move.at)
@@ -377,7 +377,7 @@ class Adapter:
         self.later(lambda: self.stopped("pause", f"paused at step {self.run.step}"))
 
     def _arrive(self, move: Move, found: Found) -> None:
-        """Goes to what a move has found, and says why it ends there."""
+        """Goes to the step that a move has found, and says why it ends there."""
         run = self.run
         if found.step is not None:
             run.step = min(found.step + move.behind, LAST_STEP)
@@ -385,13 +385,13 @@ class Adapter:
             self._hit(found, numbers)
         elif not move.is_forward:
             run.step = 0
-            self.stopped("entry" if move.behind == 0 else "restart", "at the start: nothing is before it")
+            self.stopped("entry" if move.behind == 0 else "restart", "at the start: no step is before it")
         elif found.is_stopped:
             run.step = found.last
             self.stopped_at_fault()
         else:
             run.step = found.last
-            self.output(f"no breakpoint up to step {found.last}, the last one that can be asked for\n")
+            self.output(f"no breakpoint up to step {found.last}, the last step that a run can have\n")
             self.stopped("pause", f"step {found.last} is the last one")
 
     def _hit(self, found: Found, numbers: list[int]) -> None:
@@ -414,7 +414,7 @@ class Adapter:
             self.stopped("step")
 
     def stopped_at_fault(self) -> None:
-        """Says that the machine has stopped. Where no filter asks for it, the session ends with the run."""
+        """Says that the machine has stopped. If no filter asks for this, the session ends with the run."""
         state = self.run.state()
         text = self.run.stop_text(state.stopped or "")
         if not self.stops_at_faults or (self.launch is not None and not self.launch.is_debugged):
@@ -434,7 +434,7 @@ class Adapter:
     def ended(self) -> None:
         """Ends the session as the client has asked."""
         self._was_asked_to_end = True
-        # what is asked after this is answered
+        # later requests are still answered
         self._is_ending.clear()
         self.terminated()
 
@@ -449,15 +449,15 @@ class Adapter:
     # -- edits
 
     def _look_at_file(self) -> None:
-        """Takes over what the editor has saved, at the step where one is."""
+        """Takes over the file that the editor has saved, at the current step."""
         run = self.run
         old = list(run.game.bench.lines)
         try:
             told = run.take_edit()
         except Exception as error:
-            # the file is looked at again and again
+            # the error is reported once, though the file is looked at again and again
             if str(error) != self._file_error:
-                self.output(f"the file isn't taken: {error}\n", "stderr")
+                self.output(f"the run keeps its lines, because the file can't be used: {error}\n", "stderr")
             self._file_error = str(error)
             return
         self._file_error = ""
@@ -468,7 +468,7 @@ class Adapter:
             self.edited(old)
 
     def edited(self, old: list[bytes]) -> None:
-        """Tells the client what an edit of the lines has moved."""
+        """Tells the client which breakpoints an edit of the lines has moved."""
         new = self.run.game.bench.lines
         first, last = same_ends(old, new)
 

@@ -1,4 +1,4 @@
-"""Breakpoints as the client sets them, and what they want of a search."""
+"""Breakpoints as the client sets them, and the `Wanted` that each gives a search."""
 
 from __future__ import annotations
 
@@ -15,12 +15,12 @@ from .wire import Arguments, optional, required
 
 LAST_ADDRESS = 4095
 FIELD = re.compile(r"\{([^{}]*)\}")
-#: What each kind is called where the machine stops at it.
+#: The name of each kind when the machine stops at it.
 REASONS = {
     "line": "breakpoint", "function": "function breakpoint", "instruction": "instruction breakpoint", "data": "data breakpoint",
 }
 
-#: Writes what a log point has to say: its text.
+#: Writes the text of a log point.
 Tell = Callable[[str], None]
 
 
@@ -43,7 +43,7 @@ class Breakpoint:
 
 
 class Breakpoints:
-    """All that are set. A breakpoint that can't be set stays unverified with a message, and is tried again after an edit."""
+    """All breakpoints. One that can't be set stays unverified with a message, and is tried again after an edit."""
 
     def __init__(self, run: Run, tell: Tell) -> None:
         self.run = run
@@ -61,7 +61,7 @@ class Breakpoints:
         return [point.wanted for point in self if point.wanted is not None]
 
     def replace(self, kind: str, given: list[Arguments], place: Callable[[Arguments], int | str]) -> list[Breakpoint]:
-        """Puts these breakpoints in the place of all of a kind. Those that were there keep their numbers."""
+        """Replaces all breakpoints of a kind by these. A breakpoint that was set before keeps its number."""
         made: list[Breakpoint] = []
         for one in given:
             point = Breakpoint(
@@ -84,13 +84,13 @@ class Breakpoints:
         return self._last
 
     def take_over(self, old: Breakpoints) -> None:
-        """Sets what was set for a run before this one."""
+        """Sets the breakpoints of an earlier run again."""
         self._last, self.points = old._last, old.points
         for point in self:
             self.resolve(point)
 
     def resolve(self, point: Breakpoint) -> None:
-        """Finds out where a breakpoint is, and what it wants of a search."""
+        """Finds the address of a breakpoint, and the `Wanted` that it gives a search."""
         point.wanted, point.problem, point.line, point.address = None, "", None, None
         layout = self.run.layout()
         try:
@@ -107,7 +107,7 @@ class Breakpoints:
         if point.kind == "line":
             line = layout.with_code(int(point.place))
             if line is None:
-                raise Mistake(f"line {point.place} has no code, and no line after it has")
+                raise Mistake(f"neither line {point.place} nor any line after it has code")
             point.line, point.address = line.number, line.address
         elif point.kind == "function":
             point.address = label_address(layout, str(point.place))
@@ -115,13 +115,13 @@ class Breakpoints:
         elif point.kind == "instruction":
             point.address = int(point.place)
             if not 0 <= point.address <= LAST_ADDRESS:
-                raise Mistake(f"#{point.address:X} is no address: the memory has 0 to {LAST_ADDRESS}")
+                raise Mistake(f"#{point.address:X} is no address: the memory has the addresses 0 to {LAST_ADDRESS}")
             point.line = layout.line_at(point.address)
         else:
             point.subject = read_subject(str(point.place), layout.symbols)
 
     def _teller(self, point: Breakpoint) -> Callable[[int, LineView], None]:
-        """Writes the text of a log point, with the values of what stands in it between braces."""
+        """Writes the text of a log point, with values in place of the expressions between braces."""
         symbols = self.run.layout().symbols
         sums = {text: read_sum(text, symbols) for text in FIELD.findall(point.log)}
 
@@ -134,7 +134,7 @@ class Breakpoints:
         return told
 
     def move(self, moved: Callable[[int], int | None]) -> list[Breakpoint]:
-        """Finds all anew after an edit: a breakpoint on a line stays with its line. Returns those that changed."""
+        """Finds all breakpoints anew after an edit. A breakpoint on a line stays with its line. Returns those that changed."""
         changed = []
         for point in self:
             before = (point.line, point.address, point.problem)
@@ -164,7 +164,7 @@ def reference(text: str) -> int:
     try:
         return int(text, 0)
     except ValueError:
-        raise Mistake(f"'{text}' is not a memory reference: 0x0204") from None
+        raise Mistake(f"'{text}' is not a memory reference: expected an address such as 0x0204") from None
 
 
 def instruction_place(one: Arguments) -> int:

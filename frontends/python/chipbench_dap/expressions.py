@@ -1,8 +1,7 @@
-"""Sums and conditions as properties have them (docs/LANGUAGE.md), worked out at a step of the run.
+"""Sums and conditions like those of properties (docs/LANGUAGE.md), evaluated at a step of the run.
 
-Both sides of a comparison are worked out anew at each step. Other than in a property, `-` and products of any two values
-may stand in a sum, `==` means `=`, ST, DRAWS and STEP have values, and inside of parentheses and brackets stands whatever
-has a value.
+Both sides of a comparison are evaluated at each step. Unlike in a property, a sum may have `-` and products of any two values,
+`==` means `=`, ST, DRAWS and STEP have values, and parentheses and brackets may hold anything that has a value.
 """
 
 from __future__ import annotations
@@ -19,7 +18,7 @@ from chipbench_shell.values import Mistake, near
 
 LAST_ADDRESS = 4095
 MOST_SHIFT = 31
-#: How deep parentheses may be, as in a property.
+#: The most parentheses inside each other, as in a property.
 MOST_DEPTH = 16
 #: The most characters of a text that is read.
 LONGEST = 500
@@ -40,12 +39,12 @@ COMPARED: dict[str, Callable[[int, int], bool]] = {
     "=": operator.eq, "==": operator.eq, "!=": operator.ne, "<>": operator.ne,
     "<": operator.lt, "<=": operator.le, ">": operator.gt, ">=": operator.ge,
 }
-#: The operators inside of parentheses: the weakest level first, as docs/LANGUAGE.md has them the other way around.
+#: The operators inside parentheses, the weakest level first. docs/LANGUAGE.md lists them the other way around.
 LEVELS = (("^", "\\"), ("|",), ("&",), ("+", "-"), ("*", "/"), ("<", ">"))
 
 
 class NoValue(Exception):
-    """What is asked for has no value at this step, such as a byte past the memory. A comparison with it is false."""
+    """An item has no value at this step, such as a byte past the memory. A comparison with it is false."""
 
 
 class View(Protocol):
@@ -58,7 +57,7 @@ class View(Protocol):
         """The byte of the memory at an address, 0 to 4095."""
 
     def pixel(self, column: int, row: int) -> int:
-        """1 where a pixel is lit. `NoValue` outside of the screen."""
+        """1 if a pixel is lit. Raises `NoValue` outside the screen."""
 
 
 Value = Callable[[View], int]
@@ -67,7 +66,7 @@ Test = Callable[[View], bool]
 
 @dataclass(frozen=True)
 class Condition:
-    """What has to hold, as it was written, and as a view of a step answers it."""
+    """A condition: its text, and the test of it at a step."""
 
     text: str
     holds: Test
@@ -75,7 +74,7 @@ class Condition:
 
 @dataclass(frozen=True)
 class Subject:
-    """What a data breakpoint looks at. `read` gives a value that is compared with that of the step before."""
+    """The subject of a data breakpoint. `read` gives a value that is compared with that of the step before."""
 
     text: str
     digits: int
@@ -157,7 +156,7 @@ class Reader:
             if found is None:
                 if not text[place:].strip():
                     break
-                raise Mistake(f"'{text.strip()}': {text[place:].strip()[0]!r} can't stand there")
+                raise Mistake(f"'{text.strip()}': {text[place:].strip()[0]!r} isn't expected there")
             kind = found.lastgroup or "sign"
             tokens.append((kind, found[kind]))
             place = found.end()
@@ -174,7 +173,7 @@ class Reader:
         return token
 
     def _takes(self, *texts: str) -> str | None:
-        """Takes the next token if it is one of these; it is returned in upper case."""
+        """Takes the next token if it is one of these, and returns it in upper case."""
         kind, text = self._peek()
         if kind == "end" or text.upper() not in texts:
             return None
@@ -186,15 +185,15 @@ class Reader:
             raise Mistake(f"'{self._text.strip()}': expected {text}, found {self._peek()[1] or 'the end'}")
 
     def end(self) -> None:
-        """Refuses what stands behind."""
+        """Refuses any tokens that are left."""
         kind, text = self._peek()
         if kind != "end":
-            raise Mistake(f"'{self._text.strip()}': {text!r} can't stand there")
+            raise Mistake(f"'{self._text.strip()}': {text!r} isn't expected there")
 
     # -- conditions and sums
 
     def condition(self) -> Test | None:
-        """Comparisons with `and`, or with `or`, between them. None where the text is a sum; then no token is taken."""
+        """Comparisons with `and`, or with `or`, between them. None if the text is a sum, and then no token is taken."""
         start = self._place
         left = self.sum()
         if self._peek()[0] != "relation":
@@ -207,7 +206,7 @@ class Reader:
         tests.append(self._comparison(self.sum()))
         while (other := self._takes("AND", "OR")) is not None:
             if other != word:
-                raise Mistake(f"'{self._text.strip()}': `and` and `or` can't stand side by side")
+                raise Mistake(f"'{self._text.strip()}': `and` and `or` can't be mixed: use one of them")
             tests.append(self._comparison(self.sum()))
         if word == "AND":
             return lambda view: all(test(view) for test in tests)
@@ -274,7 +273,7 @@ class Reader:
     def _nested(self) -> Value:
         self._depth += 1
         if self._depth > MOST_DEPTH:
-            raise Mistake(f"'{self._text.strip()[:40]}': over {MOST_DEPTH} parentheses or brackets are open")
+            raise Mistake(f"'{self._text.strip()[:40]}': more than {MOST_DEPTH} parentheses or brackets are open")
         value = self._inside()
         self._depth -= 1
         return value
@@ -284,7 +283,7 @@ class Reader:
         return lambda view: number
 
     def _word(self, text: str, is_inside: bool) -> Value:
-        """A word of properties stands for itself. Between parentheses and brackets a name of the source comes first."""
+        """A word of properties keeps its meaning, except that between parentheses and brackets a name of the source comes first."""
         name = text.upper()
         symbol = self._symbols.get(name)
         if name == "PIXEL" and self._peek()[1] == "(":
@@ -306,7 +305,7 @@ class Reader:
     # -- subjects
 
     def subject(self) -> Subject:
-        """What a data breakpoint looks at: a range of bytes `[A .. B]`, or anything that has a value."""
+        """The subject of a data breakpoint: a range of bytes `[A .. B]`, or anything that has a value."""
         plain = self._text.strip()
         if self._takes("["):
             first = self._nested()
@@ -320,7 +319,7 @@ class Reader:
 
 
 def value_or_none(value: Value, view: View) -> int:
-    """A value, or -1 where there is none."""
+    """A value, or -1 if there is none."""
     try:
         return value(view)
     except NoValue:
@@ -338,7 +337,7 @@ def bytes_of(first: Value, last: Value) -> Callable[[View], tuple[int, ...]]:
 
 
 def read_condition(text: str, symbols: Mapping[str, Symbol]) -> Condition:
-    """A condition such as `V3 = 5 and [SCORE] > V0`; a sum alone holds where it isn't 0."""
+    """A condition such as `V3 = 5 and [SCORE] > V0`. A sum alone holds if it isn't 0."""
     reader = Reader(text, symbols)
     test = reader.condition()
     if test is not None:
@@ -358,8 +357,8 @@ def read_sum(text: str, symbols: Mapping[str, Symbol]) -> Value:
 
 
 def read_subject(text: str, symbols: Mapping[str, Symbol]) -> Subject:
-    """What a data breakpoint looks at: V3, I, [SCORE], [SCORE .. SCORE + 3], PIXEL(3, 4), or a sum of these. A label alone is
-    the byte there."""
+    """The subject of a data breakpoint: V3, I, [SCORE], [SCORE .. SCORE + 3], PIXEL(3, 4), or a sum of these. A label alone is
+    the byte at its address."""
     plain = text.strip()
     name = plain.upper()
     if name in symbols and name not in ITEMS:

@@ -1,4 +1,4 @@
-"""What a client says of the game that is to be debugged."""
+"""The arguments that describe the game to debug."""
 
 from __future__ import annotations
 
@@ -18,7 +18,7 @@ KINDS: dict[str, type] = {
     "source": str, "image": str, "keys": str, "profile": str, "quirks": str, "rate": int, "tape": str, "every": int,
     "stopOnEntry": bool, "noDebug": bool, "cwd": str, "chipbench": str,
 }
-#: `seed` may be a number or a text: JSON has no numbers of 64 bits everywhere.
+#: `seed` may be a number or a text, because not every JSON reader has numbers of 64 bits.
 KNOWN = (*KINDS, "seed")
 MOST_SEED = (1 << 64) - 1
 
@@ -37,10 +37,10 @@ class Launch:
 
 
 def path_of(uri: str) -> str:
-    """The path of a file URI. `Refusal` where it is of another kind."""
+    """The path of a file URI. Raises `Refusal` for any other URI."""
     parts = urlsplit(uri)
     if parts.scheme != "file":
-        raise Refusal(f"{uri[:60]} is not a file")
+        raise Refusal(f"expected the URI of a file, found {uri[:60]}")
     return unquote(parts.path)
 
 
@@ -49,7 +49,7 @@ def full_path(arguments: Arguments, name: str, is_uri: bool) -> Path | None:
     if text is None or text == "":
         return None
     if "\0" in text:
-        raise Refusal(f"{name} is no path")
+        raise Refusal(f"{name} isn't a valid path")
     if is_uri and "://" in text:
         text = path_of(text)
     return Path(os.path.abspath(os.path.join(optional(arguments, "cwd", str) or os.getcwd(), os.path.expanduser(text))))
@@ -60,7 +60,7 @@ def read_seed(value: Any) -> int | None:
         return None
     text = "" if isinstance(value, bool) else str(value) if isinstance(value, (int, str)) else ""
     if not (text.isascii() and text.isdigit() and len(text) <= 20) or int(text) > MOST_SEED:
-        raise Refusal("seed has to be a number of 64 bits, or such a number as a text")
+        raise Refusal("seed must be a number of 64 bits, or such a number as a text")
     return int(text)
 
 
@@ -70,11 +70,11 @@ def read_tape(text: str | None) -> bytes | None:
     try:
         return bytes.fromhex(text)
     except ValueError:
-        raise Refusal("tape has to be bytes in hexadecimal, such as \"3f80\"") from None
+        raise Refusal("tape must be bytes in hexadecimal, such as \"3f80\"") from None
 
 
 def read_launch(arguments: Any, program: str | None, is_uri: bool) -> Launch:
-    """Reads the arguments of `launch`. `Refusal` names the argument that is wrong."""
+    """Reads the arguments of `launch`. Raises a `Refusal` that names the wrong argument."""
     if not isinstance(arguments, dict):
         raise Refusal("launch has no arguments: \"source\" names the file to debug")
     found = {name: optional(arguments, name, kind) for name, kind in KINDS.items()}
@@ -94,7 +94,7 @@ def read_launch(arguments: Any, program: str | None, is_uri: bool) -> Launch:
 
 
 def misspelled(arguments: Arguments) -> list[str]:
-    """What is said of arguments that are like one that there is."""
+    """Warnings about unknown arguments that are spelled like known ones."""
     unknown = [name for name in arguments if name not in KNOWN]
     likely = [(name, near(name, KNOWN)) for name in unknown if name not in ("type", "request", "name", "program")]
     return [f"launch: there is no argument {name}{question}" for name, question in likely if question]

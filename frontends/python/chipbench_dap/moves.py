@@ -22,7 +22,7 @@ def check_thread(arguments: Any) -> None:
 def granularity(arguments: Any) -> str:
     found = optional(arguments, "granularity", str) or "statement"
     if found not in ("statement", "line", "instruction"):
-        raise Refusal(f"granularity is statement, line or instruction, and not {found[:40]}")
+        raise Refusal(f"granularity must be statement, line or instruction, but is {found[:40]}")
     return str(found)
 
 
@@ -34,21 +34,21 @@ def stepping_state(adapter: Adapter, arguments: Any) -> State | None:
 
 
 def running_state(adapter: Adapter) -> State | None:
-    """The state that a step goes on from. None where the machine has stopped: then the client is told so once more."""
+    """The state that a step goes on from. None if the machine has stopped; then the client is told so once more."""
     state = adapter.run.state()
     if state.stopped is not None:
         adapter.later(adapter.stopped_at_fault)
         return None
     if state.step >= LAST_STEP:
-        raise Refusal(f"step {LAST_STEP} is the last one that can be asked for")
+        raise Refusal(f"step {LAST_STEP} is the last step that a run can have")
     return state
 
 
 def is_at_start(adapter: Adapter) -> bool:
-    """Whether no step is before this one. Then the client is told so."""
+    """Whether this is the first step; then the client is told so."""
     if adapter.run.step > 0:
         return False
-    adapter.later(lambda: adapter.stopped("entry", "at the start: nothing is before it"))
+    adapter.later(lambda: adapter.stopped("entry", "at the start: no step is before it"))
     return True
 
 
@@ -66,7 +66,7 @@ def reverse_continue(adapter: Adapter, arguments: Any) -> None:
 
 
 def silent(wanted: list[Wanted]) -> list[Wanted]:
-    """Without the log points, which say something going forward alone."""
+    """The breakpoints without the log points, which print only on the way forward."""
     return [one for one in wanted if one.told is None]
 
 
@@ -98,12 +98,12 @@ def step_out(adapter: Adapter, arguments: Any) -> None:
         return
     depth = len(state.call_stack)
     if depth == 0:
-        raise Refusal("no call is open, so there is nothing to step out of")
+        raise Refusal("no subroutine is running, so there is nothing to step out of")
     adapter.start("step out", lambda after: adapter.run.until(not_deeper(depth - 1), adapter.wanted(), after), state.step)
 
 
 def step_back(adapter: Adapter, arguments: Any) -> None:
-    """One step back. Other than by instructions a call is gone over: to before it, in this subroutine."""
+    """One step back. Unless the granularity is instruction, a whole call is one step in this subroutine."""
     check_thread(arguments)
     is_instruction = granularity(arguments) == "instruction"
     if is_at_start(adapter):
@@ -136,7 +136,7 @@ def restart_frame(adapter: Adapter, arguments: Any) -> None:
 
 
 def goto_targets(adapter: Adapter, arguments: Any) -> Arguments:
-    """The steps at which a line is next: the one after this step, the one before it, and the first one."""
+    """The steps before a line is executed: the next after this step, the last before it, and the first."""
     source = required(arguments, "source", dict)
     number = adapter.line_in(required(arguments, "line", int))
     if not adapter.is_source(optional(source, "path", str), optional(source, "sourceReference", int)):
@@ -155,7 +155,7 @@ def goto_targets(adapter: Adapter, arguments: Any) -> Arguments:
         if found.step is not None:
             steps.setdefault(found.step, name)
     if not steps:
-        raise Refusal(f"line {number} is at no step the next one")
+        raise Refusal(f"the run never reaches line {number}")
     adapter.targets = list(steps)
     return {"targets": [
         {"id": target, "label": f"step {step}, {name}", "line": adapter.line_out(number)}
@@ -167,7 +167,7 @@ def goto(adapter: Adapter, arguments: Any) -> None:
     check_thread(arguments)
     target = required(arguments, "targetId", int)
     if not 0 <= target < len(adapter.targets):
-        raise Refusal(f"there is no target {target}: gotoTargets names them")
+        raise Refusal(f"there is no target {target}: gotoTargets lists the targets")
     adapter.run.go(adapter.targets[target])
     adapter.later(lambda: adapter.stopped("goto"))
 

@@ -1,4 +1,4 @@
-"""The requests of the protocol, but those that move the machine."""
+"""The requests of the protocol, except those that move the machine."""
 
 from __future__ import annotations
 
@@ -39,7 +39,7 @@ CAPABILITIES: dict[str, Any] = {
     ), True),
     "exceptionBreakpointFilters": [
         {"filter": "stops", "label": "The machine stops (S1 to S7)", "default": True,
-         "description": "Without it the session ends where the machine stops."},
+         "description": "Without this filter the session ends when the machine stops."},
     ],
 }
 
@@ -62,7 +62,7 @@ def initialize(adapter: Adapter, arguments: Any) -> Arguments:
 
 def launch(adapter: Adapter, arguments: Any) -> None:
     if adapter.launch is not None:
-        raise Refusal("a game is launched already: restart begins anew")
+        raise Refusal("a game is launched already: restart starts it again")
     adapter.open(arguments)
     adapter.later(lambda: adapter.writer.event("initialized"))
     if adapter.is_configured:
@@ -70,7 +70,7 @@ def launch(adapter: Adapter, arguments: Any) -> None:
 
 
 def attach(adapter: Adapter, arguments: Any) -> None:
-    raise Refusal("there is nothing to attach to: use launch, with the source")
+    raise Refusal("the adapter can't attach to a game: use launch, with its source")
 
 
 def configuration_done(adapter: Adapter, arguments: Any) -> None:
@@ -149,7 +149,7 @@ def set_data_breakpoints(adapter: Adapter, arguments: Any) -> Arguments:
     given = objects(arguments, "breakpoints", is_needed=True)
     for one in given:
         if optional(one, "accessType", str) not in (None, "write"):
-            raise Refusal("a data breakpoint stops at changes: its accessType is write")
+            raise Refusal("a data breakpoint stops only at changes: its accessType must be write")
     return breakpoints(adapter, adapter.all_points().replace("data", given, data_id))
 
 
@@ -158,7 +158,7 @@ def set_exception_breakpoints(adapter: Adapter, arguments: Any) -> Arguments:
     names = [*required(arguments, "filters", list), *more]
     for name in names:
         if not isinstance(name, str):
-            raise Refusal("each of filters has to be a text")
+            raise Refusal("each item of filters must be a text")
     adapter.stops_at_faults = "stops" in names
     return {"breakpoints": [
         {"verified": True} if name == "stops" else {"verified": False, "message": f"there is no filter {name}"} for name in names
@@ -171,7 +171,7 @@ def data_breakpoint_info(adapter: Adapter, arguments: Any) -> Arguments:
     if container >= FIRST_NAME and container - FIRST_NAME < len(symbols) and re.fullmatch(r"\[[0-9]+\]", name):
         name = f"[{list(symbols)[container - FIRST_NAME]} + {name[1:-1]}]"
     if container == SCREEN:
-        return {"dataId": None, "description": "a row of the screen: PIXEL(column, row) names one pixel"}
+        return {"dataId": None, "description": "this is a row of the screen: use PIXEL(column, row) for one pixel"}
     try:
         subject = read_subject(name, symbols)
     except Mistake as mistake:
@@ -191,7 +191,7 @@ def breakpoint_locations(adapter: Adapter, arguments: Any) -> Arguments:
     return {"breakpoints": [{"line": adapter.line_out(number)} for number in with_code]}
 
 
-# -- what is shown
+# -- the state
 
 
 def threads(adapter: Adapter, arguments: Any) -> Arguments:
@@ -215,7 +215,7 @@ def stack_trace(adapter: Adapter, arguments: Any) -> Arguments:
 
 
 def frame_depth(adapter: Adapter, number: int) -> int:
-    """How many calls are open in the frame of a number."""
+    """The number of calls that are open in a frame, by the frame's number."""
     frames = adapter.run.frames()
     if not 1 <= number <= len(frames):
         raise Refusal(f"there is no frame {number}")
@@ -323,7 +323,7 @@ def read_memory(adapter: Adapter, arguments: Any) -> Arguments:
     start = reference(required(arguments, "memoryReference", str)) + (optional(arguments, "offset", int) or 0)
     count = required(arguments, "count", int)
     if count < 0:
-        raise Refusal("count is below 0")
+        raise Refusal("expected a count from 0 on")
     if not 0 <= start < MEMORY_BYTES:
         return {"address": f"0x{max(start, 0):04x}", "unreadableBytes": count}
     content = adapter.run.state().memory[start : start + count]
@@ -338,7 +338,7 @@ def disassemble(adapter: Adapter, arguments: Any) -> Arguments:
     start += WORD_BYTES * (optional(arguments, "instructionOffset", int) or 0)
     count = required(arguments, "instructionCount", int)
     if not 0 <= count <= MOST_INSTRUCTIONS:
-        raise Refusal(f"instructionCount is {count}: 0 to {MOST_INSTRUCTIONS} instructions can be shown at once")
+        raise Refusal(f"instructionCount must be from 0 to {MOST_INSTRUCTIONS}, but is {count}")
     addresses = range(start, start + WORD_BYTES * count, WORD_BYTES)
     inside = [address for address in addresses if 0 <= address < MEMORY_BYTES - 1]
     run = adapter.run
@@ -348,7 +348,7 @@ def disassemble(adapter: Adapter, arguments: Any) -> Arguments:
 
 
 def instruction(adapter: Adapter, address: int, code: str, text: str) -> Arguments:
-    """A word of the memory; past it there is none."""
+    """A word of the memory as an instruction; a placeholder past its end."""
     if not code:
         return {"address": f"0x{max(address, 0):04x}", "instruction": "past the memory", "presentationHint": "invalid"}
     layout = adapter.run.layout()

@@ -1,4 +1,4 @@
-"""The run that is debugged: a source and its key events, the step where one is, and which line is where."""
+"""The run that is debugged: a source and its key events, the current step, and the addresses of the lines."""
 
 from __future__ import annotations
 
@@ -21,7 +21,7 @@ from .search import Finder, Found, Task, Wanted
 
 MEMORY_BYTES = 4096
 CALL_BYTES = 2
-#: The numbers of what ends a step, which are no breakpoints.
+#: The numbers of the conditions that end a step and aren't breakpoints.
 STEPPED = -1
 
 
@@ -36,7 +36,7 @@ class Frame:
 
 
 class Layout:
-    """Which line is where, for one edition of the source."""
+    """The addresses of the lines, for one edition of the source."""
 
     def __init__(self, listing: list[ListingLine], symbols: dict[str, Symbol]) -> None:
         self.listing = listing
@@ -120,7 +120,7 @@ class Run(Commands):
         return self.game.state(step)
 
     def first_fault(self) -> str | None:
-        """The first fault of the source, with its place; None where it has none."""
+        """The first fault of the source, with its place; None if it has no fault."""
         faults = self.faults_of(b"".join(line + b"\n" for line in self.game.bench.lines))
         return faults[0] if faults else None
 
@@ -132,7 +132,7 @@ class Run(Commands):
     # -- frames
 
     def frames(self) -> list[Frame]:
-        """The calls that are open, the newest first. The call stands before the address to which it returns."""
+        """The calls that are open, the newest first. A call is just before the address to which it returns."""
         state = self.state()
         addresses = [state.pc, *(address - CALL_BYTES for address in reversed(state.call_stack))]
         found = []
@@ -143,11 +143,11 @@ class Run(Commands):
         return found
 
     def _subroutine(self, state: State, call: int) -> str:
-        """The name of what a call leads to."""
+        """The name of the subroutine that a call leads to."""
         word = int.from_bytes(state.memory[call : call + CALL_BYTES], "big") if 0 <= call < MEMORY_BYTES - 1 else 0
         return self.layout().label_at(word & 0xFFF) if word >> 12 == 2 else "a subroutine"
 
-    # -- moves: each is a search, which gives the steps that it has come to
+    # -- moves: each is a search that yields the steps that it has reached
 
     def forward(self, wanted: list[Wanted], after: int) -> Task:
         return self.finder.forward(wanted, after)
@@ -160,19 +160,19 @@ class Run(Commands):
         return self.forward([Wanted(STEPPED, condition=condition), *wanted], after)
 
     def over(self, wanted: list[Wanted], after: int, depth: int) -> Task:
-        """The next step in a subroutine of this depth, or out of it: a call is made to its end."""
+        """The next step in a subroutine of this depth, or outside it. A whole call is one step."""
         return self.until(not_deeper(depth), wanted, after)
 
     def back_over(self, wanted: list[Wanted], before: int, depth: int) -> Task:
-        """The last step before one in a subroutine of this depth, or out of it."""
+        """The last earlier step in a subroutine of this depth, or outside it."""
         return self.backward([Wanted(STEPPED, condition=not_deeper(depth)), *wanted], before)
 
     def entry(self, depth: int, before: int) -> Task:
-        """The last step before one that has fewer calls open: the next step is the first one of that call."""
+        """The last earlier step that has fewer calls open. The step after it is the first one of the call."""
         return self.backward([Wanted(STEPPED, condition=not_deeper(depth - 1))], before)
 
     def last_of_stop(self, step: int) -> int:
-        """The first step at which the machine has stopped, where it has stopped at this one."""
+        """The first step at which the machine has stopped, if it has stopped at this one."""
         return bisect.bisect_left(range(step), True, key=lambda at: self.state(at).stopped is not None)
 
     def go(self, step: int) -> None:
@@ -184,7 +184,7 @@ class Run(Commands):
     # -- the file
 
     def take_edit(self) -> str | None:
-        """Takes over what an editor has written to the file, and says what it changed. A source with faults isn't taken."""
+        """Takes over the file that an editor has written, and says what changed. A source with faults isn't taken."""
         content = self.game.look_at_file()
         if content is None:
             return None
@@ -200,7 +200,7 @@ class Run(Commands):
         return self.changed(take, name)
 
     def changed(self, edit: Callable[[], str], subject: str) -> str:
-        """Makes an edit, and says what differs at the step where one is."""
+        """Makes an edit, and says what differs at the current step."""
         snapshot = Snapshot(self.game)
         try:
             done = edit()
@@ -224,11 +224,11 @@ class Run(Commands):
         return views.printable(self.layout().listing[number - 1].text.strip())
 
     def place_text(self, step: int) -> str:
-        """Where the machine is at a step: its line, or the instruction."""
+        """The line of a step, or its instruction."""
         return self.where(self.state(step))
 
     def change_text(self, subject: Subject, found: Found) -> str:
-        """What a step has changed, and which line did it."""
+        """Says what a step has changed, and which line did it."""
         place = self.place_text(found.changed_by or 0)
         return f"{subject.text} {subject.shown(found.before)} -> {subject.shown(found.after)} by {place}"
 

@@ -1,7 +1,7 @@
 """Finds the steps of a run at which something holds, forward and back.
 
-This module alone knows how steps are found: it reads the lines of `chipbench trace`, and asks the session for what these don't
-have. The others name what they look for as `Wanted`, whose conditions and subjects have their texts too.
+Only this module finds steps: it reads the lines of `chipbench trace`, and asks the session for anything that these don't have.
+The other modules describe what they look for as `Wanted`, whose conditions and subjects have texts too.
 """
 
 from __future__ import annotations
@@ -18,11 +18,11 @@ from chipbench_shell.values import Mistake
 
 from .expressions import REGISTERS, Condition, NoValue, Subject
 
-#: After how many lines a search says where it is, so that it can be interrupted.
+#: The number of lines after which a search reports its step, so that it can be interrupted.
 SLICE = 4000
-#: How many steps a search back looks at first; each further piece has twice as many.
+#: The number of steps that a search back looks at first. Each further piece has twice as many.
 FIRST_PIECE = 4000
-#: What follows these words: instructions that read keys, and those that write memory by their last byte.
+#: The instructions that read keys, and those that write memory, by their last byte.
 STORES = (b"33", b"55")
 DRAWS_FIELD = re.compile(rb" ([0-9]+) ")
 HIT_FORM = re.compile(r"\s*(==?|>=|<=|>|<|%)?\s*([0-9]{1,9})\s*")
@@ -69,8 +69,8 @@ def lit(screen: Screen, column: int, row: int) -> int:
 
 
 class LineView:
-    """A line of a trace as expressions look at it. The session is asked for bytes and pixels, once as long as no step may
-    have changed them."""
+    """A line of a trace as expressions look at it. It asks the session for bytes and pixels, and asks again only after a step that
+    may have changed them."""
 
     def __init__(self, bench: Bench) -> None:
         self._bench = bench
@@ -122,8 +122,8 @@ class LineView:
 
 @dataclass(frozen=True)
 class Hits:
-    """Which of the times counts at which a breakpoint would stop. Times are counted from step 0, in whatever order one looks
-    at them: so a count means the same going back."""
+    """A hit count: which of a breakpoint's hits stop the run. Hits are counted from step 0 in both directions, so that a count
+    means the same going back."""
 
     sign: str
     number: int
@@ -138,21 +138,21 @@ class Hits:
 
 
 def read_hits(text: str) -> Hits:
-    """A hit count: `5` or `= 5` is the fifth time alone, `>= 5` each from then on, `% 5` each fifth.
+    """Reads a hit count: `5` or `= 5` is only the fifth hit, `>= 5` is every hit from then on, and `% 5` is every fifth.
 
     >>> read_hits("% 5").fits(10), read_hits(">= 3").fits(2)
     (True, False)
     """
     found = HIT_FORM.fullmatch(text)
     if found is None or (found[1] == "%" and int(found[2]) == 0):
-        raise Mistake(f"'{text.strip()}' is not a hit count: 5, >= 5, or % 5 for each fifth time")
+        raise Mistake(f"'{text.strip()}' is not a hit count: expected 5, >= 5, or % 5 for each fifth time")
     return Hits(found[1] or "", int(found[2]))
 
 
 @dataclass(frozen=True)
 class Wanted:
-    """What ends a search: the step at which pc is at `address`, `condition` holds, and `changed` has another value than at the
-    step before. What is None doesn't matter. With `told` the step doesn't end the search; that is called in its place."""
+    """The step that ends a search: pc is at `address`, `condition` holds, and `changed` has another value than at the step
+    before. None means that anything will do. With `told` the step doesn't end the search; `told` is called instead."""
 
     number: int
     address: int | None = None
@@ -164,8 +164,9 @@ class Wanted:
 
 @dataclass(frozen=True)
 class Found:
-    """What a search has found: `step`, or None, and the numbers of what holds there. `last` is the step that was looked at last,
-    and the machine has stopped there if `is_stopped`. The step `changed_by` has changed a subject from `before` to `after`."""
+    """The result of a search: `step`, or None, and the numbers of the `Wanted` that hold there. `last` is the last step that was
+    looked at, and the machine has stopped there if `is_stopped`. The step `changed_by` has changed a subject from `before` to
+    `after`."""
 
     step: int | None
     numbers: tuple[int, ...] = ()
@@ -176,7 +177,7 @@ class Found:
     after: tuple[int, ...] = ()
 
 
-#: A search gives the step that it has come to now and then, and returns what it has found.
+#: A search yields the step that it has reached now and then, and returns its result.
 Task = Generator[int, None, Found]
 
 
@@ -191,7 +192,7 @@ class Counted:
     values: tuple[tuple[int, ...], tuple[int, ...]] = field(default=((), ()))
 
     def holds(self, view: LineView, line: bytes) -> bool:
-        """Whether the step of a line is one of those. It is asked for each line, in their order."""
+        """Whether the step of a line is wanted. Must be called for each line, in order."""
         wanted = self.wanted
         if wanted.changed is not None:
             before, now = self.before, wanted.changed.read(view)
@@ -220,13 +221,13 @@ class Finder:
         return [Counted(one, None if one.address is None else b"%04x" % one.address) for one in wanted]
 
     def forward(self, wanted: Sequence[Wanted], after: int) -> Task:
-        """The first step after one at which something wanted holds. A step at which the machine has stopped is none."""
+        """The first step after one at which something wanted holds. A step at which the machine has stopped doesn't count."""
         start = 0 if any(one.hits for one in wanted) else max(after, 0)
         for step, view, held, is_last in self._matches(wanted, start, LAST_STEP):
             if is_last is not None:
                 return Found(None, (), step, is_last)
             if held and step <= after:
-                # it was looked at before
+                # this line was looked at before
                 continue
             for one in held:
                 if one.wanted.told is not None:
@@ -240,8 +241,8 @@ class Finder:
     def _matches(
         self, wanted: Sequence[Wanted], first: int, last: int
     ) -> Iterator[tuple[int, LineView, list[Counted], bool | None]]:
-        """Each step at which something holds; now and then one at which nothing does; and the last one, with whether the
-        machine has stopped there."""
+        """Each step at which something wanted holds; now and then another step; and the last one, with whether the machine has
+        stopped there."""
         counted = self._counted(wanted)
         is_plain = all(one.address is not None and one.wanted.changed is None for one in counted)
         addresses = {one.address for one in counted}
@@ -258,11 +259,11 @@ class Finder:
                     yield step, view, held, None
         is_over = is_stop(line)
         if step < last and not is_over:
-            raise ChipbenchError("the search has ended early: its program was ended")
+            raise ChipbenchError("the search has ended early, because its program was killed")
         yield step, view, [], is_over
 
     def backward(self, wanted: Sequence[Wanted], before: int) -> Task:
-        """The last step before one at which something wanted holds. Of what changes it is the step that changes it."""
+        """The last earlier step at which something wanted holds. For a change it is the step that makes the change."""
         is_counted = any(one.hits for one in wanted)
         end, size = before, FIRST_PIECE
         while end > 0:
@@ -284,7 +285,7 @@ class Finder:
 
 
 def found_of(step: int, held: Sequence[Counted], changed_by: int) -> Found:
-    """What holds at a step, and the change of the first subject among it."""
+    """The numbers of the `Wanted` that hold at a step, and the change of the first subject among them."""
     numbers = tuple(one.wanted.number for one in held)
     changed = next((one for one in held if one.wanted.changed is not None), None)
     if changed is None:
@@ -293,6 +294,6 @@ def found_of(step: int, held: Sequence[Counted], changed_by: int) -> Found:
 
 
 def is_stop(line: bytes) -> bool:
-    """Whether a line is of a machine that has stopped: the last line of a trace then has the code of the stop for its text."""
+    """Whether the machine has stopped at a line. The last line of a trace then has the code of the stop as its text."""
     text = line[line.rindex(b" ") + 1 :] if line else b""
     return len(text) == 2 and text[:1] == b"S" and text[1:].isdigit()

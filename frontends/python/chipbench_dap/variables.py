@@ -1,4 +1,4 @@
-"""What a client shows of a state: scopes, their variables, and memory."""
+"""The state as a client shows it: scopes, their variables, and memory."""
 
 from __future__ import annotations
 
@@ -38,7 +38,7 @@ def number_text(value: int, digits: int, is_hexadecimal: bool = False) -> str:
 def variable(
     name: str, value: str, kind: str, expression: str | None, reference: int = 0, address: int | None = None
 ) -> Variable:
-    """A variable of the protocol. `expression` is what is typed to have its value, `address` where its bytes are."""
+    """A variable of the protocol. `expression` is the text to type for its value, and `address` is the address of its bytes."""
     made: Variable = {"name": name, "value": value, "type": kind, "variablesReference": reference, "presentationHint": READ_ONLY}
     if expression is not None:
         made["evaluateName"] = expression
@@ -48,7 +48,7 @@ def variable(
 
 
 class Variables:
-    """The scopes of a run. They are those of the machine, and the same in each frame."""
+    """The scopes of a run. Every frame has the same scopes, those of the machine."""
 
     def __init__(self, run: Run) -> None:
         self.run = run
@@ -143,7 +143,7 @@ class Variables:
 
 
 def bytes_of_name(layout: Layout, name: str) -> int:
-    """How many bytes stand at a label: those of its line, or of the next one that has some. 0 of a constant."""
+    """The number of bytes at a label: those of its line, or of the next line that has some. 0 for a constant."""
     if not layout.is_label(name):
         return 0
     symbol = layout.symbols[name]

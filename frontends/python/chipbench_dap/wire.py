@@ -1,4 +1,4 @@
-"""Messages of the Debug Adapter Protocol: their numbers, and what is read of their arguments."""
+"""Messages of the Debug Adapter Protocol: their numbers, and readers for their arguments."""
 
 from __future__ import annotations
 
@@ -14,7 +14,7 @@ KINDS = {str: "a text", int: "a number", bool: "true or false", list: "a list", 
 
 
 class Refusal(Exception):
-    """A request that is answered with an error. `word` is what the protocol calls it, where it has a word for it."""
+    """A request that is answered with an error. `word` is the protocol's word for the error, if it has one."""
 
     def __init__(self, text: str, word: str | None = None, is_shown: bool = True) -> None:
         super().__init__(text)
@@ -30,26 +30,26 @@ def is_a(value: Any, kind: type) -> bool:
 
 
 def optional(arguments: Any, name: str, kind: type) -> Any:
-    """The argument of a name, or None where it isn't given. `Refusal` where it is of another kind."""
+    """The argument of a name, or None if it isn't given. Raises `Refusal` if it is of another kind."""
     value = arguments.get(name) if isinstance(arguments, dict) else None
     if value is not None and not is_a(value, kind):
-        raise Refusal(f"{name} has to be {KINDS[kind]}, and is {shown(value)}")
+        raise Refusal(f"{name} must be {KINDS[kind]}, but is {shown(value)}")
     return value
 
 
 def required(arguments: Any, name: str, kind: type) -> Any:
     value = optional(arguments, name, kind)
     if value is None:
-        raise Refusal(f"{name} is missing: {KINDS[kind]}")
+        raise Refusal(f"{name} is missing: expected {KINDS[kind]}")
     return value
 
 
 def objects(arguments: Any, name: str, is_needed: bool = False) -> list[Arguments]:
-    """A list of objects; none where it isn't given."""
+    """A list of objects; empty if it isn't given."""
     found = (required if is_needed else optional)(arguments, name, list) or []
     for value in found:
         if not isinstance(value, dict):
-            raise Refusal(f"each of {name} has to be an object, and one is {shown(value)}")
+            raise Refusal(f"each item of {name} must be an object, but one is {shown(value)}")
     return found
 
 
@@ -59,7 +59,7 @@ def shown(value: Any) -> str:
 
 
 class Writer(Outgoing):
-    """Writes messages, each with its number. One thread alone uses it."""
+    """Writes messages, each with its number. Only one thread uses it."""
 
     def __init__(self, stream: BinaryIO) -> None:
         super().__init__(stream)
@@ -67,7 +67,7 @@ class Writer(Outgoing):
 
     def _write(self, message: Arguments) -> None:
         self._last += 1
-        # a lone surrogate can't be written but as an escape, so that the text is ASCII
+        # the text is ASCII, because a lone surrogate can be written only as an escape
         self.send(json.dumps({"seq": self._last, **message}, separators=(",", ":")).encode("ascii"))
 
     def event(self, name: str, body: Arguments | None = None) -> None:

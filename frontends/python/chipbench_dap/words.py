@@ -1,4 +1,4 @@
-"""What may be typed in the debug console besides sums and conditions: find, who, goto, press, release, keys, screen, help."""
+"""The commands of the debug console besides sums and conditions: find, who, goto, press, release, keys, screen, help."""
 
 from __future__ import annotations
 
@@ -29,15 +29,15 @@ FORMS = {
 
 
 class Words:
-    """The words of the console, on a run. Each returns the text of its answer, and says whether the machine is elsewhere."""
+    """The words of the console, on a run. Each returns the text of its answer, and whether the machine is at another step."""
 
     def __init__(self, run: Run, drain: Drain) -> None:
         self.run = run
         self._drain = drain
 
     def answer(self, text: str) -> tuple[str, bool] | None:
-        """The answer to what was typed, and whether the state is another one now; None where it begins with none of the words,
-        or with a name of the source."""
+        """The answer to a typed text, and whether the state has changed; None if the text begins with none of the words, or with a
+        name of the source."""
         word, _, rest = text.strip().partition(" ")
         if word not in FORMS or word.upper() in self.run.layout().symbols:
             return None
@@ -82,7 +82,7 @@ class Words:
     def _key_event(self, text: str, down: bool) -> str:
         found = KEY_EVENT.fullmatch(text)
         if found is None:
-            raise Mistake(f"which key, and when? {FORMS['press' if down else 'release'][0]}")
+            raise Mistake(f"expected a key, and perhaps a step: {FORMS['press' if down else 'release'][0]}")
         key = int(found[1], 16) if found[1] else self.number(found[2])
         if not 0 <= key <= LAST_KEY:
             raise Mistake(f"no key {key}: the keys are 0 to 15, or 0 to 9 and A to F")

@@ -17,9 +17,9 @@ def parser() -> argparse.ArgumentParser:
     words = argparse.ArgumentParser(
         prog="chipbench-lsp", description="A language server for sources of chipbench, on standard input and output."
     )
-    which = "the program chipbench; by default $CHIPBENCH, the one beside the server, or the one on the PATH"
+    which = "the chipbench to run (default: $CHIPBENCH, the one beside the server, or the one on the PATH)"
     words.add_argument("--program", metavar="PATH", help=which)
-    words.add_argument("--stdio", action="store_true", help="does nothing: standard input and output are used in any case")
+    words.add_argument("--stdio", action="store_true", help="ignored: the server always uses standard input and output")
     return words
 
 

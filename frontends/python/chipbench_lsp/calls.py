@@ -1,4 +1,4 @@
-"""Which subroutine calls which, by the CALLs of a source."""
+"""Finds which subroutine calls which, by the CALLs of a source."""
 
 from __future__ import annotations
 
@@ -10,7 +10,7 @@ from .language import Token, read_line
 from .names import FUNCTION, definition_of, name_at
 
 FILE = 1
-#: What the lines before the first subroutine are called.
+#: The name of the lines before the first subroutine.
 PROGRAM = "the program"
 
 

@@ -1,4 +1,4 @@
-"""What can be written at a place."""
+"""Completions: the texts that can be written at a place."""
 
 from __future__ import annotations
 
@@ -24,13 +24,13 @@ MOST_ROWS = 15
 FIELD = re.compile(r"Vx|Vy|\bkk\b|\ba\b|\bn\b")
 WORD_BEFORE = re.compile(r"[A-Za-z0-9_]*$")
 NAME_ONLY = ("IFDEF", "IFUND", "USED", "XREF")
-# What may stand after a statement's word that takes an expression and no register.
+# Words that may follow a directive that takes an expression and no register.
 VALUES_ONLY = ("ORG", "DB", "DW", "DS", "EQU", "=")
 
 
 def complete(document: Document, number: int, place: int, has_snippets: bool) -> Any:
-    """What may stand at a place. Where there are more names than are offered, the answer says that it isn't complete, so that the
-    client asks again once more is typed."""
+    """The completions at a place. If there are more names than it offers, the answer says that it isn't complete, so that the
+    client asks again once the user has typed more."""
     text = document.line(number)[:place]
     prefix = WORD_BEFORE.search(text)
     assert prefix is not None
@@ -41,7 +41,7 @@ def complete(document: Document, number: int, place: int, has_snippets: bool) ->
 
 
 def items_at(document: Document, text: str, begun: str, has_snippets: bool) -> list[dict[str, Any]]:
-    """What may stand at the end of a text, of which the last letters are what is begun."""
+    """The texts that may follow at the end of a text whose last letters begin a word."""
     start = len(text) - len(begun)
     before = read_line(text[:start])
     if is_property(text):
@@ -126,8 +126,8 @@ def operands(document: Document, head: str, begun: str) -> list[dict[str, Any]]:
 
 
 def instruction_operands(document: Document, text: str, begun: str) -> list[dict[str, Any]]:
-    """What the forms of an instruction take at the end of a text, what is meant most often first: for an address labels, for a
-    byte registers and constants, for a number of rows constants and numbers."""
+    """The operands that the forms of an instruction take at the end of a text, the likeliest first: for an address labels, for
+    a byte registers and constants, for a number of rows constants and numbers."""
     place = place_in(text)
     wanted = wanted_at(place) if place is not None else []
     if text.rstrip().endswith("["):
@@ -161,7 +161,7 @@ def value_operands(document: Document, begun: str, values: list[str]) -> list[li
 
 
 def registers(begun: str = "") -> list[dict[str, Any]]:
-    """The registers; also where they are begun as R3."""
+    """The registers, also for a word that begins like R3."""
     letter = "R" if begun[:1] in ("r", "R") else "V"
     return [
         {"label": name, "kind": VARIABLE, "detail": "register", "filterText": letter + name[1:]}

@@ -17,14 +17,14 @@ from .wire import Encoded
 
 ERROR, WARNING = 1, 2
 MOST_SHOWN = 1000
-# Each edit publishes the warnings again, so they are fewer.
+# Fewer warnings than faults are shown, because each edit publishes the warnings again.
 MOST_WARNINGS = 200
 SOURCE = "chipbench"
 
 
 class Places:
-    """What `check` said last of each line's text and code, so that it stands while other lines are typed; and the
-    warnings, with the lines that they are of."""
+    """The last answer of `check` for each line's text and code, which stays while the user types other lines; and the
+    warnings, with their lines."""
 
     def __init__(self) -> None:
         self._known: dict[tuple[str, str], Fault] = {}
@@ -43,8 +43,8 @@ class Places:
         return self._known.get((line, code))
 
     def warnings(self, lines: list[str], unit: str) -> list[tuple[int, str, str]]:
-        """The warnings of the lines that stand as they were, each with its line's index now, its code and its text as a
-        diagnostic: of the lines before the first changed one, and of those after the last."""
+        """The warnings of the unchanged lines, which are before the first changed line or after the last: each with its line's
+        present index, its code and its text as a diagnostic."""
         if len(self._texts) < len(self._warnings):
             self._texts = [placed_diagnostic(self._lines[one.line - 1], unit, one, WARNING) for one in self._warnings]
         first, last = same_ends(self._lines, lines)
@@ -72,7 +72,7 @@ def sentence_of(program: str | None, code: str) -> str:
 
 @dataclass(frozen=True)
 class Shown:
-    """What is published of a document: its diagnostics, and the code of the first one."""
+    """The published answer for a document: its diagnostics, and the code of the first one."""
 
     found: Encoded
     code: str | None
@@ -125,8 +125,8 @@ def some_warnings(document: Document, found: list[tuple[int, str, str]]) -> list
 
 
 def diagnostics(document: Document, places: Places, program: str | None) -> Shown:
-    """The diagnostics of a document: its faults, else its warnings; the limits that it passes, or that the program has
-    ended."""
+    """The diagnostics of a document: its faults, or without faults its warnings; or the limits that it passes; or the error if
+    the program has ended."""
     try:
         faults = document.faults
     except OverLimits as over:

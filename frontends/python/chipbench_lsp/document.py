@@ -44,7 +44,7 @@ class Session:
         self.starts = 0
 
     def follow(self, lines: list[bytes]) -> Bench:
-        """The session on these lines: edited where it can be, restarted where it can't, or where the program has ended."""
+        """The session on these lines. It is restarted if it can't be edited, or if the program has ended."""
         if self._bench is not None and self._edit(self._bench, lines):
             return self._bench
         self.close()
@@ -71,7 +71,7 @@ class Session:
 
 
 class Document:
-    """The text of a document as lines without their LF, what the program answers about it, and positions in it."""
+    """The text of a document as lines without their LF, the program's answers about it, and positions in it."""
 
     def __init__(self, uri: str, version: int | None, text: str, columns: Columns, open_bench: OpenBench) -> None:
         self.uri = uri
@@ -178,10 +178,10 @@ class Document:
         number, place = self._place(position)
         return number, min(place, len(self.line(number)))
 
-    # -- what the program answers
+    # -- answers of the program
 
     def bench(self) -> Bench:
-        """The session on the current text. `OverLimits` where the text can't be a source."""
+        """The session on the current text. Raises `OverLimits` if the text can't be a source."""
         if self.line_count > MOST_LINES + 1:
             raise OverLimits([(MOST_LINES, "O2", f"the source has over {MOST_LINES} lines")])
         source = self.source
@@ -191,7 +191,7 @@ class Document:
         return self.session.follow(source)
 
     def _answer(self, name: str, ask: Callable[[Bench], Any]) -> Any:
-        """What the program answers about the current text. It is asked once."""
+        """The program's answer about the current text. The program is asked only once."""
         edition, answer = self._known.get(name, (-1, None))
         if edition != self.edition:
             answer = ask(self.bench())

@@ -18,7 +18,7 @@ from .tables import DIRECTIVES, MNEMONICS, RESERVED
 CLOSE = 0.6
 MOST_CLOSE = 3
 C_NUMBER = re.compile(r"0[xX]([0-9A-Fa-f]+)")
-# what the help below a fault says
+# sentences in the help below a fault
 WRITTEN = re.compile(r"is written ([A-Z]+) here$")
 BEGINS = re.compile(r"number begins with `.`: (\S+)$")
 AS_IN = re.compile(r"as in (LD [^`]*)$")
@@ -40,7 +40,7 @@ def close_words(word: str, known: Iterable[str]) -> list[str]:
 
 
 def of_help(line: Line, fault: Fault) -> Iterator[Fix]:
-    """What the help below a fault says to write.
+    """The fixes that the help below a fault suggests.
 
     >>> from .language import read_line
     >>> fault = Fault(1, "F1", start=7, end=10, help="help: a hexadecimal number begins with `#`: #F0")
@@ -66,7 +66,7 @@ def of_help(line: Line, fault: Fault) -> Iterator[Fix]:
 
 
 def candidates(line: Line, names: Iterable[str], fault: Fault | None = None) -> Iterator[Fix]:
-    """What may be meant, also by the help below a fault.
+    """The fixes that the author may mean, with those that the help below a fault suggests.
 
     >>> from .language import read_line
     >>> [fix for _, fix in candidates(read_line("LD V0, 0x1f"), [])]
@@ -143,7 +143,7 @@ def fixes_line(bench: Bench, number: int, text: str) -> bool:
 
 
 def fault_of(document: Document, places: Places, bench: Bench, number: int) -> Fault | None:
-    """The fault of a line with its place and help, which `check` is asked for where it hasn't said them yet."""
+    """The fault of a line with its place and help. If `check` hasn't given these yet, it is run."""
     code = next(code for line, code in document.faults if line == number)
     known = places.of(document.line(number), code)
     if known is None:

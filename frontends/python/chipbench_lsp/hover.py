@@ -1,4 +1,4 @@
-"""What the editor shows of the word under the pointer."""
+"""The text that the editor shows for the word under the pointer."""
 
 from __future__ import annotations
 
@@ -18,7 +18,7 @@ PROPERTY_WORDS = {word.upper(): f"`{word}`: {text}" for word, text in WORDS.item
 
 
 def hover(document: Document, number: int, place: int) -> dict[str, Any] | None:
-    """What there is to say of a place: of its token, and of its line's address and bytes. A property has neither of its own."""
+    """The text for a place: about its token, and the address and bytes of its line. A line with a property has neither."""
     line = document.read(number)
     token = line.token_at(place)
     parts = [token_text(document, number, line, token)] if token is not None else []

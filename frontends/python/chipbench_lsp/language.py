@@ -1,6 +1,6 @@
 """Lines of a source as an editor sees them: tokens, what a line defines, which names it uses.
 
-Whether a line is right is for the program to say: this reads just enough to find the names and the columns.
+Only the program decides whether a line is right. This module reads just enough to find the names and the columns.
 """
 
 from __future__ import annotations
@@ -32,9 +32,9 @@ NUMBERS = (
 DEFINERS = ("EQU", "=")
 # A line that states a property of the game, which other assemblers take for a comment.
 PROPERTY = re.compile(r"[ \t\f\r\x1a]*;!")
-# Words of properties that could be names: a name that is spelled so stands in parentheses there.
+# Words of properties that could be names. A property puts a name with the same spelling in parentheses.
 PROPERTY_WORDS = frozenset("ALWAYS NEVER EVER CAN HERE AT PC DEPTH KEYS PIXEL DRAWS".split())
-# What stands after these isn't an expression.
+# No expression follows these words.
 WITHOUT_NAMES = frozenset({"ALIGN", "OPTION", "INCLUDE"})
 
 

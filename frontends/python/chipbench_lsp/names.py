@@ -78,11 +78,11 @@ def prepare_rename(document: Document, number: int, place: int) -> dict[str, Any
 
 
 def rename(document: Document, number: int, place: int, new_name: str, open_bench: OpenBench) -> dict[str, Any]:
-    """One edit of all uses, those in properties among them. It is refused where the new name can't be one, is taken, or changes
-    what is assembled or which properties can be read."""
+    """One edit of all uses, also in properties. Refused if the new name isn't valid or is taken, or if the edit would change the
+    code or the properties."""
     token = name_at(document, number, place)
     if token is None:
-        raise Failed(REQUEST_FAILED, "there is no name here")
+        raise Failed(REQUEST_FAILED, "there is no name here to rename")
     fault = name_fault(new_name)
     if fault is not None:
         raise Failed(REQUEST_FAILED, fault)
@@ -100,14 +100,14 @@ def rename(document: Document, number: int, place: int, new_name: str, open_benc
 
 
 def written(document: Document, number: int, use: Token, new_name: str) -> str:
-    """A new name as a use of the old one has it: a name that is spelled as a word of properties stands in parentheses there."""
+    """A new name, written for a use of the old one: in a property, a name spelled as a word of properties needs parentheses."""
     if new_name.upper() not in PROPERTY_WORDS:
         return new_name
     return f"({new_name})" if (use, False) in document.read(number).stated_names() else new_name
 
 
 def check_properties(document: Document, lines: list[str]) -> None:
-    """Refuses a change of the lines where other properties can be read."""
+    """Refuses a change of the lines that would change the properties."""
     if not any(document.read(number).stated for number in range(document.line_count)):
         return
     program = document.bench().program
@@ -116,21 +116,21 @@ def check_properties(document: Document, lines: list[str]) -> None:
         for source in (document.lines, lines)
     )
     if before != after:
-        raise Failed(REQUEST_FAILED, "the properties of the changed source can't be read as before")
+        raise Failed(REQUEST_FAILED, "the change isn't made, because the source would have other properties")
 
 
 def outcome(bench: Bench) -> tuple[bytes, ...]:
-    """What a source assembles to: its image or `no Q1`, its faults, and its names' values and lines in order."""
+    """The results of assembling a source: its image or `no Q1`, its faults, and its names' values and lines in order."""
     image, faults, symbols = bench.exchange([b"image", b"faults", b"syms"])
     values = b"\n".join(row.split(b" ", 1)[1] for row in symbols.split(b"\n")[:-2])
     return image, faults, values
 
 
 def check_same(document: Document, lines: list[str], open_bench: OpenBench) -> None:
-    """Assembles the changed lines, and refuses the change where they give another image, other faults or other values."""
+    """Assembles the changed lines, and refuses the change if the image, the faults or the values differ."""
     source = [to_bytes(line) for line in lines]
     if over_limits(source):
-        raise Failed(REQUEST_FAILED, "the change makes a line longer than 200 bytes")
+        raise Failed(REQUEST_FAILED, "the change isn't made, because a line would have over 200 bytes")
     try:
         before = outcome(document.bench())
         with open_bench(join_lines(source)) as bench:
@@ -140,7 +140,7 @@ def check_same(document: Document, lines: list[str], open_bench: OpenBench) -> N
     except Refused as refused:
         raise Failed(REQUEST_FAILED, f"the changed source is refused: {refused}") from None
     if before != after:
-        raise Failed(REQUEST_FAILED, "the changed source assembles to something else")
+        raise Failed(REQUEST_FAILED, "the change isn't made, because the source would assemble to other code")
 
 
 def workspace_symbols(documents: Iterable[Document], query: str) -> list[dict[str, Any]]:

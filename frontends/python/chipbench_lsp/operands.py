@@ -1,4 +1,4 @@
-"""The operands of an instruction: which one a place is in, and what its forms take there."""
+"""The operands of an instruction: finds the one that a place is in, and the operands that the forms take there."""
 
 from __future__ import annotations
 
@@ -8,14 +8,14 @@ from dataclasses import dataclass
 from .language import Token, read_line
 from .tables import INSTRUCTIONS, PARTS, REGISTERS, Instruction
 
-#: Letters of a form that stand for any register, and for a value.
+#: The letters of a form for any register, and for a value.
 ANY_REGISTER = ("Vx", "Vy")
 VALUES = ("kk", "a", "n")
 
 
 @dataclass(frozen=True)
 class Place:
-    """A place behind the name of an instruction: the operands before it, and how many commas that are."""
+    """A place after the name of an instruction, with the operands before it, one for each comma."""
 
     mnemonic: str
     before: tuple[str, ...]
@@ -48,7 +48,7 @@ def parts_of(tokens: tuple[Token, ...]) -> Iterator[str]:
 
 
 def place_in(text: str) -> Place | None:
-    """The place at the end of a text: None where no instruction and a blank stand before it.
+    """The place at the end of a text; None unless an instruction and a blank are before it.
 
     >>> place_in("LOOP: DRW V0, v1, ")
     Place(mnemonic='DRW', before=('V0', 'V1'))
@@ -61,7 +61,7 @@ def place_in(text: str) -> Place | None:
 
 
 def fits(operand: str, given: str) -> bool:
-    """Whether what is given may be an operand of a form."""
+    """Whether a text may be an operand of a form."""
     if operand in ANY_REGISTER:
         return given in REGISTERS
     if operand in VALUES:
@@ -70,7 +70,7 @@ def fits(operand: str, given: str) -> bool:
 
 
 def forms_at(place: Place) -> list[tuple[Instruction, str]]:
-    """The forms whose operands before a place are those that stand there."""
+    """The forms that take the operands before a place."""
     return [
         (row, form) for row in INSTRUCTIONS if row.mnemonic == place.mnemonic for form in row.forms
         if len(operands_of(form)) >= place.index
@@ -79,7 +79,7 @@ def forms_at(place: Place) -> list[tuple[Instruction, str]]:
 
 
 def wanted_at(place: Place) -> list[str]:
-    """What may stand at a place, each operand of a form once.
+    """The operands that forms take at a place, each once.
 
     >>> wanted_at(place_in("LD I, ")), wanted_at(place_in("SE V1, "))
     (['a'], ['kk', 'Vy'])

@@ -17,7 +17,7 @@ class Columns:
         self.unit = unit
 
     def width(self, text: str) -> int:
-        """How many units a text has.
+        """The number of units of a text.
 
         >>> Columns().width("a\U0001f600"), Columns("utf-8").width("a\U0001f600"), Columns("utf-32").width("a\U0001f600")
         (3, 5, 2)
@@ -29,7 +29,7 @@ class Columns:
         return len(text) + sum(character > "\uffff" for character in text)
 
     def index(self, line: str, column: int) -> int:
-        """The place in a line of a column. Inside a character that is its start, past the end of the line the end.
+        """The place in a line for a column. Inside a character this is its start, and past the end of the line it is the end.
 
         >>> [Columns().index("a\U0001f600b", column) for column in range(6)]
         [0, 1, 1, 2, 3, 3]

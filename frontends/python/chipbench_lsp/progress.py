@@ -1,4 +1,4 @@
-"""What runs beside the server: it can be cancelled, ends with an edit where it has to, and says how far it is."""
+"""Work that runs beside the server. A client can cancel it, an edit can end it, and it reports its progress."""
 
 from __future__ import annotations
 
@@ -8,12 +8,12 @@ from typing import Any
 
 from .wire import CONTENT_MODIFIED, REQUEST_CANCELLED, Failed, Writer
 
-#: How often the client is told how far something is.
+#: The seconds between two reports of progress.
 TOLD_SECONDS = 0.5
 
 
 class Work:
-    """One request that is carried out in a thread of its own. `uri` is the document of which an edit ends it; None for none."""
+    """One request that runs in a separate thread. An edit of the document `uri` ends it; None if no edit does."""
 
     def __init__(self, uri: str | None = None) -> None:
         self.uri = uri
@@ -25,7 +25,7 @@ class Work:
         self._is_over.set()
 
     def edited(self, uri: str) -> None:
-        """Ends the work where its document was edited."""
+        """Ends the work if its document was edited."""
         if uri == self.uri:
             self._is_edited = True
             self._is_over.set()
@@ -34,14 +34,14 @@ class Work:
         return self._is_over.is_set()
 
     def failure(self) -> Failed:
-        """Why it was ended."""
+        """The reason why the work was ended."""
         if self._is_edited:
             return Failed(CONTENT_MODIFIED, "the source was edited meanwhile")
         return Failed(REQUEST_CANCELLED, "cancelled")
 
 
 class Progress:
-    """What a client shows of some work, from its begin to its end. Without a token it shows nothing."""
+    """The progress of some work as a client shows it, from start to end. Without a token the client shows nothing."""
 
     def __init__(self, writer: Writer, token: Any, title: str) -> None:
         self._writer = writer

@@ -1,5 +1,5 @@
-"""Properties that a source states of its game, in lines that begin with `;!`: a lens for each with its last answer, the words
-that may stand in them, and `prove`, which answers one."""
+"""Properties that a source states about its game, in lines that begin with `;!`: a lens for each with its last answer, the
+words that properties may have, and the command that runs `prove` for one."""
 
 from __future__ import annotations
 
@@ -18,28 +18,28 @@ from .tables import REGISTERS
 from .wire import REQUEST_FAILED, Encoded, Failed, encoded
 
 COMMAND = "chipbench.prove"
-# the words of a property, and what each says
+# the words of a property, and the meaning of each
 WORDS = {
-    "always": "the condition holds before each step, at its place",
-    "never": "the condition holds before no step, at its place",
-    "ever": "some player comes to a step before which the condition holds, at its place",
-    "can": "from everywhere that a player comes to, some way of playing on leads to the condition, at its place",
+    "always": "the condition holds before every step, at the property's place",
+    "never": "the condition never holds before a step, at the property's place",
+    "ever": "some player reaches a step before which the condition holds, at the property's place",
+    "can": "from every state that a player can reach, the player can go on to meet the condition, at the property's place",
     "here": "the place: the address of the next statement",
     "at": "the place: the value of a name or a number",
-    "and": "all comparisons hold",
-    "or": "one comparison holds",
+    "and": "every comparison holds",
+    "or": "at least one comparison holds",
     "I": "the register I",
     "PC": "the address of the next instruction",
     "DT": "the delay timer",
-    "DEPTH": "how many calls are open",
-    "HIGH": "1 where the screen has its high size",
-    "KEYS": "1 where the next instruction reads keys",
-    "PIXEL": "1 where this pixel is lit: PIXEL(column, row)",
+    "DEPTH": "the number of calls that haven't returned",
+    "HIGH": "1 while the screen has its high size",
+    "KEYS": "1 if the next instruction reads keys",
+    "PIXEL": "1 if this pixel is lit: PIXEL(column, row)",
 }
 OPTIONS = {"rate": "--rate", "seed": "--seed", "profile": "--profile", "quirks": "--quirks"}
-# a line that says how far a search is
+# a line with the progress of a search
 PROGRESS = re.compile(r"chipbench: (step [0-9]+, .*)\n")
-# how often it is looked whether a search was cancelled
+# the seconds between two looks at whether a search was cancelled
 LOOK_SECONDS = 0.1
 
 
@@ -52,7 +52,7 @@ def text_of(line: str) -> str:
 
 
 class Answers:
-    """The last answer to each property of a document, by its text, and of which edition it is."""
+    """The last answer to each property of a document, by its text, with the edition that it is about."""
 
     def __init__(self) -> None:
         self._found: dict[str, tuple[int, str]] = {}
@@ -77,7 +77,7 @@ def lenses(document: Document, answers: Answers) -> Encoded:
 
 
 def words() -> list[dict[str, Any]]:
-    """What may be named in a property but the names of the source."""
+    """The words that a property may have besides the names of the source."""
     keyword, variable = 14, 6
     found = [{"label": word, "kind": keyword, "detail": text, "is_reserved": word.isupper()} for word, text in WORDS.items()]
     return [*found, *({"label": name, "kind": variable, "detail": "register"} for name in REGISTERS)]
@@ -94,7 +94,7 @@ def options_of(settings: dict[str, Any]) -> list[str]:
 def prove(
     program: str, source: bytes, settings: dict[str, Any], number: int, work: Work, report: Callable[[str], None]
 ) -> dict[str, Any]:
-    """The answer to the property of a line, counted from 0. `report` is told how far the search is."""
+    """The answer to the property of a line, counted from 0. `report` gets the progress of the search."""
     command = [program, "prove", "--json", "--progress", "--only", str(number + 1), *options_of(settings), "-"]
     with tempfile.TemporaryFile() as given:
         given.write(source)
@@ -109,7 +109,7 @@ def prove(
 
 
 def watched(process: subprocess.Popen[bytes], work: Work, report: Callable[[str], None]) -> tuple[bytes, str]:
-    """What a search prints, and its errors. It is killed where its work is cancelled."""
+    """The output of a search, and its errors. The search is killed if its work is cancelled."""
     assert process.stdout is not None and process.stderr is not None
     errors: list[str] = []
 

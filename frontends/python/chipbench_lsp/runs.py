@@ -29,7 +29,7 @@ def is_code(row: ListingLine | None) -> bool:
 
 @functools.lru_cache(maxsize=20_000)
 def lens(text: str, unit: str, uri: str) -> str:
-    """The lens of a line as JSON, with %d in the place of its number; empty where it is no label of an instruction."""
+    """The lens of a line as JSON, with %d in place of its number; empty if the line isn't the label of an instruction."""
     line = read_line(text)
     if line.form != "label" or (line.head is not None and line.mnemonic is None):
         return ""
@@ -44,7 +44,7 @@ def lenses(document: Document) -> Encoded:
 
 
 def has_run(document: Document) -> bool:
-    """Whether the source runs: one with a fault doesn't, nor does one that the program doesn't open."""
+    """Whether the source runs: it has no fault, and the program opens it."""
     try:
         return not document.faults
     except (OverLimits, ChipbenchError):
@@ -52,14 +52,14 @@ def has_run(document: Document) -> bool:
 
 
 def actions(document: Document, number: int) -> list[dict[str, Any]]:
-    """The command for the line of the cursor, where an instruction stands on it and the source runs."""
+    """The command for the line of the cursor, if it has an instruction and the source runs."""
     if document.read(number).mnemonic is None or not has_run(document):
         return []
     return [{"title": f"Run to line {number + 1}", "kind": "source", "command": command(document, number)}]
 
 
 def address_of(document: Document, number: int) -> int:
-    """Where pc is when it is on a line: a line without bytes has the address of the next one."""
+    """The address of a line for pc. A line without bytes has the address of the next one."""
     row = document.listing(number)
     if row is None or row.address is None:
         raise Failed(REQUEST_FAILED, "the line isn't active")
@@ -67,7 +67,7 @@ def address_of(document: Document, number: int) -> int:
 
 
 def run_to(bench: Bench, address: int, work: Work) -> dict[str, Any]:
-    """The registers and the screen at the first step with pc at an address, or why there is none."""
+    """The registers and the screen at the first step with pc at an address, or a sentence that says why there is none."""
     step, last = first_step(bench, address, work)
     if step is None:
         text = f"pc doesn't reach #{address:03X} in the first {last.step} steps"

@@ -35,7 +35,7 @@ from .wire import (
     Writer,
 )
 
-# How long no key is pressed before `check` is run.
+# The seconds without a typed key before `check` is run.
 PAUSE_SECONDS = 0.25
 WARNING, INFO = 2, 3
 OPTIONS = ("profile", "quirks", "rate", "tape", "seed", "every")
@@ -45,7 +45,7 @@ Message = dict[str, Any]
 
 
 class Checked:
-    """What `check` found in a text of a document."""
+    """The findings of `check` in a text of a document."""
 
     def __init__(self, uri: str, edition: int, lines: list[str], faults: list[Fault]) -> None:
         self.uri = uri
@@ -99,7 +99,7 @@ class Server:
     # -- the loop
 
     def serve(self) -> int:
-        """Serves until the client ends it. The status is 0 where it was shut down first."""
+        """Serves until the client ends it. The status is 0 if the client shut it down first."""
         self._incoming.start()
         try:
             while self._state != "ended":
@@ -135,7 +135,7 @@ class Server:
                 self._cancelled.add(request)
 
     def _turn(self) -> None:
-        """Takes one message; where none waits, shows what has changed and checks what is due."""
+        """Takes one message. If none waits, shows the changes and runs the checks that are due."""
         try:
             message = self._incoming.get_nowait()
         except queue.Empty:
@@ -167,7 +167,7 @@ class Server:
         elif is_request(message):
             self._take_request(message)
         elif "id" in message:
-            self.writer.fail(None, INVALID_REQUEST, "the id of a request is a number or a text")
+            self.writer.fail(None, INVALID_REQUEST, "expected a number or a text as the id of the request")
         else:
             self._take_notification(message)
 
@@ -175,7 +175,7 @@ class Server:
 
     def _take_request(self, message: Message) -> None:
         request, method = message["id"], message["method"]
-        # what was typed is shown before what the editor asks about it
+        # edits are shown before the editor's questions about them are answered
         self._show_changed()
         with self._lock:
             is_cancelled = request in self._cancelled
@@ -289,18 +289,19 @@ class Server:
 
     def open_bench(self, source: bytes) -> Bench:
         if self.program is None:
-            raise ChipbenchError("no program chipbench was found; name it by --program or by the setting chipbench.program")
+            told = "no program chipbench was found: install it, or name it by --program or by the setting chipbench.program"
+            raise ChipbenchError(told)
         try:
             return Bench(source, program=self.program, **self.options)
         except ValueError as error:
-            # a setting that no argument can be, such as one with a lone surrogate
-            raise ChipbenchError(f"the settings can't be given to the program: {error}") from None
+            # a setting that can't be an argument, such as one with a lone surrogate
+            raise ChipbenchError(f"the program can't take these settings: {error}") from None
 
     # -- documents
 
     def initialized(self, params: Any) -> None:
         if self.program is None:
-            self.say(WARNING, "no program chipbench was found, so faults are unknown: install chipbench, or name the program")
+            self.say(WARNING, "no program chipbench was found, so no faults can be shown: install chipbench, or name the program")
 
     def did_open(self, params: Any) -> None:
         item = params["textDocument"]
@@ -419,7 +420,7 @@ class Server:
         uri, number = params["arguments"][:2]
         document = self.documents.get(uri)
         if document is None or not isinstance(number, int):
-            raise Failed(INVALID_PARAMS, "the command needs an open document and a line")
+            raise Failed(INVALID_PARAMS, "expected an open document and a line as the command's arguments")
         source = chipbench.join_lines(document.source)
         if params["command"] == runs.COMMAND:
             address, work = runs.address_of(document, number), Work()
@@ -427,14 +428,14 @@ class Server:
             return LATER
         line = document.line(number) if 0 <= number < document.line_count else ""
         if not properties.is_property(line):
-            raise Failed(REQUEST_FAILED, "the line states no property")
+            raise Failed(REQUEST_FAILED, "the line has no property: a property begins with `;!`")
         text, edition, work = properties.text_of(line), document.edition, Work(uri)
         progress = self._progress(work, params, request, f"prove {text}")
         self._begin(request, work, lambda: self._prove(source, work, progress, number, edition, text))
         return LATER
 
     def _begin(self, request: Any, work: Work, carry_out: Callable[[], Any]) -> None:
-        """Carries out a request in a thread of its own, and answers it."""
+        """Carries out a request in a separate thread, and answers it."""
         with self._lock:
             self._running[request] = work
 
@@ -452,7 +453,7 @@ class Server:
         threading.Thread(target=run, daemon=True).start()
 
     def _progress(self, work: Work, params: Any, request: Any, title: str) -> Progress:
-        """The progress of a request: by the token of the client, or by one that the client is told."""
+        """The progress of a request, under the client's token or under one that the server makes known to the client."""
         work.token = params.get("workDoneToken")
         if work.token is None and self._has_progress:
             work.token = f"request {request}"
@@ -513,7 +514,7 @@ def whole(feature: Callable[..., Any]) -> Handler:
 
 
 def lines_of(params: Any) -> tuple[int, int]:
-    """The lines of a range; one that ends at a line's start doesn't have that line."""
+    """The lines of a range. A range that ends at a line's start doesn't contain that line."""
     first, last = params["range"]["start"], params["range"]["end"]
     is_past = last["character"] == 0 and last["line"] > first["line"]
     return first["line"], last["line"] - is_past

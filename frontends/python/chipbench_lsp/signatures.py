@@ -19,7 +19,7 @@ def signature(row: Instruction, form: str) -> dict[str, Any]:
 
 
 def signature_help(document: Document, number: int, place: int) -> dict[str, Any] | None:
-    """The forms that what is typed may become; all of the instruction where it fits none."""
+    """The forms that fit the typed operands; all forms of the instruction if none fits."""
     found = place_in(document.line(number)[:place])
     if found is None:
         return None

@@ -1,4 +1,4 @@
-"""What the documents say of instructions, directives and codes: tables.json, which frontends/python/generate_tables.py makes."""
+"""The documents' tables of instructions, directives and codes: tables.json, made by frontends/python/generate_tables.py."""
 
 from __future__ import annotations
 
@@ -25,7 +25,7 @@ class Instruction:
         return self.forms[0].split()[0]
 
     def fits(self, word: int) -> bool:
-        """Whether a word is one of this row: digits stand for themselves, other letters for any digit."""
+        """Whether a word belongs to this row, in which a digit means itself and any other letter means any digit."""
         return all(row == digit or row in "XYNK" for row, digit in zip(self.word, f"{word:04X}"))
 
 
@@ -54,7 +54,7 @@ PARTS = {
     "I": "the register of 16 bits that points into memory",
     "DT": "the delay timer",
     "ST": "the sound timer",
-    "K": "the least key that is down; with none the instruction comes again",
+    "K": "the lowest key that is down; with none down the instruction is executed again",
     "F": "the address of a small digit",
     "HF": "the address of a large digit",
     "B": "the decimal digits of a register, from I on",
@@ -81,7 +81,7 @@ def row_of_word(word: int, mnemonic: str) -> Instruction | None:
 
 
 def name_fault(name: str) -> str | None:
-    """Why a word can't be a name, or None where it can."""
+    """The reason why a word can't be a name, or None if it can."""
     if NAME.fullmatch(name) is None:
         return "a name is a letter or _, then letters, digits and _"
     if len(name) > LONGEST_NAME:

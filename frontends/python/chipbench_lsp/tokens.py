@@ -35,7 +35,7 @@ def of_name(line: Line, token: Token, is_label: bool) -> tuple[int, int]:
 
 
 def of_word(line: Line, token: Token) -> tuple[int, int] | None:
-    """What a word is that isn't a name of the source."""
+    """The type of a word that isn't a name of the source."""
     word = token.upper
     if word in REGISTERS or word in PARTS:
         return VARIABLE, 0
@@ -47,7 +47,7 @@ def of_word(line: Line, token: Token) -> tuple[int, int] | None:
 
 
 def meant(line: Line, labels: tuple[bool, ...]) -> Iterator[Meant]:
-    """Each token with a meaning: its start, its end, its type and its modifiers. `labels` says of each name whether it is one."""
+    """Each token with a meaning: its start, its end, its type and its modifiers. `labels` says which names are labels."""
     named = dict(zip(line.names(), labels))
     if line.stated and line.comment is not None:
         yield line.comment.start, line.comment.start + 2, MACRO, 0
@@ -66,7 +66,7 @@ def meant(line: Line, labels: tuple[bool, ...]) -> Iterator[Meant]:
 
 @functools.lru_cache(maxsize=20_000)
 def numbers(text: str, labels: tuple[bool, ...], unit: str) -> str:
-    """The tokens of a line as the protocol counts them, each from the one before, but for the first number, its lines.
+    """The tokens of a line as the protocol counts them, each from the one before, without the first number, the lines between.
 
     >>> numbers("CLS ; x", (), "utf-16")
     '0,3,0,0,0,4,3,5,0'

@@ -19,11 +19,11 @@ REQUEST_FAILED = -32803
 
 
 class Encoded(list[str]):
-    """A list whose items are JSON already, so that what stays the same from one answer to the next is encoded once."""
+    """A list whose items are JSON already, so that an item is encoded only once for several answers."""
 
 
 def encoded(value: Any) -> str:
-    """A value as JSON. A lone surrogate can't be written but as an escape, so that the text is ASCII.
+    """A value as JSON in ASCII, because a lone surrogate can be written only as an escape.
 
     >>> encoded({"found": Encoded(['{"line":1}', '{"line":2}'])})
     '{"found":[{"line":1},{"line":2}]}'

@@ -39,22 +39,22 @@ class Named(NeedsProgram):
             Bench(source, program=self.program, **named).close()
 
         for error, text, source, named in (
-            (ValueError, "source is the text of a source, and 'game.asm' is the name of a file: Bench.open('game.asm') opens that", "game.asm", {}),
-            (ValueError, "source is the text of a source, and 'a/b.8o' is the name of a file: Bench.open('a/b.8o') opens that", "a/b.8o", {}),
-            (TypeError, f"source is text or bytes, not {Path('a.asm')!r} ({type(Path()).__name__}): Bench.open('a.asm') opens a file", Path("a.asm"), {}),
-            (TypeError, "source is text or bytes, not 5 (int)", 5, {}),
-            (TypeError, "image is bytes, not '00e0' (str): bytes.fromhex('00e0') makes them of digits", None, {"image": "00e0"}),
-            (TypeError, "path is the name of a file, not 5 (int)", None, {"path": 5}),
-            (TypeError, "tape is bytes, not '0a' (str): bytes.fromhex('0a') makes them of digits", "CLS", {"tape": "0a"}),
-            (TypeError, "tape is bytes, not [1] (list)", "CLS", {"tape": [1]}),
-            (ValueError, "tape is empty: it is at least one byte", "CLS", {"tape": b""}),
+            (ValueError, "source must be the text of a source, and 'game.asm' is the name of a file: Bench.open('game.asm') opens it", "game.asm", {}),
+            (ValueError, "source must be the text of a source, and 'a/b.8o' is the name of a file: Bench.open('a/b.8o') opens it", "a/b.8o", {}),
+            (TypeError, f"source must be text or bytes, not {Path('a.asm')!r} ({type(Path()).__name__}): Bench.open('a.asm') opens a file", Path("a.asm"), {}),
+            (TypeError, "source must be text or bytes, not 5 (int)", 5, {}),
+            (TypeError, "image must be bytes, not '00e0' (str): bytes.fromhex('00e0') makes bytes from digits", None, {"image": "00e0"}),
+            (TypeError, "path must be the name of a file, not 5 (int)", None, {"path": 5}),
+            (TypeError, "tape must be bytes, not '0a' (str): bytes.fromhex('0a') makes bytes from digits", "CLS", {"tape": "0a"}),
+            (TypeError, "tape must be bytes, not [1] (list)", "CLS", {"tape": [1]}),
+            (ValueError, "tape is empty: expected at least one byte", "CLS", {"tape": b""}),
             (ValueError, "give tape or seed, not both: a seed makes a tape", "CLS", {"tape": b"\1", "seed": 1}),
-            (TypeError, "rate is a whole number, not '10' (str)", "CLS", {"rate": "10"}),
-            (TypeError, "rate is a whole number, not 1.5 (float)", "CLS", {"rate": 1.5}),
-            (TypeError, "rate is a whole number, not True (bool)", "CLS", {"rate": True}),
-            (ValueError, "rate is a number from 0 on, not -1", "CLS", {"rate": -1}),
-            (ValueError, "seed is a whole number from 0 on, not '0x10'", "CLS", {"seed": "0x10"}),
-            (TypeError, "profile is text, not 5 (int)", "CLS", {"profile": 5}),
+            (TypeError, "rate must be a whole number, not '10' (str)", "CLS", {"rate": "10"}),
+            (TypeError, "rate must be a whole number, not 1.5 (float)", "CLS", {"rate": 1.5}),
+            (TypeError, "rate must be a whole number, not True (bool)", "CLS", {"rate": True}),
+            (ValueError, "rate must be a number from 0 on, not -1", "CLS", {"rate": -1}),
+            (ValueError, "seed must be a whole number from 0 on, not '0x10'", "CLS", {"seed": "0x10"}),
+            (TypeError, "profile must be text, not 5 (int)", "CLS", {"profile": 5}),
             (ValueError, "give one of source, path and image", "CLS", {"path": "x.asm"}),
         ):
             self.check(error, text, opened, source, **named)
@@ -64,28 +64,28 @@ class Named(NeedsProgram):
             name = [*named][0]
             with self.subTest(name), self.assertRaisesRegex(ValueError, f"^{name}="):
                 Bench("CLS", program=self.program, **named).close()
-        with self.assertRaisesRegex(ValueError, "^tape has more bytes"):
+        with self.assertRaisesRegex(ValueError, "^tape is longer than"):
             Bench("CLS", program=self.program, tape=bytes(1 << 20)).close()
 
     def test_the_arguments_of_calls(self) -> None:
         bench = Bench(COUNTER, program=self.program)
         self.addCleanup(bench.close)
         for error, text, call, arguments, named in (
-            (ValueError, "step is a number from 0 on, not -1", bench.at, (-1,), {}),
-            (TypeError, "step is a whole number, not 1.5 (float)", bench.at, (1.5,), {}),
-            (TypeError, "step is a whole number, not '1' (str)", bench.at, ("1",), {}),
-            (TypeError, "step is a whole number, not None", bench.at, (None,), {}),
-            (ValueError, "first is a number from 0 on, not -1", list, (bench.steps(-1, 2),), {}),
-            (TypeError, "line is a whole number, not 'CLS' (str)", bench.insert, ("CLS", 1), {}),
-            (TypeError, "text is text or bytes, not 1 (int)", bench.insert, (1, 1), {}),
-            (ValueError, "line is a number from 0 on, not -1", bench.delete, (-1,), {}),
-            (TypeError, "key is a whole number, not 'A' (str)", bench.press, ("A",), {"at": 1}),
-            (ValueError, "at is a number from 0 on, not -5", bench.release, (1,), {"at": -5}),
-            (TypeError, "at is a whole number, not 0.5 (float)", bench.remove_event, (1,), {"at": 0.5}),
-            (TypeError, "address is a whole number, not 'LOOP' (str)", bench.words, (0, "LOOP", 1), {}),
-            (TypeError, "pc is a whole number, not 'LOOP' (str)", bench.first_step_at, ("LOOP",), {}),
-            (TypeError, "command is text or bytes, not 1 (int)", bench.exchange, ([1],), {}),
-            (ValueError, "source is the text of a source, and 'x.asm' is the name of a file: Bench.open('x.asm') opens that", chipbench.check, ("x.asm",), {}),
+            (ValueError, "step must be a number from 0 on, not -1", bench.at, (-1,), {}),
+            (TypeError, "step must be a whole number, not 1.5 (float)", bench.at, (1.5,), {}),
+            (TypeError, "step must be a whole number, not '1' (str)", bench.at, ("1",), {}),
+            (TypeError, "step must be a whole number, not None", bench.at, (None,), {}),
+            (ValueError, "first must be a number from 0 on, not -1", list, (bench.steps(-1, 2),), {}),
+            (TypeError, "line must be a whole number, not 'CLS' (str)", bench.insert, ("CLS", 1), {}),
+            (TypeError, "text must be text or bytes, not 1 (int)", bench.insert, (1, 1), {}),
+            (ValueError, "line must be a number from 0 on, not -1", bench.delete, (-1,), {}),
+            (TypeError, "key must be a whole number, not 'A' (str)", bench.press, ("A",), {"at": 1}),
+            (ValueError, "at must be a number from 0 on, not -5", bench.release, (1,), {"at": -5}),
+            (TypeError, "at must be a whole number, not 0.5 (float)", bench.remove_event, (1,), {"at": 0.5}),
+            (TypeError, "address must be a whole number, not 'LOOP' (str)", bench.words, (0, "LOOP", 1), {}),
+            (TypeError, "pc must be a whole number, not 'LOOP' (str)", bench.first_step_at, ("LOOP",), {}),
+            (TypeError, "command must be text or bytes, not 1 (int)", bench.exchange, ([1],), {}),
+            (ValueError, "source must be the text of a source, and 'x.asm' is the name of a file: Bench.open('x.asm') opens it", chipbench.check, ("x.asm",), {}),
         ):
             self.check(error, text, call, *arguments, **named)
 
@@ -122,7 +122,7 @@ class Named(NeedsProgram):
             for named in ({}, {"rate": 5}):
                 with self.subTest(program, **named), self.assertRaisesRegex(ChipbenchError, told):
                     Bench("CLS", program=program, **named).close()
-        with self.assertRaisesRegex(TypeError, r"^program is the name of a file, not 5 \(int\)$"):
+        with self.assertRaisesRegex(TypeError, r"^program must be the name of a file, not 5 \(int\)$"):
             Bench("CLS", program=5)  # type: ignore[arg-type]
 
 

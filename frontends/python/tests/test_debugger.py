@@ -193,7 +193,7 @@ class Breakpoints(Debugged):
         found = debugger.stops(1, 9, 99)
         self.assertEqual([point.get("line") for point in found], [2, 9, None])
         self.assertEqual([point["verified"] for point in found], [True, True, False])
-        self.assertIn("line 99 has no code", found[2]["message"])
+        self.assertIn("line 99 nor any line after it has code", found[2]["message"])
 
     def test_hit_counts_count_from_step_0_in_both_directions(self) -> None:
         debugger = self.launched()
@@ -310,7 +310,7 @@ class Moves(Debugged):
         self.assertEqual(debugger.go("stepBack")["reason"], "entry")
         self.assertEqual(debugger.go("reverseContinue")["reason"], "entry")
         self.assertEqual(debugger.step(), 0)
-        self.assertIn("no call is open", debugger.refused("stepOut", {"threadId": 1}))
+        self.assertIn("no subroutine is running", debugger.refused("stepOut", {"threadId": 1}))
         debugger.go("continue")
         for command in ("continue", "next", "stepIn", "stepOut"):
             self.assertEqual(debugger.go(command)["reason"], "exception")
@@ -320,7 +320,7 @@ class Moves(Debugged):
         debugger = self.launched(ENDLESS, None)
         self.assertEqual(debugger.go("continue")["reason"], "pause")
         self.assertEqual(debugger.step(), 1_000_000)
-        self.assertIn("1000000 is the last one", debugger.refused("stepIn", {"threadId": 1}))
+        self.assertIn("1000000 is the last step", debugger.refused("stepIn", {"threadId": 1}))
 
     def test_goto_a_step_at_which_a_line_is_next(self) -> None:
         debugger = self.launched()
@@ -441,7 +441,7 @@ class Shown(Debugged):
         debugger = self.launched()
         for text, said in (
             ("V3 +", "expected a number"), ("NONE", "no name NONE"), ("[5000]", "no value"), ("V3 = ", "expected"),
-            ("(" * 200, "parentheses"), ("1+" * 5000 + "1", "longer than"), ("V3 ? 1", "can't stand there"),
+            ("(" * 200, "parentheses"), ("1+" * 5000 + "1", "longer than"), ("V3 ? 1", "isn't expected there"),
             (" ", "no expression"), ("(1 / 0)", "no value"),
         ):
             self.assertIn(said, debugger.refused("evaluate", {"expression": text}), text)
@@ -563,15 +563,15 @@ class Sessions(Debugged):
         debugger = self.debugger()
         debugger.ask("initialize", {"adapterID": "chipbench"})
         for arguments, said in (
-            ({}, "give one of"), ({"source": path, "image": path}, "give one of"), ({"source": 5}, "source has to be a text"),
-            ({"source": path, "rate": "ten"}, "rate has to be a number"),
-            ({"source": path, "rate": True}, "rate has to be a number"),
-            ({"source": path, "seed": -1}, "seed has to be"), ({"source": path, "tape": "xyz"}, "tape has to be"),
+            ({}, "give one of"), ({"source": path, "image": path}, "give one of"), ({"source": 5}, "source must be a text"),
+            ({"source": path, "rate": "ten"}, "rate must be a number"),
+            ({"source": path, "rate": True}, "rate must be a number"),
+            ({"source": path, "seed": -1}, "seed must be"), ({"source": path, "tape": "xyz"}, "tape must be"),
             ({"source": path, "seed": 1, "tape": "00"}, "not both"), ({"source": "/none/x.asm"}, "there is no file"),
             ({"source": str(self.folder)}, "is not a file"), ({"source": faulty}, "faulty.asm:2:1: F3: unknown word"),
             ({"source": path, "keys": keys}, "bad.keys:1"), ({"source": path, "profile": "none"}, "profile"),
             ({"source": path, "rate": 0}, "rate"), ({"source": path, "chipbench": "/none"}, "cannot run /none"),
-            ([], "have to be an object"),
+            ([], "must be an object"),
         ):
             self.assertIn(said, debugger.refused("launch", arguments), arguments)
         debugger.ask("launch", {"source": path, "sed": 4})
@@ -584,7 +584,7 @@ class Sessions(Debugged):
         self.addCleanup(debugger.kill)
         debugger.ask("initialize", {"adapterID": "chipbench"})
         said = debugger.refused("launch", {"source": str(self.file("score.asm", SCORE))})
-        self.assertEqual(said, 'no program chipbench was found: install it, or name it as "chipbench" in the launch')
+        self.assertEqual(said, 'no program chipbench was found: install it, or name it as "chipbench" in the launch configuration')
 
     def test_the_seed_and_the_profile_are_those_of_the_launch(self) -> None:
         source = "RND V0, #ff\nLD V1, 8\nLD V2, 1\nSHR V1, V2\nHALT: JP HALT\n"
@@ -610,7 +610,7 @@ class Sessions(Debugged):
 
     def test_the_order_of_a_session(self) -> None:
         debugger = self.debugger()
-        self.assertIn("initialize comes first", debugger.refused("launch", {}))
+        self.assertIn("initialize must come first", debugger.refused("launch", {}))
         debugger.ask("initialize", {"adapterID": "chipbench"})
         self.assertIn("no game is launched", debugger.refused("stackTrace", {"threadId": 1}))
         self.assertIn("initialized already", debugger.refused("initialize", {"adapterID": "chipbench"}))

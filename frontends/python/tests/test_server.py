@@ -245,7 +245,7 @@ class Features(Served):
     def test_renames_that_are_refused(self) -> None:
         client = self.opened(GAME + "        LD V1, STEP" + " " * 175 + "; x\n")
         for name, why in (("V0", "reserved"), ("drw", "reserved"), ("1A", "a letter"), ("A" * 65, "64"), ("loop", "already used"),
-                          ("A" * 20, "longer than"), ("A B", "a letter")):
+                          ("A" * 20, "over 200 bytes"), ("A B", "a letter")):
             params = {**self.document(), "position": {"line": 1, "character": 1}, "newName": name}
             code, text = client.refused("textDocument/rename", params)
             self.assertEqual(code, -32803)
@@ -325,7 +325,7 @@ class Features(Served):
         self.assertEqual(result["answer"], "broken")
         self.assertEqual(titles()[0], result["text"])
         code, text = client.refused("workspace/executeCommand", {"command": "chipbench.prove", "arguments": [URI, 1]})
-        self.assertEqual(text, "the line states no property")
+        self.assertEqual(text, "the line has no property: a property begins with `;!`")
 
     def test_the_words_of_a_property_are_completed(self) -> None:
         client = self.opened(";! al\n;! V0 <= ST\n;! PI\n; al\n" + GAME)
@@ -573,7 +573,7 @@ class Settings(Served):
     def test_a_setting_that_no_argument_can_be(self) -> None:
         for profile in ("\udfff", "a\0b"):
             client = self.opened("CLS", options={"profile": profile})
-            self.assertIn("settings can't be given", self.first[0]["message"])
+            self.assertIn("program can't take these settings", self.first[0]["message"])
             client.tell("workspace/didChangeConfiguration", {"settings": {"chipbench": {"profile": "vip"}}})
             self.assertEqual(client.shown(), [])
 

@@ -81,8 +81,8 @@ class Properties(Served, NeedsWords):
 
     def test_hover(self) -> None:
         client = self.opened(GAME)
-        for line, column, said in ((1, 17, "**STEP** = 3"), (4, 28, "**LOOP** = 514"), (1, 4, "holds before each step"),
-                                   (1, 11, "register V0"), (1, 24, "17 = #11"), (7, 4, "some player comes")):
+        for line, column, said in ((1, 17, "**STEP** = 3"), (4, 28, "**LOOP** = 514"), (1, 4, "holds before every step"),
+                                   (1, 11, "register V0"), (1, 24, "17 = #11"), (7, 4, "some player reaches")):
             self.assertIn(said, client.at("hover", line, column)["contents"]["value"])
         # LOOP is at #202, and the address of the property is not that of a name in it
         self.assertNotIn("address", client.at("hover", 4, 28)["contents"]["value"])

@@ -123,7 +123,7 @@ class Wheels(unittest.TestCase):
         target = self.installed(self.made("--node"))
         environment = {"PYTHONPATH": str(target), "PATH": "/nowhere"}
         done = subprocess.run([sys.executable, "-B", "-c", TRIAL], cwd=self.folder, env=environment, capture_output=True, text=True)
-        told = "the program in this package needs node, of version 20 or later, on the PATH; or set $CHIPBENCH"
+        told = "the program in this package needs node 20 or later on the PATH; or set $CHIPBENCH"
         self.assertEqual(done.stderr.splitlines()[-1], f"chipbench.ChipbenchError: {told}")
 
     def test_what_is_asked_wrongly(self) -> None:
