@@ -35,12 +35,12 @@ IDLE_SECONDS = 60
 
 # the settings at the start, as for `chipbench debug`
 SETTINGS = {
-    "rate": ("N", "how many steps lie between two ticks of the timers: a tick is 1/60 of a second, so 10 is 600 steps a second"),
+    "rate": ("N", "the number of steps between two ticks of the timers: a tick is 1/60 of a second, so 10 is 600 steps a second"),
     "tape": ("HEX", "the random bytes"),
     "seed": ("N", "a number that makes the random bytes"),
     "profile": ("NAME", "schip, vip, chip48, schip10, schip-modern or octo"),
     "quirks": ("LIST", "what differs from the profile, such as shift=vy,edges=wrap"),
-    "every": ("P", "how many steps lie between two checkpoints"),
+    "every": ("P", "the number of steps between two checkpoints"),
 }
 
 HEADERS = {

@@ -1,4 +1,4 @@
-// What is said of the cursor's line and of the word under the pointer: the address, the fault, a name's value, an instruction.
+// The texts about the cursor's line and the word under the pointer: the address, the fault, a name's value, an instruction.
 
 import { byId, element, setProperty, setText } from './dom.mjs';
 import { hex } from './answers.mjs';
@@ -33,7 +33,7 @@ export class AboutLine {
     this.#next.addEventListener('click', () => editor.goToFault(true));
   }
 
-  /** How many faults there are. */
+  /** Shows the number of faults. */
   showFaults() {
     const lines = this.#editor.faultLines;
     this.#count.classList.toggle('some', lines.length > 0);
@@ -60,13 +60,13 @@ export class AboutLine {
     this.#state.append(button);
   }
 
-  /** What stands at the cursor, in one line. */
+  /** The text about the token at the cursor, in one line. */
   #aboutWord() {
     const { line, column } = this.#editor.cursor;
     return this.#about(line, column).join('; ');
   }
 
-  /** What is known of the token at a place of a line: a row of text each; none where there is nothing to say. */
+  /** The facts about the token at a place of a line, a row of text for each; empty if there are none. */
   #about(line, place) {
     const token = tokensOf(this.#editor.lines[line - 1] ?? '').find(({ start, text }) => start <= place && place <= start + text.length);
     if (token?.kind === 'mnemonic') return this.#aboutInstruction(line, token.text);

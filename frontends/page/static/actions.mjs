@@ -1,4 +1,4 @@
-// What the keys of the keyboard and the buttons of the time carry out, by its name.
+// The actions of the keyboard's keys and of the time's buttons, by name.
 
 import { byId, takesText } from './dom.mjs';
 
@@ -38,7 +38,7 @@ export function actionsOf(page) {
     'event-after': () => model.setStep(model.keys.next(model.step)?.step ?? model.step),
     undo: () => (model.lastChange === 'text' ? editor.undo() : model.undoKeys()),
     redo: () => (model.lastChange === 'text' ? editor.undo(true) : model.redoKeys()),
-    'tell-keys': () => runControl.tell('the game\'s keys are recorded while it plays; with the tab Keys in sight they change this step'),
+    'tell-keys': () => runControl.tell('keys are recorded while the game plays; while the tab Keys is shown, they change the current step'),
     breakpoint: () => editor.breakpoints.toggle(editor.line),
     'to-step': () => byId('step').select(),
     'to-source': () => inSource(() => editor.focus()),

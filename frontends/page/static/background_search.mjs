@@ -105,7 +105,7 @@ export class BackgroundSearch extends EventTarget {
     this.#findings.take(this.#command, this.#of, { ...this.#last, name: 'paused' });
   }
 
-  /** What was told last of the search that runs. */
+  /** The last progress of the running search. */
   #last = NOTHING;
 
   #take(of, change) {

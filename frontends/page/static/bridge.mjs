@@ -10,7 +10,7 @@ export class BridgeFault extends Error {
 
 /** @type {(name: string, body: any) => Promise<any>} */
 let carrier = async () => {
-  throw new BridgeFault(0, 'nothing carries requests yet');
+  throw new BridgeFault(0, 'the page isn\'t connected yet');
 };
 
 /** Takes a carrier: a function of a request's name and body, which gives the answer later. */

@@ -2,7 +2,7 @@
 
 /** At most so many steps are asked about: the last ones of those that are marked. */
 const MOST_STEPS = 50;
-/** What ends the lines of a source in such a file. */
+/** The line that ends the source in such a file. */
 const END = 'end';
 
 /** The steps that a case asks about: those of the key events, and the one looked at. */

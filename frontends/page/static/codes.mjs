@@ -14,11 +14,11 @@ const TEXTS = {
   N7: 'there is an event of that step and key',
   N8: 'there is no event of that step and key',
   N9: 'there are 10,000 events already',
-  Q1: 'no image, since a line has a fault',
+  Q1: 'no image, because a line has a fault',
   Q2: 'the step is too large',
-  Q3: 'the bytes asked for pass address 4096',
-  O1: 'over 200 bytes: nothing runs with such a line',
-  O2: 'past line 4,000: nothing runs with so many lines',
+  Q3: 'the bytes asked for go past the last address',
+  O1: 'the line has over 200 bytes: the source can\'t run until it is shorter',
+  O2: 'past line 4,000: the source can\'t run with so many lines',
 };
 
 export const codeText = (code) => TEXTS[code] ?? 'a code that this page doesn\'t know';

@@ -11,7 +11,7 @@ const LIST_ROW = 20;
 const LIST_EDGE = 10;
 const LIST_WIDTH = 544;
 
-/** What may stand for a word that is being typed: the words that begin with it, as they are on a machine with these options. */
+/** The completions of a word that is being typed: the words that begin with it, as on a machine with these options. */
 export function completionsOf(line, place, symbols, { isAsked = false, options = {} } = {}) {
   const token = tokensOf(line).find(({ start, text }) => start < place && place <= start + text.length);
   if (token !== undefined && !/^[A-Za-z_]/.test(token.text)) return null;

@@ -36,7 +36,7 @@ export class Coverage {
   #button = byId('coverage');
   #pc = subject('pc');
   #steps = new LastSteps();
-  /** What the model wanted when these steps were asked. */
+  /** The model's wishes when these steps were requested. */
   #of = null;
   #running = false;
 
@@ -104,6 +104,6 @@ export class Coverage {
     for (const [line, last] of covered) told.set(line, `executed, last at step ${grouped(last)}${last === step ? ', this one' : ''}`);
     this.#page.findings.take('covered', wanted, told);
     const isWhole = this.#steps.count > step;
-    this.#button.title = isWhole ? `${grouped(covered.size)} lines are executed up to step ${grouped(step)}` : `looked at up to step ${grouped(this.#steps.count)}`;
+    this.#button.title = isWhole ? `${grouped(covered.size)} lines are executed by step ${grouped(step)}` : `marked up to step ${grouped(this.#steps.count)}`;
   }
 }

@@ -71,17 +71,17 @@ export function furtherTexts(found) {
   const left = found.left.filter(({ cause, line }) => cause !== found.crash?.cause || line !== found.crash.line);
   return [
     ...found.others.map(({ cause, step }) => `${cause} at step ${grouped(step)}: ${codeText(cause)}`),
-    ...left.map(({ cause, address, line }) => `Not excluded: ${cause} at ${line === null ? address : `line ${line}`}: ${codeText(cause)}`),
+    ...left.map(({ cause, address, line }) => `Still possible: ${cause} at ${line === null ? address : `line ${line}`}: ${codeText(cause)}`),
   ];
 }
 
 function textOf({ name, step, states, found, why }) {
   const texts = {
-    off: 'Searches all that a player can press for keys under which the machine stops, beside your work.',
-    waits: 'The source has changed: the search begins anew.',
+    off: 'Searches everything that a player can press for keys that stop the machine, while you go on working.',
+    waits: 'The source has changed, so the search starts again.',
     searches: `Searching: up to step ${grouped(step)}, ${grouped(states)} states, no crash so far.`,
-    paused: `Looked at for a while: ${step > 0 ? `up to step ${grouped(step)}, ${grouped(states)} states, ` : ''}no crash so far. Search goes on to the end.`,
-    faulty: 'There is no run, since a line has a fault.',
+    paused: `Paused after a while: ${step > 0 ? `up to step ${grouped(step)}, ${grouped(states)} states, ` : ''}no crash so far. Press Search to go on.`,
+    faulty: 'There is no run, because a line has a fault.',
     empty: 'There is no source yet.',
     failed: `The search ended without an answer. ${why}`.trim(),
   };
@@ -91,6 +91,6 @@ function textOf({ name, step, states, found, why }) {
     const line = found.crash.line === null ? '' : `, line ${found.crash.line}`;
     return `${found.crash.cause} at step ${grouped(found.crash.step)}${line}: ${codeText(found.crash.cause)}. ${count === 1 ? 'One key event leads' : `${grouped(count)} key events lead`} there.`;
   }
-  if (found.isForAll) return 'It can’t crash: proved for any keys, any random bytes and any speed.';
+  if (found.isForAll) return 'Proved: this game can’t crash, with any keys, any random bytes and any speed.';
   return found.within === null ? 'No keys make it stop, at any step.' : `No keys make it stop up to step ${grouped(found.within)}.`;
 }

@@ -51,7 +51,7 @@ export async function inStores(names, mode, act) {
   let timer = null;
   const late = new Promise((_, fail) => {
     timer = setTimeout(() => {
-      fail(new LateFault('the browser gave no answer'));
+      fail(new LateFault('the browser didn\'t answer'));
       stop(transaction);
     }, LATEST_MILLISECONDS);
   });
@@ -77,7 +77,7 @@ function begun(base, names, mode) {
   }
 }
 
-/** What comes too late isn't to be written any more. */
+/** An answer came too late, so nothing may be written any more. */
 function stop(transaction) {
   try {
     transaction?.abort();
@@ -86,13 +86,13 @@ function stop(transaction) {
   }
 }
 
-/** The same with one store: `act(store, give)`. */
+/** Does this with one store: `act(store, give)`. */
 export const inStore = (name, mode, act) => inStores([name], mode, ([store], give) => act(store, give));
 
-/** What stands under a key, or undefined. */
+/** The record under a key, or undefined. */
 export const readOne = (name, key) => inStore(name, 'readonly', (store, give) => taken(store.get(key), give));
 
-/** All that a store has. */
+/** All records of a store. */
 export const readAll = (name) => inStore(name, 'readonly', (store, give) => taken(store.getAll(), give));
 
 export const remove = (name, key) => inStore(name, 'readwrite', (store) => store.delete(key));

@@ -49,5 +49,5 @@ export function stateText({ isFile, isGone, isSaved, isFull, isLasting = null })
 /** The longer text of the same. */
 export function stateTitle(isLasting) {
   if (isLasting === null) return '';
-  return isLasting ? 'This browser keeps your texts until you delete them.' : 'This browser may delete your texts when the disk is nearly full. Save or download what has to last.';
+  return isLasting ? 'This browser keeps your texts until you delete them.' : 'This browser may delete your texts when the disk is nearly full. Save or download any text that you need to keep.';
 }

@@ -58,7 +58,7 @@ export class Documents extends EventTarget {
       await this.#earlier.read();
       this.#offerEarlier('Another window has changed this text.');
     });
-    this.#windows.addEventListener('other', () => notice('window', 'Another window has this document open too. What one of them keeps takes the place of what the other kept, which is then an earlier text.'));
+    this.#windows.addEventListener('other', () => notice('window', 'Another window has this document open too. Each window writes over the text of the other, which you then find under Earlier texts.'));
     this.#windows.addEventListener('kept', () => this.#tellOther());
     this.#saving = new FileSaving(this, { model, store: this.#store, open: this.#open, picks: about.picks === true, askName });
     new FileWatch(this, { model, editor, open: this.#open });
@@ -81,7 +81,7 @@ export class Documents extends EventTarget {
     return this.#saving.saveAs();
   }
 
-  /** All that the browser keeps, the newest first (store.mjs). */
+  /** All documents that the browser keeps, the newest first (store.mjs). */
   kept() {
     return this.#store.list();
   }
@@ -143,7 +143,7 @@ export class Documents extends EventTarget {
     else this.#store.useSubstitute(newKey());
     takeAllAway();
     if (fault !== null) tellUnread(name, fault, { again: () => this.openKept(opened), writeOver: () => this.#store.writeOver(key) });
-    if (file?.hasStrayCr) notice('ends', 'A CR in this file stands elsewhere than at the end of each line: it is shown as the end of a line, and saved as LF.');
+    if (file?.hasStrayCr) notice('ends', 'This file has a CR without LF, or mixed line ends. The page shows each CR as the end of a line, and saves it as LF.');
     if (isReplaced) {
       this.#take({ ...kept, ...file, form: undefined, textHistory: undefined, breakLines: [] });
       this.#offerEarlier(`The text is that of ${name}.`);
@@ -170,10 +170,10 @@ export class Documents extends EventTarget {
 
   #tellKept(file) {
     const { isFile, name } = this.#open.is;
-    const origin = isFile ? 'text of the file' : /\.(?:asm|s|txt)$/i.test(name) ? 'text that was opened' : 'source of the image';
+    const origin = isFile ? 'text of the file' : /\.(?:asm|s|txt)$/i.test(name) ? 'opened text' : 'source of the image';
     const takeFile = () => this.replace(file.text, file, `The text is now the ${origin}.`);
-    notice('kept', `This text was kept by the browser and isn't in ${isFile ? 'the' : 'a'} file yet.`, {
-      choices: [['Go on', () => {}], [`Take the ${origin}`, takeFile]],
+    notice('kept', `The browser kept this text, and it isn't saved in ${isFile ? 'the' : 'a'} file yet.`, {
+      choices: [['Keep this text', () => {}], [`Take the ${origin}`, takeFile]],
     });
   }
 
@@ -247,7 +247,7 @@ export class Documents extends EventTarget {
     const { text, form, name = UNTITLED, key, isFile } = this.#earlier.take(place);
     takeAway('aside');
     if (key !== this.key && key !== undefined) await this.open(await foundDocument({ key, name, isFile }, this.#store), `${name} is open again.`);
-    if (text !== this.#model.text) this.replace(text, form, 'The text was taken back.');
+    if (text !== this.#model.text) this.replace(text, form, 'The earlier text is back.');
   }
 
   drop(place) {

@@ -43,7 +43,7 @@ export class Drawing {
     this.all({ isNew: true });
   }
 
-  /** What is known of the present text; of a faulty one the last machine of this document, where it had one. */
+  /** Draws the findings about the present text. A faulty text shows the last machine of this document, if there was one. */
   get #known() {
     const { findings } = this.#page;
     const shown = findings.get('shown')?.value ?? null;
@@ -131,7 +131,7 @@ export class Drawing {
     setText(byId('last-step'), `of ${grouped(this.#page.model.playedTo)} played`);
   }
 
-  /** What the play is at. */
+  /** Shows the step that the play has reached. */
   playing() {
     const { player, sound } = this.#page;
     const { direction, hasRun } = player;
@@ -143,7 +143,7 @@ export class Drawing {
     if (direction <= 0) sound.sound(false);
   }
 
-  /** What an edit of a line or a key changed at the step looked at, against the last machine that there was. */
+  /** Shows what an edit of a line or a key changed at the current step, compared with the last machine. */
   #showEffect(machine) {
     if (machine === null) {
       this.tellEffect('');

@@ -54,7 +54,7 @@ export class Editor extends EditorText {
     this.tellCursor();
   }
 
-  /** What is known of the lines has changed. */
+  /** The facts about the lines have changed. */
   factsChanged() {
     this.#drawRows();
     this.tellCursor();
@@ -128,7 +128,7 @@ export class Editor extends EditorText {
     style.height = `${(last - first + 2) * ROW}px`;
   }
 
-  /** What goes with the text follows it. */
+  /** Everything drawn around the text follows it. */
   textChanged(was) {
     this.breakpoints.follow(was, this.lines);
     this.#fit();

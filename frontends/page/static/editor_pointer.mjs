@@ -42,7 +42,7 @@ export class EditorPointer {
   #sight;
   #area;
   #isMouse = true;
-  /** What the press selected, of how many clicks it was, and the pointer as it was last; null where none is down. */
+  /** The selection of the press, its number of clicks, and the last pointer; null while no button is down. */
   #held = null;
   #pen = document.createElement('canvas').getContext('2d');
 

@@ -15,7 +15,7 @@ const MOST_MADE = 1000;
 export class EditorRows {
   #content;
   #layers = Object.fromEntries(LAYERS.map((name) => [name, byId(name)]));
-  /** What each layer has. */
+  /** The rows of each layer. */
   #drawn = Object.fromEntries(LAYERS.map((name) => [name, []]));
   /** The rows of the gutter, and of the addresses, by line. */
   #rows = new Map();

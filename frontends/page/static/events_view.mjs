@@ -82,7 +82,7 @@ export class EventsView {
     this.#made = keys.events.slice(this.#first, this.#first + SHOWN).map((event) => this.#row(event));
     this.#madeOf = keys;
     const more = keys.size - this.#made.length;
-    const rest = element('tr', {}, element('td', { colSpan: 4, textContent: `and ${grouped(more)} more, further off` }));
+    const rest = element('tr', {}, element('td', { colSpan: 4, textContent: `and ${grouped(more)} more, farther from this step` }));
     this.#rows.replaceChildren(...this.#made, ...(more > 0 ? [rest] : []));
     if (focused === null || this.#made.length === 0) return;
     const place = Math.max(0, Math.min(focused.event - this.#first, this.#made.length - 1));
@@ -123,7 +123,7 @@ export class EventsView {
     stepField.addEventListener('change', () => change(Number(stepField.value), key, down));
     stepField.addEventListener('blur', this.#draw);
     const keyField = element('select', {}, ...keyOptions(key));
-    keyField.setAttribute('aria-label', `Which key the ${name} is of`);
+    keyField.setAttribute('aria-label', `Key of the ${name}`);
     keyField.addEventListener('change', () => change(step, Number(keyField.value), down));
     const button = (text, label, action) => {
       const made = element('button', { type: 'button', textContent: text });

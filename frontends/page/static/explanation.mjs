@@ -17,7 +17,7 @@ function documentButton(path, code) {
   const button = element('button', { type: 'button', className: 'link', textContent: path, title: 'Opens this document here' });
   button.addEventListener('click', async () => {
     const { text } = await request('text', { name: NAMED.exec(path)[1] }).catch(() => ({ text: null }));
-    if (text === null) button.replaceWith(`${path} (it isn't here)`);
+    if (text === null) button.replaceWith(`${path} (not installed here)`);
     else showDocument(path, text, code);
   });
   return button;

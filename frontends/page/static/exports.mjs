@@ -44,7 +44,7 @@ export class Exports {
     if (wanted.document !== this.#model.document) return null;
     takeAway('export');
     if (answers.some((answer) => refusal(answer) !== null)) {
-      notice('export', 'There is no run, since some line has a fault.');
+      notice('export', 'There is no run, because a line has a fault.');
       return null;
     }
     return answers;
@@ -95,7 +95,7 @@ export class Exports {
     download(`${this.#name}-${first}-${last}.gif`, encodeGif({ frames, width: WIDTH, height: HEIGHT, scale: ANIMATION_SCALE, colours, hundredths: HUNDREDTHS }));
   }
 
-  /** What `debug` is asked about the keys and the step, and what it answers: a script and its transcript. */
+  /** The questions to `debug` about the keys and the step, and its answers: a script and its transcript. */
   async #script() {
     const { keys, step } = this.#model;
     const events = keyCommands(new KeyScript(), keys);

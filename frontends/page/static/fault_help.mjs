@@ -98,7 +98,7 @@ export class FaultHelp {
     const buttons = fixes.map((fix, place) => this.#button(fix.title, place === 0 ? 'Alt+Enter' : '', () => this.#take(fix)));
     buttons.push(this.#button('More', 'F1', () => this.#explain(code)));
     const isMarked = this.#editor.lines[line - 1].startsWith(BYTE_ORDER_MARK);
-    const all = isMarked ? [...help, 'a byte order mark, which isn\'t seen, stands before the line'] : help;
+    const all = isMarked ? [...help, 'the line begins with an invisible byte order mark'] : help;
     const told = [element('strong', { textContent: code }), ` ${sentence}`, ...all.map((one) => element('span', { textContent: one }))];
     this.#place.replaceChildren(element('p', {}, ...told), element('div', { className: 'buttons' }, ...buttons));
     this.#editor.placeCard(this.#place, line);

@@ -85,7 +85,7 @@ export class FileDialogs {
     try {
       const { files } = await request('files');
       const rows = files.map(({ name, size }) => this.#fileButton(name, size));
-      list.replaceChildren(...(rows.length > 0 ? rows : [element('p', { textContent: 'There is no source, image or script of keys in this folder.' })]));
+      list.replaceChildren(...(rows.length > 0 ? rows : [element('p', { textContent: 'This folder has no source, image or script of keys.' })]));
     } catch (fault) {
       list.replaceChildren(element('p', { textContent: `The folder can't be read: ${fault.message}.` }));
     }
@@ -104,7 +104,7 @@ export class FileDialogs {
   async #openNamed({ name, key = undefined }) {
     await this.#try(name, async () => {
       const found = await request('read', { name, key });
-      if (found.text === null) throw new Error('there is no such file any more');
+      if (found.text === null) throw new Error('the file has gone');
       if (kindOf(name) === 'source' && !this.#holdsGame(found.text)) await this.#documents.openFile(found);
       else await this.#openContent(name, found.text);
     });
@@ -216,7 +216,7 @@ export class FileDialogs {
     // another document is open by now
     if (wanted.document !== this.#model.document) return;
     takeAway('image');
-    if (refusal(image) !== null) notice('image', 'There is no image, since some line has a fault.');
+    if (refusal(image) !== null) notice('image', 'There is no image, because a line has a fault.');
     else this.#download('ch8', String.fromCharCode(...readBytes(image)));
   }
 }

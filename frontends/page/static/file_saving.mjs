@@ -48,7 +48,7 @@ export class FileSaving {
       if (reply.saved) await this.#saved(text, reply);
       else this.#askToOverwrite(reply);
     } catch (fault) {
-      const kept = this.#store.isFull ? 'Nothing keeps the text but this window.' : 'Nothing is lost: the text is kept in this browser.';
+      const kept = this.#store.isFull ? 'Only this window has the text.' : 'Nothing is lost: the text is kept in this browser.';
       notice('save', `It wasn't saved: ${fault.message}. ${kept}`, { bad: true });
     }
   }
@@ -63,7 +63,7 @@ export class FileSaving {
     if (isMoved) this.#store.keep();
     const { savedText } = this.#open;
     if (savedText !== null && savedText !== text && !isMoved) this.#documents.putAside({ text: savedText, form: this.#model.form }, 'in the file before you saved', 'save');
-    if (kept !== null && kept.text !== text) this.#documents.keepEarlier({ text: kept.text, form: kept.form, name: file.name, key: file.path, isFile: true, why: 'kept of the file before you saved over it', kind: 'text' });
+    if (kept !== null && kept.text !== text) this.#documents.keepEarlier({ text: kept.text, form: kept.form, name: file.name, key: file.path, isFile: true, why: 'kept in the browser before you saved over it', kind: 'text' });
     this.#open.saved(text, file);
     if (isMoved) this.#documents.use(file.path, kept);
     for (const told of isMoved ? ['save', 'kept', 'disk', 'unread'] : ['save', 'kept', 'disk']) takeAway(told);
@@ -83,7 +83,7 @@ export class FileSaving {
       if (text !== null) this.#documents.keepEarlier({ ...withForm(text), name, key: path, isFile: true, why: 'in the file before it was written over', kind: 'text' });
       return this.#write({ name, key: path }, digest);
     };
-    const told = path === this.#open.is.key ? `${name} was changed by another program since you opened it.` : `There is a file ${name} already.`;
-    notice('save', `${told} It wasn't saved.`, { bad: true, choices: [['Write mine over it', overwrite], ['Leave it', () => {}]] });
+    const told = path === this.#open.is.key ? `${name} was changed by another program since you opened it.` : `The file ${name} already exists.`;
+    notice('save', `${told} Your text wasn't saved.`, { bad: true, choices: [['Write mine over it', overwrite], ['Leave it', () => {}]] });
   }
 }

@@ -3,7 +3,7 @@
 import { request } from './bridge.mjs';
 import { notice, takeAway } from './notices.mjs';
 
-/** So often a file is looked at, for another program may save it. */
+/** The milliseconds between two looks at a file, because another program may save it. */
 const LOOK_MILLISECONDS = 1500;
 
 export class FileWatch {
@@ -66,6 +66,6 @@ export class FileWatch {
     this.#model.setText(text, { encoding, lineEnd });
     this.#documents.tellState();
     takeAway('disk');
-    notice('followed', `${found.name} was saved by another program: its text is here now. Undo brings the one before back.`);
+    notice('followed', `${found.name} was saved by another program, and the page now shows its text. Undo brings your text back.`);
   }
 }

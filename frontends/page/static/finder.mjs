@@ -54,7 +54,7 @@ export class NoSuchStep extends Error {}
 export async function findStep(search) {
   const { of, relation, wanted, from, forward, lastStep } = search;
   const possible = wanted.filter((value) => value >= 0 && value <= of.most);
-  if (relation === 'is' && possible.length === 0) throw new NoSuchStep(`it is never above ${of.most}`);
+  if (relation === 'is' && possible.length === 0) throw new NoSuchStep(`it is at most ${of.most}`);
   if (forward ? from >= lastStep : from <= 0) return null;
   if (relation === 'changes') return findChange(search);
   if (relation === 'not' && possible.length === 0) return forward ? from + 1 : from - 1;

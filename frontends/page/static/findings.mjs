@@ -1,7 +1,7 @@
 // What is known of the document, and of which of its texts, keys and settings. Answers come back here and nowhere else: one of another
 // document is dropped, and one of an earlier text is told apart. Views draw from what stands here, and keep nothing of their own.
 
-/** What each finding rests on: it is present as long as nothing of that has changed. */
+/** The inputs of each finding. A finding stays present until one of them changes. */
 const RESTS_ON = {
   /** The last answers: a machine and the assembled text, also where a line has a fault. */
   shown: ['lines', 'keys', 'options'],

@@ -23,7 +23,7 @@ export function fixesOf(line, { start, end, code, help }) {
     .flatMap((sentence) => OFFERS.map(([form, offer]) => (form.test(sentence) ? offer(form.exec(sentence), { start, end }, line) : null)))
     .filter((fix) => fix !== null);
   const part = line.slice(start, end);
-  if (line.startsWith(BYTE_ORDER_MARK)) fixes.push({ title: 'Take the byte order mark out', start: 0, end: 1, text: '' });
+  if (line.startsWith(BYTE_ORDER_MARK)) fixes.push({ title: 'Remove the byte order mark', start: 0, end: 1, text: '' });
   if (code === 'F2') fixes.push({ title: 'Close the text', start: line.trimEnd().length, end: line.length, text: line.slice(start, start + 1) });
   if (code === 'F3' && line.trim() === part) fixes.push({ title: `Make ${part} a label`, start: end, end, text: ':' });
   return fixes;

@@ -5,7 +5,7 @@ import { elsewhere, fileDocument, imageKey, UNTITLED } from './document_kinds.mj
 import { sourceOf } from './image_source.mjs';
 import { notice } from './notices.mjs';
 
-/** What the page was opened on; without that the text that was in no file last. */
+/** The document that the page was opened on; otherwise the last text that was in no file. */
 export async function firstDocument(about, store) {
   const { isImage, name, path, text, digest } = about;
   try {
@@ -32,7 +32,7 @@ export async function foundDocument({ key, name, isFile }, store) {
 /** What the browser keeps; nothing, and the author is told so, where that can't be read. */
 export function listOf(store) {
   return store.list().catch((fault) => {
-    setTimeout(() => notice('unread', `The texts that this browser keeps can't be read: ${fault.message}. They are left as they are.`, { bad: true }));
+    setTimeout(() => notice('unread', `The texts that this browser keeps can't be read: ${fault.message}. They stay as they are.`, { bad: true }));
     return [];
   });
 }

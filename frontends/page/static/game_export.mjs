@@ -25,11 +25,11 @@ export class GameExport {
     try {
       const [image] = await this.#workbench.answers(wanted, ['image']);
       if (refusal(image) !== null) {
-        notice('export', 'There is no game to export, since some line has a fault.');
+        notice('export', 'There is no game to export, because a line has a fault.');
         return;
       }
       const { template, module } = await request('game');
-      if (template === null) throw new Error('the parts of its page are not there');
+      if (template === null) throw new Error('the files for its page are missing');
       const { tape } = options.seed === undefined ? { tape: options.tape ?? '00' } : await request('tape', { seed: options.seed });
       // another document is open by now
       if (wanted.document !== this.#model.document) return;

@@ -10,7 +10,7 @@ export function recordOf({ text, form, keys, options, look, step, played, breakL
   return { text, form, keys: writeKeys(keys), options, look, step, played, breakLines, history: { text: textHistory.toJSON(), keys: keyHistory.toJSON() } };
 }
 
-/** What was kept, or null. What can't be read of it is left out. */
+/** The kept record, or null. Its unreadable parts are left out. */
 export function documentOf(record) {
   if (typeof record?.text !== 'string') return null;
   const { text, history } = record;

@@ -7,5 +7,5 @@ export async function showLicences() {
   const place = byId('licences-text');
   if (place.textContent !== '') return;
   const { text } = await request('text', { name: 'THIRD-PARTY' }).catch(() => ({ text: null }));
-  place.textContent = text ?? 'The file THIRD-PARTY of chipbench has them. It is missing here.';
+  place.textContent = text ?? 'The file THIRD-PARTY of chipbench contains the licences. It is missing here.';
 }

@@ -18,7 +18,7 @@ export class LineFacts extends EventTarget {
     return [];
   }
 
-  /** What is known of the lines has changed. */
+  /** The facts about the lines have changed. */
   factsChanged() {}
 
   /** pc is at another line. */
@@ -34,7 +34,7 @@ export class LineFacts extends EventTarget {
     return this.#faults.get(line) ?? null;
   }
 
-  /** What is said of the fault of a line. */
+  /** The text about the fault of a line. */
   faultText(line) {
     return this.faultPlace(line)?.sentence ?? codeText(this.#faults.get(line));
   }

@@ -227,7 +227,7 @@ class Page {
 
   #changed(what) {
     if (what === 'text') this.documents.tellState();
-    if (what === 'refused') notice('keys', 'The program takes no more than 10,000 key events: nothing was changed.', { bad: true });
+    if (what === 'refused') notice('keys', 'The program takes at most 10,000 key events, so nothing was changed.', { bad: true });
     if (what === 'keys') this.keypad.show(this.model.keys, this.model.step);
     if (what === 'document') {
       this.player.play(0);
@@ -266,7 +266,7 @@ async function begin() {
   try {
     globalThis.chipbenchPage = new Page(await request('about'));
   } catch (fault) {
-    notice('fault', `The page can't begin: ${fault.message}`, { bad: true });
+    notice('fault', `The page can't start: ${fault.message}`, { bad: true });
     console.error(fault);
   }
 }

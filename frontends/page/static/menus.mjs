@@ -1,6 +1,6 @@
 // Menus by the keyboard: arrows go through the buttons, Escape closes.
 
-/** What a key does in a menu, a `details` element with a `summary` and buttons. */
+/** Carries out a key in a menu, a `details` element with a `summary` and buttons. */
 export function pressInMenu(menu, event) {
   const summary = menu.querySelector('summary');
   const buttons = [...menu.querySelectorAll('button')].filter((button) => !menu.open || button.checkVisibility());

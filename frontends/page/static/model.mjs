@@ -7,7 +7,7 @@ import { lookOf, USUAL_LOOK } from './look.mjs';
 import { TextHistory } from './text_history.mjs';
 import { programLines } from './text_form.mjs';
 
-/** So many key events the program takes (docs/FORMATS.md: N9). */
+/** The most key events that the program takes (docs/FORMATS.md: N9). */
 export const MOST_EVENTS = 10_000;
 /** So many texts of a document have the same lines again after an undo. */
 const MOST_TEXTS = 16;
@@ -34,7 +34,7 @@ export class Model extends EventTarget {
   breakLines = [];
   textHistory = new TextHistory();
   keyHistory = new KeyHistory();
-  /** What was changed last, `text` or `keys`: undo takes that back. */
+  /** The last thing changed, `text` or `keys`, which undo takes back. */
   lastChange = 'keys';
 
   /**

@@ -3,7 +3,7 @@
 
 import { byId, element } from './dom.mjs';
 
-/** What only tells, and asks nothing, goes by itself. */
+/** The milliseconds after which a notice that asks nothing goes away. */
 const TOLD_MILLISECONDS = 12_000;
 
 const place = byId('notices');

@@ -5,9 +5,9 @@ import { byId } from './dom.mjs';
 import { notice, takeAway } from './notices.mjs';
 import { ProgramEnded } from './workbench.mjs';
 
-/** What ended a program: its own status, or a signal of the system. */
+/** The reason why a program ended: its own status, or a signal of the system. */
 export function endOf(status) {
-  if (status === -9) return ' because the system or somebody stopped it';
+  if (status === -9) return ' because the system or a user killed it';
   return status < 0 ? ` by signal ${-status}` : status > 0 ? ` with status ${status}` : '';
 }
 
@@ -16,7 +16,7 @@ export function tellEnd(status, text) {
   notice('ended', `The program ended${endOf(status)}${text ? `: ${text}` : ''}. It runs again, and nothing is lost.`);
 }
 
-/** What the author is told where a question has no answer; `again()` asks anew. */
+/** Tells the author that a question has no answer; `again()` asks it again. */
 export function tellFault(fault, again) {
   const kind = fault instanceof BridgeFault ? 'The program refused' : fault instanceof ProgramEnded ? 'No answer' : 'An error of this page';
   notice('fault', `${kind}: ${fault.message}. Nothing is lost; change something, or try again.`, { bad: true, choices: [['Try again', again]] });
@@ -25,7 +25,7 @@ export function tellFault(fault, again) {
 
 /** What the browser keeps of a document couldn't be read: `again()` reads it again, and `writeOver()` keeps this text in its place. */
 export function tellUnread(name, fault, { again, writeOver }) {
-  const text = `What this browser keeps of ${name} can't be read: ${fault.message}. It is left as it is, and what you do here is kept as another document.`;
+  const text = `The text that this browser keeps for ${name} can't be read: ${fault.message}. It stays as it is, and your edits here are kept as another document.`;
   notice('unread', text, { bad: true, choices: [['Read it again', again], ['Write over it', writeOver], ['Go on', () => {}]] });
 }
 
@@ -36,5 +36,5 @@ export function tellFull(isFull) {
     return;
   }
   const choices = [['Documents …', () => byId('show-documents').click()], ['Close', () => {}]];
-  notice('full', 'This browser has no room left, and keeps nothing more: save or download the text, or delete documents.', { bad: true, choices });
+  notice('full', 'This browser has no room left and can\'t keep your text: save or download it, or delete documents.', { bad: true, choices });
 }

@@ -7,7 +7,7 @@ import { digestOf, toBytes, toByteString } from './text_form.mjs';
 const TYPES = [{ description: 'Sources, images and scripts of keys', accept: { 'text/plain': ['.asm', '.s', '.txt', '.keys'], 'application/octet-stream': ['.ch8', '.rom', '.bin'] } }];
 const DOWNLOAD_MILLISECONDS = 60_000;
 
-/** What a picker was left without a choice gives null. */
+/** Gives null if the user left a picker without a choice. */
 async function unlessLeft(chosen) {
   try {
     return await chosen;
@@ -110,7 +110,7 @@ export class PageFiles {
     }
     // after a reload the browser asks once more
     const permission = (await handle.requestPermission?.({ mode: 'readwrite' })) ?? 'granted';
-    if (permission !== 'granted') throw new Error('the browser was told not to write this file');
+    if (permission !== 'granted') throw new Error('you haven\'t allowed the browser to write this file');
     const found = described(name, key, await this.#textOf(handle));
     if (!this.#chosen.has(key) && found.text !== null && found.digest !== known) return { saved: false, ...found };
     const stream = await handle.createWritable();

@@ -33,7 +33,7 @@ export async function findLastStep(about, { model, workbench }, isAgain = false)
   } catch (fault) {
     const isRefused = !isAgain && fault.status !== 0 && (fault instanceof ProgramEnded || fault instanceof BridgeFault);
     if (isRefused && JSON.stringify(model.options) !== JSON.stringify({ rate: '10', ...about.settings })) {
-      notice('settings', `The settings that this browser kept were left out: ${fault.message}.`);
+      notice('settings', `The settings that this browser kept can't be used: ${fault.message}.`);
       model.setOptions(optionsOf(about, { isFirst: true }));
       return findLastStep(about, { model, workbench }, true);
     }
@@ -48,7 +48,7 @@ export function takeKeptPlace(model, number, step) {
   if (document !== number) return;
   const past = keys.events.filter((event) => event.step > lastStep);
   if (past.length > 0) {
-    notice('past', `Events past the last step of this program, ${grouped(lastStep)}, were left out: ${past.length}.`);
+    notice('past', `Key events after step ${grouped(lastStep)}, the last step of this program, were dropped: ${past.length}.`);
     model.startWithKeys(past.reduce((script, event) => script.without(event.step, event.key), keys));
   }
   model.setStep(step);

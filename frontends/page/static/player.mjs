@@ -5,7 +5,7 @@ import { MOST_EVENTS } from './model.mjs';
 
 const FRAMES_A_SECOND = 60;
 const LONGEST_GAP = 0.25;
-/** So long before its end the end of a run is told. */
+/** The seconds before the end of a run at which the page announces it. */
 const WARNING_SECONDS = 10;
 
 export class Player extends EventTarget {
@@ -49,7 +49,7 @@ export class Player extends EventTarget {
   play(direction) {
     if (direction === this.#direction) return;
     if (direction !== 0 && !this.#hasRun) {
-      this.#tell('there is no run, since a line has a fault');
+      this.#tell('there is no run, because a line has a fault');
       return;
     }
     this.#releaseAll();
@@ -102,7 +102,7 @@ export class Player extends EventTarget {
     const left = (lastStep - step) / (FRAMES_A_SECOND * this.speed * rate);
     if (this.#direction > 0 && left < WARNING_SECONDS && !this.#warned && lastStep > step) {
       this.#warned = true;
-      this.#tell(`the run ends in ${Math.ceil(left)} s, at step ${grouped(lastStep)}, the last that the program has`);
+      this.#tell(`the run ends in ${Math.ceil(left)} s, at step ${grouped(lastStep)}, the last step of the program`);
     }
     const isHit = this.#direction > 0 && this.guard !== null && step === this.guard.hit;
     const isEnd = this.#direction < 0 ? step === 0 : this.#position >= lastStep;
@@ -110,7 +110,7 @@ export class Player extends EventTarget {
     const played = this.#direction > 0;
     this.play(0);
     if (isHit) this.#tell(`breakpoint at step ${grouped(step)}`);
-    else if (played) this.#tell(`the end of the run, step ${grouped(lastStep)}; Play begins anew at step 0`);
+    else if (played) this.#tell(`the end of the run, step ${grouped(lastStep)}; Play starts again at step 0`);
     return true;
   }
 

@@ -5,7 +5,7 @@ import { BackgroundSearch } from './background_search.mjs';
 import { request } from './bridge.mjs';
 import { propertyStart } from './property_line.mjs';
 
-/** So long after a change it is asked which properties are stated. */
+/** The milliseconds after a change before the page asks which properties the source states. */
 const STATE_MILLISECONDS = 300;
 
 /**

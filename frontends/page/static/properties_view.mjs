@@ -5,7 +5,7 @@ import { readKeys } from './key_script.mjs';
 import { answerText, isBad, scriptOf } from './properties.mjs';
 import { namedValues } from './property_line.mjs';
 
-const WITHOUT = 'No line of the source states a property. Write one, such as `;! V0 <= 63 here` before an instruction.';
+const WITHOUT = 'The source has no property. Write one, such as `;! V0 <= 63 here` before an instruction.';
 
 export class PropertiesView {
   #properties;
@@ -114,11 +114,11 @@ const pending = (name) => (['searches', 'paused'].includes(name) ? 'not broken s
 
 function textOf({ name, step, states, found, why }, count) {
   const texts = {
-    off: 'Searches all that a player can press for keys that break a property, beside your work.',
-    waits: 'The source has changed: the search begins anew.',
+    off: 'Searches everything that a player can press for keys that break a property, while you go on working.',
+    waits: 'The source has changed, so the search starts again.',
     searches: `Searching: up to step ${grouped(step)}, ${grouped(states)} states.`,
-    paused: `Looked at for a while${step > 0 ? `: up to step ${grouped(step)}, ${grouped(states)} states` : ''}. Search goes on to the end.`,
-    faulty: 'There is no run, since a line has a fault.',
+    paused: `Paused after a while${step > 0 ? `: up to step ${grouped(step)}, ${grouped(states)} states` : ''}. Press Search to go on.`,
+    faulty: 'There is no run, because a line has a fault.',
     empty: WITHOUT,
     failed: `The search ended without an answer. ${why}`.trim(),
   };

@@ -11,18 +11,18 @@ const ITEMS = new Map([
   ['DT', 'the delay timer'],
   ['DEPTH', 'the depth of the call stack'],
   ['HIGH', '1 in the high size, else 0'],
-  ['KEYS', '1 where the next instruction asks for keys, else 0'],
-  ['PIXEL', 'PIXEL(x, y): 1 where it is lit, else 0'],
+  ['KEYS', '1 if the next instruction reads keys, else 0'],
+  ['PIXEL', 'PIXEL(x, y): 1 if the pixel is lit, else 0'],
 ]);
 const ABOUT = new Map([
-  ['always', 'holds before each step'],
-  ['never', 'holds before no step'],
-  ['ever', 'some player comes there'],
-  ['can', 'from everywhere some way of playing leads there'],
-  ['here', 'where pc is at the next statement'],
-  ['at', 'at NAME: where pc is there'],
-  ['and', 'all comparisons hold'],
-  ['or', 'one of them holds'],
+  ['always', 'holds before every step'],
+  ['never', 'never holds before a step'],
+  ['ever', 'some player can reach it'],
+  ['can', 'a player can always still reach it'],
+  ['here', 'when pc is at the next statement'],
+  ['at', 'at NAME: when pc is at that address'],
+  ['and', 'every comparison holds'],
+  ['or', 'at least one comparison holds'],
 ]);
 const REGISTER = /^V[0-9A-F]$/i;
 const FIRST_WORD = /^\s*;!\s*\w*$/;

@@ -18,7 +18,7 @@ const OTHERS = [
 /** What an edit may change besides. */
 /** @type {any[]} */
 const ELSEWHERE = [['size', ({ size }) => size], ['flags', ({ flags }) => flags.join()], ['stack', ({ stack }) => stack.join()]];
-/** Those for which a phone has no room. */
+/** The registers that a phone has no room for. */
 const FEW = ['rnd', 'state'];
 
 /** The names of the fields that differ between two machines. */
@@ -67,6 +67,6 @@ export class RegistersView {
 
 function describe(meaning, now, was) {
   const decimal = /^[0-9a-f]{2}$|^[0-9a-f]{4}$/.test(now) ? `${parseInt(now, 16)} in decimal` : '';
-  const change = now === was ? '' : `${was} before the step before`;
+  const change = now === was ? '' : `${was} before the last step`;
   return [meaning, decimal, change].filter(Boolean).join('; ');
 }

@@ -21,7 +21,7 @@ export class RunControl {
   async run(name) {
     const forward = !name.endsWith('-back');
     const machine = await this.#machine();
-    if (machine.code !== null) return this.#tell('there is no run, since a line has a fault');
+    if (machine.code !== null) return this.#tell('there is no run, because a line has a fault');
     if (name.startsWith('break')) return this.#toBreakpoint(forward);
     const frames = machine.registers.stack.length;
     const most = name.startsWith('out') ? frames - 1 : frames;
@@ -36,7 +36,7 @@ export class RunControl {
 
   #toBreakpoint(forward) {
     const addresses = this.breakAddresses;
-    if (addresses.length === 0) return this.#tell('no line with an address has a breakpoint: press its number, or F9 in the source');
+    if (addresses.length === 0) return this.#tell('there is no breakpoint on a line with an address: press a line\'s number, or F9 in the source');
     return this.#find(forward, { of: subject('pc'), relation: 'is', wanted: addresses });
   }
 
@@ -45,7 +45,7 @@ export class RunControl {
     this.#tell(await this.#search.find(forward, question));
   }
 
-  /** What was told of a step isn't of another one. */
+  /** Removes a message about a step once another step is shown. */
   forget() {
     this.#tell('');
   }

@@ -15,7 +15,7 @@ const textOf = (name) => served(name, (reply) => reply.text());
 
 async function moduleOf(name) {
   const module = await served(name, (reply) => WebAssembly.compileStreaming(reply));
-  if (module === null) throw new BridgeFault(0, `the bridge gives no ${name}`);
+  if (module === null) throw new BridgeFault(0, `the bridge didn't give ${name}`);
   return module;
 }
 
@@ -25,7 +25,7 @@ async function posted(name, body = {}) {
   try {
     reply = await fetch(name, { method: 'POST', headers: { 'Content-Type': 'application/json' }, body: JSON.stringify(body) });
   } catch {
-    throw new BridgeFault(0, 'the bridge gives no answer');
+    throw new BridgeFault(0, 'the bridge doesn\'t answer; chipbench-page may have ended');
   }
   if (!reply.ok) throw new BridgeFault(reply.status, (await reply.text()).trim());
   return reply.json();

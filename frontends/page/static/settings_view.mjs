@@ -5,7 +5,7 @@ import { machineText, QuirkSwitches } from './quirks.mjs';
 
 /** A longer tape, in digits, is told by its length. */
 const TAPE_SHOWN = 12;
-/** What holds where nothing is said. */
+/** The default settings. */
 const USUAL = { rate: '10', profile: 'schip', quirks: '', every: '1000' };
 
 export class SettingsView {

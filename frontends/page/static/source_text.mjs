@@ -83,7 +83,7 @@ export class SourceText {
 
 const widestOf = (lines) => lines.reduce((most, line) => Math.max(most, widthOf(line)), 0);
 
-/** What became another text: where, what was removed, and what was inserted. */
+/** A change of the text: its place, the removed text, and the inserted text. */
 export function difference(before, after) {
   let front = 0;
   const shorter = Math.min(before.length, after.length);

@@ -125,7 +125,7 @@ export class SpriteView {
     this.#drawn = found === null ? null : found.bytes;
     if (found !== null) this.#rows.value = String(this.#drawn.length);
     this.#draw();
-    if (found === null) this.#state.textContent += ' (my line is no DB of bytes)';
+    if (found === null) this.#state.textContent += ' (the line at the cursor isn\'t a DB of bytes)';
   }
 
   /** In the place of the DB lines from the cursor's on, or as a line before it. */
@@ -142,7 +142,7 @@ export class SpriteView {
     this.#drawn = null;
   }
 
-  /** What was drawn is of another document. */
+  /** Drops the drawing, because it belongs to another document. */
   forget() {
     this.#drawn = null;
     this.#draw();

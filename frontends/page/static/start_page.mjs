@@ -1,4 +1,4 @@
-// What stands in the place of an empty source: examples that run, a template, a file, or nothing.
+// The page shown in place of an empty source: examples that run, a template, a file, or nothing.
 
 import { readScreen } from './answers.mjs';
 import { request } from './bridge.mjs';
@@ -88,7 +88,7 @@ export class StartPage {
 
   #template() {
     const preview = element('pre', { textContent: TEMPLATE.split('\n').slice(0, PREVIEW_LINES).join('\n') });
-    const card = this.#card('Template', 'A sprite that two keys move, and a timer that keeps the pace, in 27 lines.', preview);
+    const card = this.#card('Template', 'Two keys move a sprite, and a timer sets the pace, in 27 lines.', preview);
     card.addEventListener('click', () => this.#take('game.asm', TEMPLATE));
     return card;
   }

@@ -5,9 +5,9 @@ import { documentOf, earlierOf, recordOf, sizeOf } from './kept_document.mjs';
 import { dropPending, keepPending, takeOver, takePendingOf } from './old_storage.mjs';
 
 const LATER_MILLISECONDS = 300;
-/** What couldn't be written is tried again after this. */
+/** The milliseconds before a failed write is tried again. */
 const AGAIN_MILLISECONDS = 3000;
-/** What can't be read is tried again after these. */
+/** The milliseconds before each new try of a failed read. */
 const READ_AGAIN_MILLISECONDS = [50, 400];
 const TAB = 'chipbench-page document';
 

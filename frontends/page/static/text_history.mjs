@@ -1,4 +1,4 @@
-// What was typed, to be undone and made again: by words, and by pauses.
+// The history of typed text for undo and redo, split at words and at pauses.
 
 import { History } from './history.mjs';
 import { difference } from './source_text.mjs';

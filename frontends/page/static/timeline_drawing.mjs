@@ -59,7 +59,7 @@ export function drawCloseUp({ model, range: [from, to], played, track }) {
   drawStep(track, x(model.step), box);
 }
 
-/** What stays while the run plays: the ruler, and the names of the lanes. */
+/** The parts that stay while the run plays: the ruler, and the names of the lanes. */
 function groundOf(track, { x, from, to, lanes }) {
   const { width, height } = track;
   const key = [from, to, width, height, lanes, ...['--sunken', '--line', '--faint'].map(colour)].join();
@@ -120,7 +120,7 @@ export function drawOverview({ model, range: [from, to], span, played, track: { 
   pen.fillRect(Math.min(width - 2, x(model.step) - 1), 0, 2, height);
 }
 
-/** What wasn't played. */
+/** The part that wasn't played. */
 function hatch(pen, from, top, width, height) {
   pen.save();
   pen.beginPath();

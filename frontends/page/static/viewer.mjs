@@ -13,7 +13,7 @@ const WORDS_PAST_IMAGE = 8;
 const WORDS_BEFORE = 5;
 const WORDS_SHOWN = 15;
 const WORDS_NEAR = 3;
-/** What is known of a text before it is answered. */
+/** The findings about a text before it is answered. */
 export const NOTHING = { listing: [], faults: new Map(), symbols: [], names: new Names(), image: null, map: new SourceMap() };
 const ABOUT_TEXT = ['list', 'faults', 'syms', 'image'];
 /** How many questions about steps of one text are on their way at a time: while one is answered, the next is sent. */
@@ -139,7 +139,7 @@ export class Viewer extends EventTarget {
     this.#tell('shown', { isNew });
   }
 
-  /** All of a step: the step before comes first, so that the program goes on from there. */
+  /** Asks everything about a step. The step before comes first, so that the program goes on from there. */
   #questions(step) {
     const steps = step > 0 ? [step - 1, step] : [step];
     const { from, count } = this.#words;

@@ -1,4 +1,4 @@
-// What the running program holds, and how it comes to hold what the page wants: by the fewest edits, or by being started anew.
+// The state of the running program, and its way to the state that the page wants: the fewest edits, or a new start.
 
 import { BridgeFault, request } from './bridge.mjs';
 import { refusal } from './answers.mjs';
@@ -94,11 +94,11 @@ export class Workbench {
 
   /** Which steps of a run have something: a question of finder.mjs, which another program answers than the session. */
   async steps(wanted, question) {
-    if (wanted.refused?.size > 0) throw new ProgramEnded('there is no run, since a line has a fault');
+    if (wanted.refused?.size > 0) throw new ProgramEnded('there is no run, because a line has a fault');
     const about = { source: sourceOf(wanted), keys: writeKeys(wanted.keys), options: wanted.options };
     const { refused, ...found } = await this.#request('search', { ...about, ...question });
     if (!refused) return found;
-    throw new ProgramEnded(refused.status === 1 ? 'there is no run, since a line has a fault' : firstPart(refused.text) || `the program ended with status ${refused.status}`);
+    throw new ProgramEnded(refused.status === 1 ? 'there is no run, because a line has a fault' : firstPart(refused.text) || `the program ended with status ${refused.status}`);
   }
 
   /** The edits from what the program holds to what is wanted, or null where it has to be started anew. */

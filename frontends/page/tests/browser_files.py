@@ -63,7 +63,7 @@ class FileTests(PageTests):
             assert browser.value("document.getElementById('source-text').value").startswith("; mine\n")
             assert browser.value("chipbenchPage.model.keys.size") == 2
             assert browser.value("chipbenchPage.model.step") == 777
-            assert "kept by the browser" in self.text_of("#notices")
+            assert "The browser kept this text" in self.text_of("#notices")
             self.check_step(text, 777, ["kins 20 3 down", "kins 40 3 up"])
 
     def test_the_text_before_is_told_once(self) -> None:
@@ -603,7 +603,7 @@ class FileTests(PageTests):
                 self.step(1)
                 assert self.registers()["V0"] == "07"
                 browser.press("s", "KeyS", CONTROL)
-                browser.wait("/It wasn't saved: the bridge gives no answer/.test(document.getElementById('notices').textContent)")
+                browser.wait("/It wasn't saved: the bridge doesn't answer/.test(document.getElementById('notices').textContent)")
             finally:
                 self.bridge.send_signal(signal.SIGCONT)
                 browser.offline(False)
@@ -658,7 +658,7 @@ class FileTests(PageTests):
         """It isn't seen, so the card of its fault names it, and takes it out."""
         with self.page("\ufeffCLS\nLD V0, 5\n") as browser:
             browser.value("chipbenchPage.editor.goToLine(1)")
-            browser.wait("/byte order mark, which/.test(document.getElementById('fault-help').textContent)")
+            browser.wait("/invisible byte order mark/.test(document.getElementById('fault-help').textContent)")
             browser.wait("document.querySelector('#fault-help button')?.firstChild.textContent === 'Take the byte order mark out'")
             browser.value("document.querySelector('#fault-help button').click()")
             assert browser.value("chipbenchPage.model.text") == "CLS\nLD V0, 5\n"

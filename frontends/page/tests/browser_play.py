@@ -115,7 +115,7 @@ class PlayTests(PageTests):
             browser.wait("/^the run ends in [1-5] s, at step 1,000,000/.test(document.getElementById('run-result').textContent)")
             browser.wait(f"{DIRECTION} === 0")
             assert browser.value("chipbenchPage.model.step") == last
-            assert "Play begins anew at step 0" in self.text_of("#run-result"), self.text_of("#run-result")
+            assert "Play starts again at step 0" in self.text_of("#run-result"), self.text_of("#run-result")
 
     def test_settings_belong_to_the_file(self) -> None:
         """Each file has its own, which come back with it."""
@@ -200,7 +200,7 @@ class PlayTests(PageTests):
             assert browser.value(keys) == mine
             # the search goes along with the source
             self.put_line(4, "JP LOOP")
-            browser.wait("document.getElementById('crashes-text').textContent === 'It can’t crash: proved for any keys, any random bytes and any speed.'", 60.0)
+            browser.wait("document.getElementById('crashes-text').textContent === 'Proved: this game can’t crash, with any keys, any random bytes and any speed.'", 60.0)
             assert browser.value("document.getElementById('crashes-badge').hidden")
             self.put_line(4, "JP NOWHERE")
             browser.wait("/a line has a fault/.test(document.getElementById('crashes-text').textContent)", 60.0)
@@ -212,7 +212,7 @@ class PlayTests(PageTests):
         with self.page("LD V1, 16\nLD I, #F00\nLOOP: LD V0, K\nLD [I], V0\nADD I, V1\nJP LOOP\n") as browser:
             self.tab("crashes")
             # unasked it looks for a moment
-            browser.wait("/^Looked at for a while/.test(document.getElementById('crashes-text').textContent)", 60.0)
+            browser.wait("/^Paused after a while/.test(document.getElementById('crashes-text').textContent)", 60.0)
             for number in (1, 2):
                 told = self.request("explore", {"action": "tell", "number": number})
                 assert told["number"] is None, told
@@ -222,7 +222,7 @@ class PlayTests(PageTests):
                     time.sleep(2.0)
                     assert self.text_of("#crashes-text").startswith("Searching"), self.text_of("#crashes-text")
                     browser.click("#crashes-switch")
-                    browser.wait("/^Looked at for a while/.test(document.getElementById('crashes-text').textContent)")
+                    browser.wait("/^Paused after a while/.test(document.getElementById('crashes-text').textContent)")
 
     def test_properties(self) -> None:
         """Each has its answer while the author works on; the play that breaks one is shown with its values, and what was there comes back."""

@@ -197,7 +197,7 @@ class RunTests(PageTests):
             wait_for(lambda: (self.kept() or {}).get("keys") == "3 5 down\n", "the keys are kept")
             self.put_kept("record.keys += '900000000 5 up\\n'; record.step = 900000000")
             self.reload()
-            assert "were left out: 1" in self.text_of("#notices"), self.text_of("#notices")
+            assert "were dropped: 1" in self.text_of("#notices"), self.text_of("#notices")
             places = browser.value("[chipbenchPage.model.step, chipbenchPage.model.lastStep]")
             assert places[0] == places[1], places
             self.check_step("LD V0, K\n", 4, ["kins 3 5 down"])
@@ -465,7 +465,7 @@ class RunTests(PageTests):
             told = self.searched("#7000", "next")
             took = time.monotonic() - began
             assert took < 1.0 * self.browser.patience, f"{told!r} after {took:.1f} s"
-            assert "never above 4350" in told, told
+            assert "at most 4350" in told, told
             for direction, step in (("next", 0), ("last", browser.value("chipbenchPage.model.lastStep"))):
                 self.step(step)
                 began = time.monotonic()

@@ -64,7 +64,7 @@ class WayTests(PageTests):
             browser.press("w", "KeyW", text="w")
             time.sleep(0.2)
             assert browser.value(KEYS) == 0
-            assert "recorded while it plays" in self.text_of("#run-result"), self.text_of("#run-result")
+            assert "recorded while the game plays" in self.text_of("#run-result"), self.text_of("#run-result")
             self.tab("keys")
             browser.press("w", "KeyW", text="w")
             browser.wait(f"{KEYS} === 1")

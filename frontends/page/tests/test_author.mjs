@@ -420,7 +420,7 @@ test('crashes: what `explore` prints', () => {
   assert.equal(readExplored('never\nfor any keys, random bytes and speed\nfacts 5\n').isForAll, true);
   const some = readExplored('S2 3, line 4: DW #0000\nkeys 2\nstates 1\nleft S2 0206, line 4: DW #0000\nleft S6 020a\n');
   assert.deepEqual(some.left, [{ cause: 'S2', address: '0206', line: 4 }, { cause: 'S6', address: '020a', line: null }]);
-  assert.deepEqual(furtherTexts(some).map((text) => text.slice(0, 24)), ['Not excluded: S6 at 020a']);
+  assert.deepEqual(furtherTexts(some).map((text) => text.slice(0, 26)), ['Still possible: S6 at 020a']);
   assert.equal(readExplored('a.asm:1:1: F9: undefined name\n'), null);
 });
 

@@ -209,7 +209,7 @@ test('kept: a database that never answers is as one that fails', async () => {
   hurryUp();
   database.hangs = (mode) => mode === 'readonly';
   await here.openNamed('one.asm');
-  assert.match(notices().join(), /one\.asm can't be read: the browser gave no answer/);
+  assert.match(notices().join(), /one\.asm can't be read: the browser didn't answer/);
   assert.equal(keptOf('one.asm').text, MINE);
   database.hangs = (mode) => mode === 'readwrite';
   here.editor.become(NEXT);

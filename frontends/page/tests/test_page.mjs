@@ -480,7 +480,7 @@ test('player: it stops at breakpoints, waits for what lies ahead, and tells the 
   pass(100);
   assert.match(told.at(-1), /^the run ends in \d+ s, at step 30,000/);
   for (let count = 0; count < 200 && player.direction !== 0; count += 1) pass(100);
-  assert.equal(told.at(-1), 'the end of the run, step 30,000; Play begins anew at step 0');
+  assert.equal(told.at(-1), 'the end of the run, step 30,000; Play starts again at step 0');
 });
 
 test('player: at rest a key is turned from the step on', (context) => {

@@ -115,7 +115,7 @@ test('a browser that asks again before a file is written is obeyed', async () =>
   const files = new PageFiles({});
   const picked = await files.pick();
   const { digest } = await files.read(picked);
-  await assert.rejects(files.save({ ...picked, text: 'RET\n', known: digest }), /told not to write/);
+  await assert.rejects(files.save({ ...picked, text: 'RET\n', known: digest }), /haven't allowed/);
   assert.equal(file.text, 'CLS\n');
 });
 
