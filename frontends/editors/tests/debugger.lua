@@ -1,5 +1,5 @@
 -- A client of the debug adapter inside Neovim, by what `setup_debugger` tells the plugin nvim-dap, which Debian doesn't have.
--- It does the tasks of docs/SHELL.md, forward and back. Step 22 + 8 (N - 1) is the one at which HIT is next for the Nth time.
+-- The test does the tasks of docs/SHELL.md, forward and back. Step 22 + 8 (N - 1) is the one at which HIT is next for the Nth time.
 
 local SCORE = {
   '; Key 4 scores. The score is in V3, and in the byte SCORE.',

@@ -1,4 +1,4 @@
-// What the protocol says, as VS Code has it, and back.
+// Converts values of the protocol to those of VS Code, and back.
 'use strict';
 
 const vscode = require('vscode');

@@ -78,7 +78,7 @@ class Server {
     this.#starts = this.#starts.filter((at) => at > Date.now() - MINUTE);
     if (missing !== undefined) vscode.window.showErrorMessage(missing);
     else if (this.#starts.length < MOST_STARTS) this.start();
-    else vscode.window.showErrorMessage('chipbench: the language server keeps ending; see the output of chipbench.');
+    else vscode.window.showErrorMessage('chipbench: the language server keeps ending; the output of chipbench says why.');
   }
 
   #told(method, params) {
