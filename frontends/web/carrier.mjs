@@ -1,4 +1,4 @@
-// What carries out the page's requests about the program. The session runs in one worker, and the program in others: one for short
+// Carries out the page's requests about the program. The session runs in one worker, and the program in others: one for short
 // commands, one for searches in a run, one for each kind of long run. A worker that answers too late, or whose run is stopped, is ended
 // and begins anew with its next request.
 import { BridgeFault, carryBy } from './bridge.mjs';

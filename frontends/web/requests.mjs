@@ -1,4 +1,4 @@
-// What the page asks of the program, answered by the modules. Texts are strings in which each character stands for one byte.
+// The modules' answers to the page's requests about the program. Texts are strings in which each character stands for one byte.
 import { MemoryHost } from './memory_host.mjs';
 import { OPTIONS } from './options.mjs';
 import { Session, STATUS } from './session.mjs';
@@ -9,7 +9,7 @@ const MOST_COMMANDS = 25_000;
 const MOST_ANSWERS = 64_000_000;
 const TAPE_BYTES = 256;
 const FIRST_REGISTER = 3;
-// So many states of a search take some 150 megabytes.
+// This number of states of a search takes about 150 megabytes.
 const STATES = 1_000_000;
 const PROGRESS = /step (\d+), (\d+) states/;
 const LINE_OF_PROGRESS = 200;

@@ -9,7 +9,7 @@ const KEPT_BYTES = 402;
 const NEWLINE = 10;
 const CARRIAGE_RETURN = 13;
 
-// What crates/chip_web/src/status.rt has.
+// The numbers of crates/chip_web/src/status.rt.
 export const STATUS = {
   done: 0,
   noMemory: 1,

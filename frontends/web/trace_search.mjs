@@ -1,4 +1,4 @@
-// Which steps of a run have what is looked for, by the lines that `trace` prints.
+// Finds steps of a run in the lines that `trace` prints.
 import { MemoryHost } from './memory_host.mjs';
 import { joined } from './session.mjs';
 import { run } from './system.mjs';
@@ -23,7 +23,7 @@ function keyOf(bytes, from, end) {
 
 const keyOfText = (text) => keyOf(new TextEncoder().encode(text), 0, text.length);
 
-// Where a column begins in a line.
+// The place where a column begins in a line.
 function columnAt(bytes, from, place) {
   let at = from;
   for (let spaces = 0; spaces < place; at += 1) if (bytes[at] === SPACE) spaces += 1;
