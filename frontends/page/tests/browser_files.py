@@ -270,7 +270,7 @@ class FileTests(PageTests):
             browser.wait("/changed by another program/.test(document.getElementById('notices').textContent)")
             self.notice_button("Keep mine")
             browser.press("s", "KeyS", CONTROL)
-            browser.wait("/It wasn't saved/.test(document.getElementById('notices').textContent)")
+            browser.wait("/Your text wasn't saved/.test(document.getElementById('notices').textContent)")
             assert self.path.read_text() == "LD V0, 2 ; theirs\n"
             self.notice_button("Leave it")
             self.path.write_text("LD V0, 3 ; theirs\n")
@@ -659,7 +659,7 @@ class FileTests(PageTests):
         with self.page("\ufeffCLS\nLD V0, 5\n") as browser:
             browser.value("chipbenchPage.editor.goToLine(1)")
             browser.wait("/invisible byte order mark/.test(document.getElementById('fault-help').textContent)")
-            browser.wait("document.querySelector('#fault-help button')?.firstChild.textContent === 'Take the byte order mark out'")
+            browser.wait("document.querySelector('#fault-help button')?.firstChild.textContent === 'Remove the byte order mark'")
             browser.value("document.querySelector('#fault-help button').click()")
             assert browser.value("chipbenchPage.model.text") == "CLS\nLD V0, 5\n"
             self.check_step("CLS\nLD V0, 5\n", 2, [])
