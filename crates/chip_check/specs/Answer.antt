@@ -2,8 +2,9 @@
 --     met_words          the words where a script breaks the property, reaches an `ever`, or leads a `can` to a dead
 --                        end
 --     unmet_words        the words where no script does up to a step
---     never_words        the words where no script ever does
+--     proved_words       the words where no script ever does
 --     scope_words        the words that follow a proof and say which machines it covers
+--     never_words        both together, except that `always` covers one rate alone
 --     answer_words       the outcome in words
 --     answer_line, answer_object, answer_text    the answer as a line, as a JSON object, and in the form asked for
 --     is_bad             whether a property is broken, an `ever` isn't reached, or a `can` has a dead end
@@ -35,10 +36,14 @@ scope_words scope.AtRate = []
 scope_words scope.AtAnySpeed = codes " at any speed"
 scope_words scope.Anything = codes " for any keys, random bytes and speed"
 
+abbrev pub proved_words : Kind → List ℕ
+proved_words kind.Ever = codes "never reached"
+proved_words kind.Can = codes "always"
+proved_words other = codes "proved"
+
 abbrev pub never_words : Kind → Scope → List ℕ
-never_words kind.Can scope = codes "always"
-never_words kind.Ever scope = codes "never reached" ++ scope_words scope
-never_words kind scope = codes "proved" ++ scope_words scope
+never_words kind.Can scope = proved_words kind.Can
+never_words kind scope = proved_words kind ++ scope_words scope
 
 -- broken, reached, or a dead end, at a step
 abbrev pub met_at : Kind → ℕ → List ℕ

@@ -2,7 +2,7 @@
 ghost use Rattle.std.specs.Prelude.{◌≡◌, ◌++◌, OnOk};
 ghost use Rattle.std.specs.Fmt.{decimal};
 ghost use Rattle.std.specs.List.{flat_map};
-ghost use Rattle.chip_check.specs.Answer.{answer_members, answer_object, answer_text, answer_word, answer_words, further_event, is_bad, key_event, key_events, met_at, met_words, never_words, scope_words, unmet_up_to, unmet_words};
+ghost use Rattle.chip_check.specs.Answer.{answer_members, answer_object, answer_text, answer_word, answer_words, further_event, is_bad, key_event, key_events, met_at, met_words, never_words, proved_words, scope_words, unmet_up_to, unmet_words};
 
 use crate::json::push_quoted;
 use chip_explore::{KeyEvent, Outcome};
@@ -179,6 +179,17 @@ fn push_unmet(text: &mut Vec<u8>, kind: Kind, step: u64) -> Result<(), AllocErro
     push_decimal(text, step)
 }
 
+/// The words for a property that no script ever breaks or reaches.
+fn proved_words(kind: Kind) -> &'static [u8]
+    ensures { result.now ≡ proved_words kind }
+{
+    match kind {
+        Kind::Ever => b"never reached",
+        Kind::Can => b"always",
+        Kind::Always | Kind::Never => b"proved",
+    }
+}
+
 /// The words that follow a proof and say which machines it covers.
 fn scope_words(scope: Scope) -> &'static [u8]
     ensures { result.now ≡ scope_words scope }
@@ -193,12 +204,10 @@ fn scope_words(scope: Scope) -> &'static [u8]
 fn push_never(text: &mut Vec<u8>, kind: Kind, scope: Scope) -> Result<(), AllocError>
     ensures { OnOk result (text.new.items ≡ text.old.items ++ never_words kind scope) }
 {
-    let words: &[u8] = match kind {
-        Kind::Can => return text.extend_from_slice(b"always"),
-        Kind::Ever => b"never reached",
-        Kind::Always | Kind::Never => b"proved",
-    };
-    text.extend_from_slice(words)?;
+    if kind == Kind::Can {
+        return text.extend_from_slice(b"always");
+    }
+    text.extend_from_slice(proved_words(kind))?;
     text.extend_from_slice(scope_words(scope))
 }
 
