@@ -162,7 +162,7 @@ pub(crate) fn machine_of(
 ) -> Result<Machine, AllocError>
     ensures { IfOk result (λ start. start ≡ start_of image.now tape.now quirks) }
 {
-    match Machine::start(alloc, image, tape, quirks) {
+    match Machine::start_with(alloc, image, tape, quirks) {
         Ok(start) => Ok(start),
         Err(_) => Err(AllocError),
     }

@@ -124,7 +124,7 @@ impl Machines {
         tape: &[u8],
         quirks: Quirks,
     ) -> Result<(), AllocError> {
-        match Machine::start(alloc, image, tape, quirks) {
+        match Machine::start_with(alloc, image, tape, quirks) {
             Ok(machine) => {
                 self.machine = Some(Box::new(alloc, machine)?);
                 self.steps = 0;

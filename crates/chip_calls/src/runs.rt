@@ -80,7 +80,7 @@ fn some_machine(alloc: Global, state: &mut u32) -> Result<Box<Machine>, AllocErr
         let kind = next(state);
         image.extend_from_slice(&word_of(kind, next(state)).to_be_bytes())?;
     }
-    match Machine::start(alloc, &image, &[0xa5, 0x5a], Profile::Schip.quirks()) {
+    match Machine::start(alloc, &image, &[0xa5, 0x5a], Profile::Schip) {
         Ok(machine) => Ok(Box::new(alloc, machine)?),
         Err(_) => Err(AllocError),
     }

@@ -67,7 +67,7 @@ impl Table {
         if self.memory.len() != SETS_WORDS {
             return Ok(false);
         }
-        let Ok(machine) = Machine::start(alloc, image, &[0], quirks) else {
+        let Ok(machine) = Machine::start_with(alloc, image, &[0], quirks) else {
             return Err(AllocError);
         };
         let start = Successor {

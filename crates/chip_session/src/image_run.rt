@@ -155,7 +155,12 @@ impl ImageRun {
         ensures { IfOk result (λ run. run ≡ empty_run settings) }
     {
         let last_image = Vec::with_capacity(alloc, IMAGE_BYTES)?;
-        let machine = match Machine::start(alloc, &last_image, settings.tape(), settings.quirks()) {
+        let machine = match Machine::start_with(
+            alloc,
+            &last_image,
+            settings.tape(),
+            settings.quirks(),
+        ) {
             Ok(machine) => machine,
             Err(_) => return Err(AllocError),
         };

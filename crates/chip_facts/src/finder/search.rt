@@ -454,7 +454,7 @@ impl Search {
     ) -> Result<Search, AllocError>
         requires { length image.now ≤ IMAGE_BYTES }
     {
-        let Ok(machine) = Machine::start(alloc, image, &[0], quirks) else {
+        let Ok(machine) = Machine::start_with(alloc, image, &[0], quirks) else {
             return Err(AllocError);
         };
         let table = Table {
