@@ -26,7 +26,7 @@ use Rattle.chip_asm.proofs.InfoSteps.{infos-extend}
 use Rattle.std.specs.Global.{Vec}
 use Rattle.std.proofs.lemmas.Bool.{cases_lt, false_from_ne_true, cases_eq}
 use Rattle.chip_lang.specs.declared.limits.TheConstants.{IMAGE_BYTES, IMAGE_START}
-use Rattle.chip_asm.specs.declared.edit.Edit.{Edit}
+use Rattle.chip_asm.specs.declared.edit.LineEdit.{LineEdit}
 use Rattle.std.proofs.lemmas.Option.{same_Some, slice_get-get_or, slice_get_within, get_or_from_slice_get}
 use Rattle.chip_asm.specs.declared.layout.Layout.{Layout}
 use Rattle.chip_asm.specs.declared.placement.Placement.{Placement}
@@ -39,7 +39,7 @@ use Rattle.chip_asm.proofs.LinesApart.{covered-parts, outside}
 use Rattle.chip_asm.proofs.LinesByPlace.{AtPlace, accepted-at, at-line, at-place, at-place-of, byte-line, byte-nowhere, ends-before, found-there, here-at, high, low, none-pending, covers-accepted, covered, set-here, set-other}
 use Rattle.chip_asm.proofs.LinesAfter.{Edited, edited-lines, edited-map, same-front, shorter}
 use Rattle.chip_asm.specs.Edits.{insert_refusal, before_replace}
-use Rattle.chip_asm.specs.declared.edit.Edit.TheVariants.{Insert, Replace, Delete, Open}
+use Rattle.chip_asm.specs.declared.edit.LineEdit.TheVariants.{Insert, Replace, Delete, Open}
 use Rattle.chip_asm.proofs.Views.{needs-view, one-needed}
 use Rattle.std.specs.Prelude.{min}
 
@@ -299,12 +299,12 @@ kept-moved old new k lines placements names end faults settled image =
 
 -- After an edit, all that is kept is right, and no more lines were encoded than the edit needs.
 
-pub within-lines : (kept : Kept) (edit : Edit) → MayEdit kept edit → IsPlaceWithin (length kept.lines.items) edit
+pub within-lines : (kept : Kept) (edit : LineEdit) → MayEdit kept edit → IsPlaceWithin (length kept.lines.items) edit
 within-lines kept edit m = subst (λ n. IsPlaceWithin n edit) kept.lines.ok.0 m.within
 
 -- A property of each kept line still holds after an edit if it holds of the lines that are added.
 
-all-after : (P : KeptLine → Type 0) (lines : List KeptLine) (edit : Edit) → All P lines → AllAdded P edit → All P (lines_after lines edit)
+all-after : (P : KeptLine → Type 0) (lines : List KeptLine) (edit : LineEdit) → All P lines → AllAdded P edit → All P (lines_after lines edit)
 all-after P lines (Insert at line) all one = All-append P (take at lines) (line ∷ drop at lines) (All-take P at lines all) (All-cons P line (drop at lines) one (All-drop P at lines all))
 all-after P lines (Replace at line) all one = All-set P lines at line one all
 all-after P lines (Delete at) all one = All-append P (take at lines) (drop (suc at) lines) (All-take P at lines all) (All-drop P (suc at) lines all)
@@ -318,7 +318,7 @@ read-all : (lines : List KeptLine) → All IsRead lines → readings_in lines �
 read-all [] h = refl
 read-all (x ∷ xs) h = λ j. All-head IsRead x xs h j ∷ read-all xs (All-tail IsRead x xs h) j
 
-read-after : (lines : List KeptLine) (edit : Edit) → readings_in lines ≡ map reading_of (texts_in lines) → AllAdded IsRead edit → readings_in (lines_after lines edit) ≡ map reading_of (texts_in (lines_after lines edit))
+read-after : (lines : List KeptLine) (edit : LineEdit) → readings_in lines ≡ map reading_of (texts_in lines) → AllAdded IsRead edit → readings_in (lines_after lines edit) ≡ map reading_of (texts_in (lines_after lines edit))
 read-after lines edit e one = read-all (lines_after lines edit) (all-after IsRead lines edit (all-read lines e) one)
 
 pub texts-set : (lines : List KeptLine) (at : ℕ) (kept : KeptLine) → texts_in (set lines at kept) ≡ set (texts_in lines) at kept.text
@@ -333,33 +333,33 @@ map-insert f xs i y = map-append f (take i xs) (y ∷ drop i xs) ∙ (λ j. sym 
 map-remove : {X Y : Type 0} (f : X → Y) (xs : List X) (i : ℕ) → map f (remove xs i) ≡ remove (map f xs) i
 map-remove f xs i = map-append f (take i xs) (drop (suc i) xs) ∙ (λ j. sym (take-map f i xs) j ++ sym (drop-map f (suc i) xs) j)
 
-pub texts-edited : (lines : List KeptLine) (edit : Edit) → texts_in (lines_after lines edit) ≡ texts_after (texts_in lines) edit
+pub texts-edited : (lines : List KeptLine) (edit : LineEdit) → texts_in (lines_after lines edit) ≡ texts_after (texts_in lines) edit
 texts-edited lines (Insert at line) = map-insert (λ (k : KeptLine). k.text) lines at line
 texts-edited lines (Replace at line) = texts-set lines at line
 texts-edited lines (Delete at) = map-remove (λ (k : KeptLine). k.text) lines at
 texts-edited lines (Open all) = refl
 
-few-edited : (kept : Kept) (edit : Edit) → MayEdit kept edit → length (lines_after kept.lines.items edit) ≤ MOST_LINES
+few-edited : (kept : Kept) (edit : LineEdit) → MayEdit kept edit → length (lines_after kept.lines.items edit) ≤ MOST_LINES
 few-edited kept edit m = omega (arith, m.few, (edited-lines kept.lines.items edit (within-lines kept edit m)).many, ap (λ n. count_after n edit) kept.lines.ok.0)
 
-all-are-read : (kept : Kept) (edit : Edit) → MayEdit kept edit → lines_then kept edit ≡ map reading_of (texts_in (lines_after kept.lines.items edit))
+all-are-read : (kept : Kept) (edit : LineEdit) → MayEdit kept edit → lines_then kept edit ≡ map reading_of (texts_in (lines_after kept.lines.items edit))
 all-are-read kept edit m = read-after kept.lines.items edit m.kept.are_read m.are_read
 
-infos-edited : (kept : Kept) (edit : Edit) → MayEdit kept edit → AreInfos kept.names.keys (lines_after kept.lines.items edit)
+infos-edited : (kept : Kept) (edit : LineEdit) → MayEdit kept edit → AreInfos kept.names.keys (lines_after kept.lines.items edit)
 infos-edited kept edit m = all-after (λ (line : KeptLine). IsInfo kept.names.keys line.info line.several (reading_in line)) kept.lines.items edit m.kept.infos m.infos
 
 -- the lines that are encoded because of an edit, seen from the texts
-pub needs-edited : (kept : Kept) (edit : Edit) → MayEdit kept edit → needs_count (lines_kept kept) (lines_then kept edit) (place_before edit) ≡ needed_by kept edit
+pub needs-edited : (kept : Kept) (edit : LineEdit) → MayEdit kept edit → needs_count (lines_kept kept) (lines_then kept edit) (place_before edit) ≡ needed_by kept edit
 needs-edited kept edit m =
     needs-view (lines_kept kept) (lines_then kept edit) (texts_kept kept) (texts_after (texts_kept kept) edit) (place_before edit) m.kept.are_read
     (all-are-read kept edit m ∙ ap (map reading_of) (texts-edited kept.lines.items edit))
 
 -- the first lines stay as they are
-pub begun-kept : (kept : Kept) (edit : Edit) (first : ℕ) → MayEdit kept edit → first ≤ first_changed edit → AreSteady kept.lines.items first → Begun kept.lines.items edit first
+pub begun-kept : (kept : Kept) (edit : LineEdit) (first : ℕ) → MayEdit kept edit → first ≤ first_changed edit → AreSteady kept.lines.items first → Begun kept.lines.items edit first
 begun-kept kept edit first m stays steady = begun kept.names.keys kept.lines.items edit first (within-lines kept edit m) (infos-edited kept edit m) stays steady
 
 -- after both passes all is right again
-pub kept-edited : (old new : Kept) (edit : Edit) (first : ℕ) → MayEdit old edit → Begun old.lines.items edit first → new.lines.items ≡ lines_after old.lines.items edit
+pub kept-edited : (old new : Kept) (edit : LineEdit) (first : ℕ) → MayEdit old edit → Begun old.lines.items edit first → new.lines.items ≡ lines_after old.lines.items edit
     → new.settled ≡ first → IsAssembled (change_of old edit) new → IsKept new
 kept-edited old new edit first m b lines settled a =
     kept-by new (lines_after old.lines.items edit) lines (few-edited old edit m) (all-are-read old edit m) (subst (λ (ls : List KeptLine). AreInfos new.names.keys ls) lines a.infos) a.symbols a.laid_out a.image (rw settled b.stay)
@@ -384,7 +384,7 @@ accepted-code layout image lines n q line laid bytes a accepted there is = recor
     code = ap (code_with (names_of_lines lines)) (same_Some a.x.line line (sym a.line ∙ is))
 
 -- the edit is made, and the passes begin after these first lines
-pub record IsMade (old new : Kept) (edit : Edit) (first here : ℕ) : Type 0 where
+pub record IsMade (old new : Kept) (edit : LineEdit) (first here : ℕ) : Type 0 where
   pub may : MayEdit old edit
   pub begun : Begun old.lines.items edit first
   pub stays : first ≤ first_changed edit
@@ -406,11 +406,11 @@ pub record IsMade (old new : Kept) (edit : Edit) (first here : ℕ) : Type 0 whe
 pub placed-many : (kept : Kept) → IsKept kept → length kept.layout.placements.items ≡ length kept.lines.items
 placed-many kept k = length-laid kept.layout (lines_kept kept) k.laid_out ∙ length-map kept.lines.items reading_in
 
-read-edited : (old : Kept) (edit : Edit) → MayEdit old edit → Edited (lines_kept old) (lines_then old edit) edit (λ y. Unit {0})
+read-edited : (old : Kept) (edit : LineEdit) → MayEdit old edit → Edited (lines_kept old) (lines_then old edit) edit (λ y. Unit {0})
 read-edited old edit m = edited-map reading_in old.lines.items (lines_after old.lines.items edit) edit (λ y. Unit {0}) (edited-lines old.lines.items edit (within-lines old edit m))
 
 -- the facts about a line after the first ones
-slot : (old new : Kept) (edit : Edit) (first here : ℕ) → IsMade old new edit first here → (j : ℕ) (line : Reading) (q : Placement) → slice_get (lines_then old edit) j ≡ Some line
+slot : (old new : Kept) (edit : LineEdit) (first here : ℕ) → IsMade old new edit first here → (j : ℕ) (line : Reading) (q : Placement) → slice_get (lines_then old edit) j ≡ Some line
     → slice_get new.layout.placements.items j ≡ Some q → IsSlot (change_of old edit) new.image.items j line q
 slot old new edit first here m j line q line_at q_at = by (place_before edit j) refl
   where
@@ -437,10 +437,10 @@ slot old new edit first here m j line q line_at q_at = by (place_before edit j) 
 -- the facts about one of the first lines
 
 -- the line is placed as before
-placed-first : (old : Kept) (edit : Edit) (first n : ℕ) → Begun old.lines.items edit first → n < first → slice_get (reverse (placed (lines_kept old))) n ≡ slice_get (reverse (placed (lines_then old edit))) n
+placed-first : (old : Kept) (edit : LineEdit) (first n : ℕ) → Begun old.lines.items edit first → n < first → slice_get (reverse (placed (lines_kept old))) n ≡ slice_get (reverse (placed (lines_then old edit))) n
 placed-first old edit first n b below = same-placed (lines_kept old) (lines_then old edit) first n b.same b.long (omega (arith, b.within, length-map (lines_after old.lines.items edit) reading_in)) below
 
-first-held : (old new : Kept) (edit : Edit) (first here : ℕ) → IsMade old new edit first here → (j : ℕ) (x : Placed) (q : Placement) → j < first → placed_at (change_of old edit) j ≡ Some x
+first-held : (old new : Kept) (edit : LineEdit) (first here : ℕ) → IsMade old new edit first here → (j : ℕ) (x : Placed) (q : Placement) → j < first → placed_at (change_of old edit) j ≡ Some x
     → slice_get new.layout.placements.items j ≡ Some q → IsHeld (change_of old edit) j x q new.image.items
 first-held old new edit first here m j x q below at q_at = λ effect.
     let was : List Reading = lines_kept old in
@@ -467,7 +467,7 @@ first-below lines first n q h a =
       | inr above ↦ (let same : n ≡ first = omega arith in omega (arith, here-at lines n q a, ap (λ k. address (placed (take k lines))) same))
     ]
 
-first-gap : (old new : Kept) (edit : Edit) (first here : ℕ) → IsMade old new edit first here → (k : ℕ) → IMAGE_START + k < here
+first-gap : (old new : Kept) (edit : LineEdit) (first here : ℕ) → IsMade old new edit first here → (k : ℕ) → IMAGE_START + k < here
     → ((j : ℕ) (x : Placed) → j < first → placed_at (change_of old edit) j ≡ Some x → is_byte_of x.here x.size k ≡ false) → get_or new.image.items k 0 ≡ 0
 first-gap old new edit first here m k before none =
     let was : List Reading = lines_kept old in
@@ -481,7 +481,7 @@ first-gap old new edit first here m k before none =
     ])
 
 -- no line waits for its code
-none-waits : (old new : Kept) (edit : Edit) (first here : ℕ) → IsMade old new edit first here → (j : ℕ) (q : Placement) → slice_get new.layout.placements.items j ≡ Some q → q.status ≡ Pending → ⊥
+none-waits : (old new : Kept) (edit : LineEdit) (first here : ℕ) → IsMade old new edit first here → (j : ℕ) (q : Placement) → slice_get new.layout.placements.items j ≡ Some q → q.status ≡ Pending → ⊥
 none-waits old new edit first here m j q at waits = by (place_before edit j) refl
   where
     by : (o : Option ℕ) → place_before edit j ≡ o → ⊥
@@ -489,7 +489,7 @@ none-waits old new edit first here m j q at waits = by (place_before edit j) ref
     by (Some b) origin = none-pending (lines_kept old) old.layout m.may.kept.laid_out b q (m.placements.stood j b origin ∙ at) waits
 
 -- all is ready
-pub exchanged : (old new : Kept) (edit : Edit) (first here : ℕ) → IsMade old new edit first here → IsExchanged (change_of old edit) new first here
+pub exchanged : (old new : Kept) (edit : LineEdit) (first here : ℕ) → IsMade old new edit first here → IsExchanged (change_of old edit) new first here
 exchanged old new edit first here m =
     let b : Begun old.lines.items edit first = m.begun in
     let long : length new.lines.items ≡ length (lines_after old.lines.items edit) = ap length m.lines in

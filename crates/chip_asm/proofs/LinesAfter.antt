@@ -8,8 +8,8 @@ use Rattle.std.proofs.lemmas.List.Edits.{get_or-insert_at, get_or-insert_below, 
 use Rattle.std.proofs.lemmas.Option.{gets, slice_get-map, slice_get_cases}
 use Rattle.chip_lang.specs.Line.{Reading}
 use Rattle.chip_asm.specs.inner.KeptLine.{KeptLine}
-use Rattle.chip_asm.specs.declared.edit.Edit.{Edit}
-use Rattle.chip_asm.specs.declared.edit.Edit.TheVariants.{Insert, Replace, Delete, Open}
+use Rattle.chip_asm.specs.declared.edit.LineEdit.{LineEdit}
+use Rattle.chip_asm.specs.declared.edit.LineEdit.TheVariants.{Insert, Replace, Delete, Open}
 use Rattle.chip_asm.specs.inner.Records.{reading_in, readings_in, IsPlaceWithin, items_after, lines_after, count_after, place_before, first_changed}
 
 -- two lists with the same front also have the same shorter fronts
@@ -27,7 +27,7 @@ pub read-at : (xs : List KeptLine) (n : ℕ) (kept : KeptLine) (line : Reading) 
 read-at xs n kept line e at = let both : Some (reading_in kept) ≡ Some line = sym (line-at xs n kept e) ∙ at in cc
 
 -- a list before and after an edit, with a property of each new item
-pub record Edited {X : Type 0} (xs ys : List X) (edit : Edit) (IsNew : X → Type 0) : Type 0 where
+pub record Edited {X : Type 0} (xs ys : List X) (edit : LineEdit) (IsNew : X → Type 0) : Type 0 where
   pub many : length ys ≡ count_after (length xs) edit
   pub front : take (first_changed edit) xs ≡ take (first_changed edit) ys
   pub stood : (n b : ℕ) → place_before edit n ≡ Some b → slice_get xs b ≡ slice_get ys n
@@ -66,25 +66,25 @@ removed xs at IsNew h = record {
 }
 
 -- the items kept of each line
-pub edited-items : {X : Type 0} (xs ys : List X) (edit : Edit) (new : X) (count : ℕ) → length xs ≡ count → IsPlaceWithin count edit → ys ≡ items_after xs edit new → Edited xs ys edit (λ y. y ≡ new)
+pub edited-items : {X : Type 0} (xs ys : List X) (edit : LineEdit) (new : X) (count : ℕ) → length xs ≡ count → IsPlaceWithin count edit → ys ≡ items_after xs edit new → Edited xs ys edit (λ y. y ≡ new)
 edited-items {X} xs ys edit new count many within is =
     subst (λ zs. Edited xs zs edit (λ y. y ≡ new)) (sym is) (by edit (subst (λ n. IsPlaceWithin n edit) (sym many) within))
   where
-    by : (edit : Edit) → IsPlaceWithin (length xs) edit → Edited xs (items_after xs edit new) edit (λ (y : X). y ≡ new)
+    by : (edit : LineEdit) → IsPlaceWithin (length xs) edit → Edited xs (items_after xs edit new) edit (λ (y : X). y ≡ new)
     by (Insert at line) h = inserted xs at new line (λ (y : X). y ≡ new) refl h
     by (Replace at line) h = replaced xs at new line (λ (y : X). y ≡ new) refl h
     by (Delete at) h = removed xs at (λ (y : X). y ≡ new) h
     by (Open all) h = record { many = length-replicate (length all.items) new; front = refl; stood = λ n b o. cc; fresh = λ n y o e. grind (arith, gets, get_or-replicate, length-replicate) }
 
 -- the lines themselves, before and after an edit
-pub edited-lines : (lines : List KeptLine) (edit : Edit) → IsPlaceWithin (length lines) edit → Edited lines (lines_after lines edit) edit (λ y. Unit {0})
+pub edited-lines : (lines : List KeptLine) (edit : LineEdit) → IsPlaceWithin (length lines) edit → Edited lines (lines_after lines edit) edit (λ y. Unit {0})
 edited-lines lines (Insert at line) h = inserted lines at line line (λ y. Unit {0}) tt h
 edited-lines lines (Replace at line) h = replaced lines at line line (λ y. Unit {0}) tt h
 edited-lines lines (Delete at) h = removed lines at (λ y. Unit {0}) h
 edited-lines lines (Open all) h = record { many = refl; front = refl; stood = λ n b o. cc; fresh = λ n y o e. tt }
 
 -- the readings of the lines
-pub edited-map : {X Y : Type 0} (f : X → Y) (xs ys : List X) (edit : Edit) (IsNew : X → Type 0) → Edited xs ys edit IsNew → Edited (map f xs) (map f ys) edit (λ y. Unit {0})
+pub edited-map : {X Y : Type 0} (f : X → Y) (xs ys : List X) (edit : LineEdit) (IsNew : X → Type 0) → Edited xs ys edit IsNew → Edited (map f xs) (map f ys) edit (λ y. Unit {0})
 edited-map f xs ys edit IsNew e = record {
   many = length-map ys f ∙ e.many ∙ ap (λ n. count_after n edit) (sym (length-map xs f));
   front = take-map f (first_changed edit) xs ∙ ap (map f) e.front ∙ sym (take-map f (first_changed edit) ys);
@@ -93,7 +93,7 @@ edited-map f xs ys edit IsNew e = record {
 }
 
 -- the first part is within both lists
-pub first-within : (count : ℕ) (edit : Edit) → IsPlaceWithin count edit → (first_changed edit ≤ count) × (first_changed edit ≤ count_after count edit)
+pub first-within : (count : ℕ) (edit : LineEdit) → IsPlaceWithin count edit → (first_changed edit ≤ count) × (first_changed edit ≤ count_after count edit)
 first-within count (Insert at line) h = (h, omega arith)
 first-within count (Replace at line) h = (omega arith, omega arith)
 first-within count (Delete at) h = (omega arith, omega arith)

@@ -29,7 +29,7 @@ use Rattle.std.specs.Prelude.{int_lt}
 use Rattle.std.proofs.lemmas.Bool.{and_parts, and_right, ltb-false, not-true, or_from, or_parts}
 use Rattle.chip_lang.specs.declared.limits.TheConstants.{IMAGE_START, MEMORY_BYTES}
 use Rattle.std.proofs.lemmas.Option.{get_or_from_slice_get, slice_get_within}
-use Rattle.chip_asm.specs.declared.edit.Edit.{Edit}
+use Rattle.chip_asm.specs.declared.edit.LineEdit.{LineEdit}
 use Rattle.chip_asm.specs.inner.KeptLine.{KeptLine}
 use Rattle.chip_asm.specs.inner.Records.{IsPlaceWithin, lines_after, reading_in, readings_in, first_changed}
 use Rattle.chip_asm.proofs.LinesAfter.{Edited, edited-lines, first-within, same-front, shorter}
@@ -529,14 +529,14 @@ steady-at lines first n line steady below there =
     ∙ steady n line (omega (arith, length-take first lines))
 
 -- the first lines stay, and are steady
-pub record Begun (lines : List KeptLine) (edit : Edit) (first : ℕ) : Type 0 where
+pub record Begun (lines : List KeptLine) (edit : LineEdit) (first : ℕ) : Type 0 where
   pub long : first ≤ length (readings_in lines)
   pub within : first ≤ length (lines_after lines edit)
   pub same : take first (readings_in lines) ≡ take first (readings_in (lines_after lines edit))
   pub stay : AreSteady (lines_after lines edit) first
   pub steady : AllSteady (take first (readings_in (lines_after lines edit)))
 
-pub begun : (keys : List Name) (lines : List KeptLine) (edit : Edit) (first : ℕ) → IsPlaceWithin (length lines) edit → AreInfos keys (lines_after lines edit) → first ≤ first_changed edit → AreSteady lines first
+pub begun : (keys : List Name) (lines : List KeptLine) (edit : LineEdit) (first : ℕ) → IsPlaceWithin (length lines) edit → AreInfos keys (lines_after lines edit) → first ≤ first_changed edit → AreSteady lines first
     → Begun lines edit first
 begun keys lines edit first where_is infos h steady =
     let after : List KeptLine = lines_after lines edit in

@@ -7,7 +7,7 @@ use crate::limits::MOST_LINES;
 
 /// A change of one line, or the opening of a source. Places count from 0.
 #[derive(Drop)]
-pub(crate) enum Edit {
+pub(crate) enum LineEdit {
     /// Puts the line before the line at the place.
     Insert(usize, BoxedLine),
     /// Puts the line in the place of the line there.
@@ -19,67 +19,67 @@ pub(crate) enum Edit {
 }
 
 /// The number of lines after the edit.
-pub(crate) fn count_after(count: usize, edit: &Edit) -> usize
+pub(crate) fn count_after(count: usize, edit: &LineEdit) -> usize
     requires { count ≤ MOST_LINES }
     ensures { result ≡ count_after count edit.now }
 {
     match edit {
-        Edit::Insert(_, _) => count + 1,
-        Edit::Delete(_) => count.saturating_sub(1),
-        Edit::Replace(_, _) => count,
-        Edit::Open(all) => all.len(),
+        LineEdit::Insert(_, _) => count + 1,
+        LineEdit::Delete(_) => count.saturating_sub(1),
+        LineEdit::Replace(_, _) => count,
+        LineEdit::Open(all) => all.len(),
     }
 }
 
 /// The place where the edit begins; the lines before it stay.
-pub(crate) fn first_changed(edit: &Edit) -> usize
+pub(crate) fn first_changed(edit: &LineEdit) -> usize
     ensures { result ≡ first_changed edit.now }
 {
     match edit {
-        Edit::Insert(at, _) | Edit::Replace(at, _) | Edit::Delete(at) => *at,
-        Edit::Open(_) => 0,
+        LineEdit::Insert(at, _) | LineEdit::Replace(at, _) | LineEdit::Delete(at) => *at,
+        LineEdit::Open(_) => 0,
     }
 }
 
 /// Makes the edit in a list with one item for each line, which has room for the edit. `new` is the
 /// item for each new line.
-pub(crate) fn edit_items<T: Copy>(items: &mut Vec<T>, edit: &Edit, new: T)
+pub(crate) fn edit_items<T: Copy>(items: &mut Vec<T>, edit: &LineEdit, new: T)
     requires within { IsPlaceWithin (vec_len items.old) edit.now }
     requires room { vec_len items.old + count_after (vec_len items.old) edit.now
         ≤ vec_capacity items.old }
     ensures { items.new.items ≡ items_after items.old.items edit.now new }
 {
     match edit {
-        Edit::Insert(at, _) => {
+        LineEdit::Insert(at, _) => {
             let _ = items.push(new);
             items[*at..].rotate_right(1);
         }
-        Edit::Replace(at, _) => items[*at] = new,
-        Edit::Delete(at) => {
+        LineEdit::Replace(at, _) => items[*at] = new,
+        LineEdit::Delete(at) => {
             let _ = items.remove(*at);
         }
-        Edit::Open(all) => {
+        LineEdit::Open(all) => {
             let _ = items.resize(all.len(), new);
         }
     }
 }
 
 /// Makes the edit in a list of lines, which has room for one more line.
-pub(crate) fn make_edit(lines: &mut Vec<BoxedLine>, edit: Edit)
+pub(crate) fn make_edit(lines: &mut Vec<BoxedLine>, edit: LineEdit)
     requires within { IsPlaceWithin (vec_len lines.old) edit }
     requires room { vec_len lines.old < vec_capacity lines.old }
     ensures { lines.new.items ≡ lines_after lines.old.items edit }
 {
     match edit {
-        Edit::Insert(at, added) => {
+        LineEdit::Insert(at, added) => {
             let _ = lines.push(added);
             lines[at..].rotate_right(1);
         }
-        Edit::Replace(at, added) => replace_line(lines, at, added),
-        Edit::Delete(at) => {
+        LineEdit::Replace(at, added) => replace_line(lines, at, added),
+        LineEdit::Delete(at) => {
             let _ = lines.remove(at);
         }
-        Edit::Open(all) => *lines = all,
+        LineEdit::Open(all) => *lines = all,
     }
 }
 

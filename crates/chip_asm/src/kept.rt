@@ -15,7 +15,7 @@ ghost use Rattle.chip_asm.specs.inner.Records.{IsPlaceWithin, count_after, items
 use crate::assemble::{encode_lines, steady_lines, walk};
 use crate::block::Block;
 use crate::codes::{copy_front, places_of, write_line};
-use crate::edit::{Edit, count_after, edit_items, first_changed, make_edit, replace_line};
+use crate::edit::{LineEdit, count_after, edit_items, first_changed, make_edit, replace_line};
 use crate::kept_line::BoxedLine;
 use crate::layout::{Layout, Tally, mark_unclosed};
 use crate::line_info::{LineInfo, Numbered};
@@ -89,7 +89,7 @@ impl Kept {
         &mut self,
         alloc: Global,
         meter: &mut Meter,
-        edit: Edit,
+        edit: LineEdit,
     ) -> Result<Option<Range<usize>>, AllocError>
         requires { MayEdit self.old edit }
         ensures ok { OnOk result (texts_kept self.new ≡ texts_after (texts_kept self.old) edit) }
@@ -103,11 +103,11 @@ impl Kept {
             (image_of (texts_kept self.new)))) }
     {
         let written = match edit {
-            Edit::Replace(at, added) => {
+            LineEdit::Replace(at, added) => {
                 if self.lines[at].info().is_alike(added.info()) {
                     self.rewrite(meter, at, added)
                 } else {
-                    self.remake(alloc, meter, Edit::Replace(at, added))?;
+                    self.remake(alloc, meter, LineEdit::Replace(at, added))?;
                     None
                 }
             }
@@ -211,7 +211,7 @@ impl Kept {
         &mut self,
         alloc: Global,
         meter: &mut Meter,
-        edit: Edit,
+        edit: LineEdit,
     ) -> Result<(), AllocError>
         requires { MayEdit self.old edit }
         ensures ok { OnOk result (texts_kept self.new ≡ texts_after (texts_kept self.old) edit) }
@@ -234,7 +234,7 @@ impl Kept {
     }
 
     /// Makes an edit in the lines and in what is kept of each line. There is room for it.
-    fn exchange(&mut self, edit: Edit)
+    fn exchange(&mut self, edit: LineEdit)
         requires within { IsPlaceWithin (vec_len self.old.lines) edit }
         requires placed_many { vec_len self.old.layout.placements ≡ vec_len self.old.lines }
         requires counted { IsCounted self.old.layout }
@@ -249,7 +249,7 @@ impl Kept {
         ensures blocks { self.new.blocks ≡ self.old.blocks }
         ensures settled { self.new.settled ≡ self.old.settled }
     {
-        if let Edit::Replace(at, _) | Edit::Delete(at) = &edit {
+        if let LineEdit::Replace(at, _) | LineEdit::Delete(at) = &edit {
             self.layout.faults -= self.layout.placements[*at].count();
         }
         edit_items(&mut self.layout.placements, &edit, Placement::NOTHING);

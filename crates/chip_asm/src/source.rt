@@ -12,7 +12,7 @@ ghost use Rattle.chip_asm.specs.Program.{AgreesOutside, symbols_of, fault_at, fa
 
 use crate::codes::bytes_at;
 use crate::cut::read_lines;
-use crate::edit::Edit;
+use crate::edit::LineEdit;
 use crate::kept::Kept;
 use crate::kept_line::read_kept;
 use crate::line_view::LineView;
@@ -116,7 +116,7 @@ impl Source {
         let mut names = Table::new(alloc, hasher);
         let lines = read_lines(alloc, &mut meter, &mut names, source)?;
         let mut kept = Kept::new(alloc, names);
-        kept.remake(alloc, &mut meter, Edit::Open(lines))?;
+        kept.remake(alloc, &mut meter, LineEdit::Open(lines))?;
         Ok(Source { kept, meter })
     }
 
@@ -264,7 +264,7 @@ impl Source {
         }
         let added = read_kept(alloc, &mut self.meter, &mut self.kept.names, text)?;
         self.kept
-            .edit(alloc, &mut self.meter, Edit::Insert(number - 1, added))?;
+            .edit(alloc, &mut self.meter, LineEdit::Insert(number - 1, added))?;
         Ok(())
     }
 
@@ -302,7 +302,7 @@ impl Source {
         let added = read_kept(alloc, &mut self.meter, &mut self.kept.names, text)?;
         Ok(
             self.kept
-                .edit(alloc, &mut self.meter, Edit::Replace(number - 1, added))?,
+                .edit(alloc, &mut self.meter, LineEdit::Replace(number - 1, added))?,
         )
     }
 
@@ -328,7 +328,7 @@ impl Source {
             return Err(refusal);
         }
         self.kept
-            .edit(alloc, &mut self.meter, Edit::Delete(number - 1))?;
+            .edit(alloc, &mut self.meter, LineEdit::Delete(number - 1))?;
         Ok(())
     }
 }

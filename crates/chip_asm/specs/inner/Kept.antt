@@ -3,7 +3,7 @@
 use Rattle.std.specs.Prelude.{◌≡◌, ℕ, ◌+◌, ◌<◌, ◌≤◌, false, List, length, map, Some, slice_get, slice_index, take, vec_len, vec_capacity}
 use Rattle.chip_asm.specs.declared.limits.TheConstants.{MOST_LINES}
 use Rattle.chip_lang.specs.Line.{Reading, reading_of}
-use Rattle.chip_asm.specs.declared.edit.Edit.{Edit}
+use Rattle.chip_asm.specs.declared.edit.LineEdit.{LineEdit}
 use Rattle.chip_asm.specs.declared.kept.Kept.{Kept}
 use Rattle.chip_symbols.specs.Names.{values_of}
 use Rattle.chip_asm.specs.Program.{names_of_lines}
@@ -36,12 +36,12 @@ texts_kept kept = texts_in kept.lines.items
 abbrev pub lines_kept : Kept → List Reading
 lines_kept kept = readings_in kept.lines.items
 
-abbrev pub lines_then : Kept → Edit → List Reading
+abbrev pub lines_then : Kept → LineEdit → List Reading
 lines_then kept edit = readings_in (lines_after kept.lines.items edit)
 
 -- the place of the edit is within these lines, the edit leaves no more lines than a source may
 -- have, and its new lines were read
-pub record MayEdit (old : Kept) (edit : Edit) : Type 0 where
+pub record MayEdit (old : Kept) (edit : LineEdit) : Type 0 where
   pub kept : IsKept old
   pub within : IsPlaceWithin (vec_len old.lines) edit
   pub few : count_after (vec_len old.lines) edit ≤ MOST_LINES
@@ -49,12 +49,12 @@ pub record MayEdit (old : Kept) (edit : Edit) : Type 0 where
   pub infos : AllAdded (λ line. IsInfo old.names.keys line.info line.several (reading_in line)) edit
 
 -- the number of lines that are encoded because of an edit
-abbrev pub needed_by : Kept → Edit → ℕ
+abbrev pub needed_by : Kept → LineEdit → ℕ
 needed_by kept edit =
     lines_to_encode (texts_kept kept) (texts_after (texts_kept kept) edit) (place_before edit)
 
 -- an edit, as the two passes see it
-abbrev pub change_of : Kept → Edit → Change
+abbrev pub change_of : Kept → LineEdit → Change
 change_of kept edit =
     record {
       was = lines_kept kept;

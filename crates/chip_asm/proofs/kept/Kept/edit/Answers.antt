@@ -2,7 +2,7 @@ use Rattle.std.proofs.Common.{◌≡◌, ◌∙◌, ◌+◌, ◌<◌, ◌≤◌,
 use Rattle.std.proofs.lemmas.List.{get_or-map}
 use Rattle.chip_asm.specs.Edits.{before_replace}
 use Rattle.chip_asm.specs.Work.{needs_count}
-use Rattle.chip_asm.specs.declared.edit.Edit.TheVariants.{Replace}
+use Rattle.chip_asm.specs.declared.edit.LineEdit.TheVariants.{Replace}
 use Rattle.chip_asm.specs.inner.Kept.{IsKept, MayEdit, needed_by, texts_kept}
 use Rattle.chip_asm.specs.inner.Records.{reading_in, readings_in, texts_after}
 use Rattle.chip_asm.proofs.QuietLines.{info-here}

@@ -1,7 +1,7 @@
 use Rattle.std.proofs.Common.{◌≡◌, arith, ap, length, map, subst, sym, []}
 use Rattle.chip_lang.specs.Line.{reading_of}
 use Rattle.chip_asm.specs.Work.{accepted_of, lines_to_encode}
-use Rattle.chip_asm.specs.declared.edit.Edit.TheVariants.{Open}
+use Rattle.chip_asm.specs.declared.edit.LineEdit.TheVariants.{Open}
 use Rattle.chip_asm.specs.inner.Infos.{AreInfos}
 use Rattle.chip_symbols.specs.Tables.{Tables}
 use Rattle.chip_asm.specs.inner.Records.{place_before, texts_in}
