@@ -21,7 +21,7 @@ pub use chip_arguments::{
 };
 pub use chip_host::{Host, System};
 pub use chip_session::{
-    Bench, Change, Command, CommandFault, Counted, Letters, OpenError, PictureForm, Question,
+    Bench, Command, CommandFault, Counted, Edit, Letters, OpenError, PictureForm, Question,
     Refusal, ServeError, SetError, Settings, StateQuestion, read_command, serve, tape_of,
 };
 pub use entry::{program, refuse_arguments};

@@ -5,7 +5,7 @@ use Rattle.std.specs.Result.{OnErr}
 use Rattle.std.specs.Str.Lines.{strip_carriage_return}
 use Rattle.std.proofs.lemmas.List.{append-nil, take_all, length-take}
 use Rattle.std.proofs.lemmas.Bool.{cases_lt, cond_below, cond_above, ne_eqb}
-use Rattle.chip_session.specs.Session.{Change, Session, delete_event, delete_line, insert_event, insert_line, memory_refusal, replace_event, replace_line}
+use Rattle.chip_session.specs.Session.{Edit, Session, delete_event, delete_line, insert_event, insert_line, memory_refusal, replace_event, replace_line}
 use Rattle.chip_session.specs.Refusals.{is_for_memory}
 use Rattle.chip_session.specs.declared.command.CommandFault.{CommandFault}
 use Rattle.chip_session.specs.declared.refusal.Refusal.{Refusal}
@@ -90,7 +90,7 @@ not_for_memory (inl p) h = p
 not_for_memory (inr q) h = absurd (h q.0)
 
 -- the refusals of edits that run out of memory say so, and no other refusals do
-pub for_memory : (c : Change) → is_for_memory (memory_refusal c) ≡ true
+pub for_memory : (c : Edit) → is_for_memory (memory_refusal c) ≡ true
 for_memory (insert_line number text) = refl
 for_memory (replace_line number text) = refl
 for_memory (delete_line number) = refl

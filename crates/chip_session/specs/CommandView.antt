@@ -1,14 +1,14 @@
 -- The commands of the code, as the bytes that they hold (chosen by this project).
 use Rattle.std.specs.Prelude.{◌≡◌, Result, Ok, Err}
-use Rattle.chip_session.specs.Changes.{change_of}
-use Rattle.chip_session.specs.Commands.{Command, blank, change, ask}
+use Rattle.chip_session.specs.Edits.{edit_of}
+use Rattle.chip_session.specs.Commands.{Command, blank, edit, ask}
 use Rattle.chip_session.specs.declared.command.CommandFault.{CommandFault}
 use Rattle.chip_session.specs.declared.command.Command.{Command as Parsed}
 use Rattle.chip_session.specs.declared.command.Command.TheVariants as parsed
 
 abbrev pub command_view : Parsed → Command
 command_view parsed.Blank = blank
-command_view (parsed.Change c) = change (change_of c)
+command_view (parsed.Edit c) = edit (edit_of c)
 command_view (parsed.Ask question) = ask question
 
 -- the code's reading of a line is the given one

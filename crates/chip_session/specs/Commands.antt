@@ -5,7 +5,7 @@ use Rattle.std.specs.Str.{bytes_eq}
 use Rattle.std.specs.Str.Parse.{digits_value}
 use Rattle.std.specs.List.{list_all, before_first, after_first}
 use Rattle.chip_session.specs.declared.limits.TheConstants.{COMMAND_BYTES}
-use Rattle.chip_session.specs.Session.{Text, Change, insert_line, replace_line, delete_line, insert_event, replace_event, delete_event}
+use Rattle.chip_session.specs.Session.{Text, Edit, insert_line, replace_line, delete_line, insert_event, replace_event, delete_event}
 use Rattle.chip_session.specs.declared.question.Question.{Question}
 use Rattle.chip_session.specs.declared.question.Question.TheVariants.{Image, Symbols, Listing, Faults, Registers, Memory, Screen, Disassembly}
 use Rattle.chip_session.specs.declared.command.CommandFault.{CommandFault}
@@ -13,7 +13,7 @@ use Rattle.chip_session.specs.declared.command.CommandFault.TheVariants.{Unknown
 
 pub data Command : Type 0 where
   blank : Command
-  change : Change → Command
+  edit : Edit → Command
   ask : Question → Command
 
 abbrev pub is_space : ℕ → Bool
@@ -113,16 +113,16 @@ CommandRow = Text × Syntax
 
 unfoldable pub line_edits : List CommandRow
 line_edits =
-    (codes "ins", line_text (λ n text. change (insert_line n text)))
-    ∷ (codes "rep", line_text (λ n text. change (replace_line n text)))
-    ∷ (codes "del", one (λ n. change (delete_line n)))
+    (codes "ins", line_text (λ n text. edit (insert_line n text)))
+    ∷ (codes "rep", line_text (λ n text. edit (replace_line n text)))
+    ∷ (codes "del", one (λ n. edit (delete_line n)))
     ∷ []
 
 unfoldable pub key_edits : List CommandRow
 key_edits =
-    (codes "kins", event (λ step key down. change (insert_event step key down)))
-    ∷ (codes "krep", event (λ step key down. change (replace_event step key down)))
-    ∷ (codes "kdel", two (λ step key. change (delete_event step key)))
+    (codes "kins", event (λ step key down. edit (insert_event step key down)))
+    ∷ (codes "krep", event (λ step key down. edit (replace_event step key down)))
+    ∷ (codes "kdel", two (λ step key. edit (delete_event step key)))
     ∷ []
 
 unfoldable pub source_questions : List CommandRow

@@ -5,7 +5,7 @@ use Rattle.chip_lang.specs.declared.meter.Meter.{Meter}
 use Rattle.chip_asm.specs.declared.refusal.Refusal.{Refusal as SourceRefusal}
 use Rattle.chip_asm.specs.Edits.{insert_refusal, replace_refusal, delete_refusal, before_insert, before_replace, before_delete}
 use Rattle.chip_asm.specs.Work.{lines_to_encode}
-use Rattle.chip_session.specs.Session.{Change, insert_line, replace_line, delete_line, insert_event, replace_event, delete_event}
+use Rattle.chip_session.specs.Session.{Edit, insert_line, replace_line, delete_line, insert_event, replace_event, delete_event}
 
 -- A refused edit of the lines costs nothing. Any other edit reads the given number of lines and
 -- encodes no more lines than have to be encoded, even if memory runs out. The count of lines
@@ -18,7 +18,7 @@ pub record LineCosts (refusal : Option SourceRefusal) (reads : ℕ → ℕ) (old
   pub not_lowered : before.encoded ≤ after.encoded
 
 -- the cost of an edit in a session with these lines; an edit of the key events costs nothing
-abbrev pub Costs : Change → List (List ℕ) → Meter → Meter → Type 0
+abbrev pub Costs : Edit → List (List ℕ) → Meter → Meter → Type 0
 Costs (insert_line number text) lines before after =
     LineCosts (insert_refusal (length lines) number text) one_more lines
     (insert lines (number - 1) text) (before_insert (number - 1)) before after

@@ -2,7 +2,7 @@
 use Rattle.std.specs.Prelude.{◌≡◌, ℕ, ◌+◌, List, [], ◌∷◌, Option, Some, None, Result, Ok, Err}
 use Rattle.chip_files.specs.KeyLines.{key_commands}
 use Rattle.chip_session.specs.Session.{Text, Session, edited}
-use Rattle.chip_session.specs.Commands.{Command, blank, change, ask, command_of}
+use Rattle.chip_session.specs.Commands.{Command, blank, edit, ask, command_of}
 use Rattle.chip_session.specs.Refusals.{refusal_code}
 use Rattle.chip_session.specs.Transcript.{fault_code, after, session_after}
 use Rattle.chip_session.specs.declared.command.CommandFault.{CommandFault}
@@ -11,15 +11,15 @@ use Rattle.chip_session.specs.declared.key_file.KeyFileError.{KeyFileError}
 use Rattle.chip_session.specs.declared.key_file.KeyFileError.TheVariants.{Line, OutOfMemory}
 
 -- the code of a refused edit
-abbrev pub change_refusal : Result Session Refusal → Option Text
-change_refusal (Ok next) = None
-change_refusal (Err why) = Some (refusal_code why)
+abbrev pub edit_refusal : Result Session Refusal → Option Text
+edit_refusal (Ok next) = None
+edit_refusal (Err why) = Some (refusal_code why)
 
 -- the code of a refused edit, or of a line that is not a command
 abbrev pub command_refusal : Session → Result Command CommandFault → Option Text
 command_refusal session (Err fault) = Some (fault_code fault)
 command_refusal session (Ok blank) = None
-command_refusal session (Ok (change c)) = change_refusal (edited session c)
+command_refusal session (Ok (edit c)) = edit_refusal (edited session c)
 command_refusal session (Ok (ask question)) = None
 
 unfoldable pub refusal_to : Session → Text → Option Text

@@ -6,7 +6,7 @@
 --     Session      a session: its lines, key events and settings; an edit of it, and the first
 --                  refusal that applies
 --     Refusals     the codes of refusals
---     Changes      the changes of the code, as the bytes that they hold
+--     Edits        the edits of the code, as the bytes that they contain
 --     Text, MachineAnswers, Answers      the answer to each question
 --     Pictures     the picture of the screen at a step
 --     IsAnswer     when a result is the answer, or the reason why there is none
@@ -28,7 +28,7 @@ pub mod Lines
 pub mod Settings
 pub mod Refusals
 pub mod Session
-pub mod Changes
+pub mod Edits
 pub mod Answers
 pub mod Costs
 pub mod Commands

@@ -30,13 +30,13 @@ abbrev pub session_of : SessionSettings → List ℕ → Session
 session_of settings bytes = record { lines = lines_of bytes; keys = map.empty; settings = settings }
 
 -- a change of one line, by the line's number from 1, or of one key event, by its step and key
-pub data Change : Type 0 where
-  insert_line : ℕ → Text → Change
-  replace_line : ℕ → Text → Change
-  delete_line : ℕ → Change
-  insert_event : (step key : ℕ) → Bool → Change
-  replace_event : (step key : ℕ) → Bool → Change
-  delete_event : (step key : ℕ) → Change
+pub data Edit : Type 0 where
+  insert_line : ℕ → Text → Edit
+  replace_line : ℕ → Text → Edit
+  delete_line : ℕ → Edit
+  insert_event : (step key : ℕ) → Bool → Edit
+  replace_event : (step key : ℕ) → Bool → Edit
+  delete_event : (step key : ℕ) → Edit
 
 -- the session with these lines, if the edit isn't refused
 abbrev pub with_lines : Session → Option SourceRefusal → List Text → Result Session Refusal
@@ -53,7 +53,7 @@ abbrev pub moment : ℕ → ℕ → Moment
 moment step key = record { key = key; step = step }
 
 -- the session after a change, or the first refusal that applies
-abbrev pub edited : Session → Change → Result Session Refusal
+abbrev pub edited : Session → Edit → Result Session Refusal
 edited session (insert_line number text) =
     with_lines session (insert_refusal (length session.lines) number text)
     (insert session.lines (number - 1) text)
@@ -74,20 +74,20 @@ edited session (delete_event step key) =
     (map.remove session.keys (moment step key))
 
 -- an edit may need memory unless it replaces or deletes an event
-abbrev pub TakesMemory : Change → Type 0
+abbrev pub TakesMemory : Edit → Type 0
 TakesMemory (replace_event step key down) = ⊥
 TakesMemory (delete_event step key) = ⊥
-TakesMemory change = Unit {0}
+TakesMemory edit = Unit {0}
 
 -- the refusal of an edit that runs out of memory
-abbrev pub memory_refusal : Change → Refusal
+abbrev pub memory_refusal : Edit → Refusal
 memory_refusal (insert_event step key down) = Keys no_event_memory
 memory_refusal (replace_event step key down) = Keys no_event_memory
 memory_refusal (delete_event step key) = Keys no_event_memory
-memory_refusal change = Source no_line_memory
+memory_refusal edit = Source no_line_memory
 
 -- why an edit is refused: the first refusal that applies, or a lack of memory if none does
-abbrev pub IsRefused : Session → Change → Refusal → Type 0
-IsRefused session change e =
-    (edited session change ≡ Err e)
-    ⊎ ((e ≡ memory_refusal change) × TakesMemory change × IsOk (edited session change))
+abbrev pub IsRefused : Session → Edit → Refusal → Type 0
+IsRefused session edit e =
+    (edited session edit ≡ Err e)
+    ⊎ ((e ≡ memory_refusal edit) × TakesMemory edit × IsOk (edited session edit))

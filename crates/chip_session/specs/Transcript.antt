@@ -2,7 +2,7 @@
 use Rattle.std.specs.Prelude.{◌≡◌, ◌⊎◌, ℕ, List, [], ◌∷◌, ◌++◌, Option, Some, None, Result, Ok, Err, codes}
 use Rattle.chip_session.specs.Session.{Text, Session, edited}
 use Rattle.chip_session.specs.Answers.{answer_to}
-use Rattle.chip_session.specs.Commands.{Command, blank, change, ask, command_of}
+use Rattle.chip_session.specs.Commands.{Command, blank, edit, ask, command_of}
 use Rattle.chip_session.specs.declared.refusal.Refusal.{Refusal}
 use Rattle.chip_session.specs.Refusals.{refusal_code}
 use Rattle.chip_session.specs.declared.command.CommandFault.{CommandFault}
@@ -22,9 +22,9 @@ abbrev pub refused_code : Refused → Text
 refused_code (why.Line fault) = fault_code fault
 refused_code (why.Command refusal) = refusal_code refusal
 
-abbrev pub change_reply : Result Session Refusal → List ℕ
-change_reply (Ok next) = codes "ok" ++ 10 ∷ []
-change_reply (Err why) = refused (refusal_code why)
+abbrev pub edit_reply : Result Session Refusal → List ℕ
+edit_reply (Ok next) = codes "ok" ++ 10 ∷ []
+edit_reply (Err why) = refused (refusal_code why)
 
 abbrev pub ask_reply : Result (List ℕ) Refusal → List ℕ
 ask_reply (Ok bytes) = bytes
@@ -34,18 +34,18 @@ ask_reply (Err why) = refused (refusal_code why)
 abbrev pub command_reply : Session → Result Command CommandFault → List ℕ
 command_reply session (Err fault) = refused (fault_code fault)
 command_reply session (Ok blank) = []
-command_reply session (Ok (change c)) = change_reply (edited session c)
+command_reply session (Ok (edit c)) = edit_reply (edited session c)
 command_reply session (Ok (ask question)) = ask_reply (answer_to session question)
 
-abbrev pub change_after : Session → Result Session Refusal → Session
-change_after session (Ok next) = next
-change_after session (Err why) = session
+abbrev pub edit_after : Session → Result Session Refusal → Session
+edit_after session (Ok next) = next
+edit_after session (Err why) = session
 
 -- the session after a command; a refused command leaves the session as it was
 abbrev pub command_after : Session → Result Command CommandFault → Session
 command_after session (Err fault) = session
 command_after session (Ok blank) = session
-command_after session (Ok (change c)) = change_after session (edited session c)
+command_after session (Ok (edit c)) = edit_after session (edited session c)
 command_after session (Ok (ask question)) = session
 
 -- why an edit or a question is refused, if it is
@@ -57,7 +57,7 @@ refusal_of (Err refusal) = Some (why.Command refusal)
 abbrev pub command_refusal : Session → Result Command CommandFault → Option Refused
 command_refusal session (Err fault) = Some (why.Line fault)
 command_refusal session (Ok blank) = None
-command_refusal session (Ok (change c)) = refusal_of (edited session c)
+command_refusal session (Ok (edit c)) = refusal_of (edited session c)
 command_refusal session (Ok (ask question)) = refusal_of (answer_to session question)
 
 unfoldable pub reply : Session → Text → List ℕ

@@ -3,7 +3,7 @@ use Rattle.std.specs.Prelude.{ℕ, List}
 use Rattle.chip_lang.specs.declared.meter.Meter.{Meter}
 use Rattle.chip_asm.specs.Sources.{SourceValue}
 use Rattle.chip_asm.specs.Program.{image_of}
-use Rattle.chip_session.specs.Session.{Session, Change, insert_line, replace_line, delete_line, insert_event, replace_event, delete_event}
+use Rattle.chip_session.specs.Session.{Session, Edit, insert_line, replace_line, delete_line, insert_event, replace_event, delete_event}
 use Rattle.chip_session.specs.Kept.{KeptRun, session_on, FollowsImage, FollowsEvent}
 
 -- the session; the work done on the source; the last image that the lines had, or the empty one;
@@ -42,7 +42,7 @@ abbrev pub FollowsLines : Workbench → Workbench → Type 0
 FollowsLines old new = FollowsImage (image_of new.session.lines) (run_of old) (run_of new)
 
 -- how much of the run an edit keeps
-abbrev pub Follows : Change → Workbench → Workbench → Type 0
+abbrev pub Follows : Edit → Workbench → Workbench → Type 0
 Follows (insert_line number text) old new = FollowsLines old new
 Follows (replace_line number text) old new = FollowsLines old new
 Follows (delete_line number) old new = FollowsLines old new

@@ -11,13 +11,13 @@ ghost use Rattle.chip_asm.specs.Lines.{open_fault};
 ghost use Rattle.chip_asm.specs.Program.{image_of};
 ghost use Rattle.chip_asm.specs.Work.{accepted_of};
 ghost use Rattle.chip_session.specs.Session.{session_of, edited, IsRefused};
-ghost use Rattle.chip_session.specs.Changes.{change_of};
+ghost use Rattle.chip_session.specs.Edits.{edit_of};
 ghost use Rattle.chip_session.specs.Costs.{Costs};
 ghost use Rattle.chip_session.specs.Workbench.{run_of, Follows};
 ghost use Rattle.chip_session.specs.Kept.{ReachesStep, Reuses, StaysIfRefused};
 
 use crate::ask::answer;
-use crate::change::Change;
+use crate::edit::Edit;
 use crate::image_run::ImageRun;
 use crate::picture::{PictureForm, picture_at};
 use crate::question::Question;
@@ -97,40 +97,40 @@ impl Bench {
         })
     }
 
-    /// Makes a change of one line or of one key event.
+    /// Edits one line or one key event.
     ///
     /// # Errors
     ///
     /// The first refusal that applies, or a lack of memory. The session is then as it was.
-    pub fn apply(&mut self, alloc: Global, change: &Change<'_>) -> Result<(), Refusal>
-        ensures ok { OnOk result (edited self.old.session (change_of change.now)
+    pub fn apply(&mut self, alloc: Global, edit: &Edit<'_>) -> Result<(), Refusal>
+        ensures ok { OnOk result (edited self.old.session (edit_of edit.now)
             ≡ Ok self.new.session) }
-        ensures err { IfErr result (IsRefused self.old.session (change_of change.now)) }
+        ensures err { IfErr result (IsRefused self.old.session (edit_of edit.now)) }
         ensures same { OnErr result (self.new.session ≡ self.old.session) }
-        ensures follows { OnOk result (Follows (change_of change.now) self.old self.new) }
+        ensures follows { OnOk result (Follows (edit_of edit.now) self.old self.new) }
         ensures last_image { OnErr result (self.new.last_image ≡ self.old.last_image) }
         ensures reach { OnErr result (self.new.reach ≡ self.old.reach) }
-        ensures costs { Costs (change_of change.now) self.old.session.lines
+        ensures costs { Costs (edit_of edit.now) self.old.session.lines
             self.old.work self.new.work }
         ensures ran { self.new.ran ≡ self.old.ran }
     {
-        let written = match *change {
-            Change::Insert { line, text } => {
+        let written = match *edit {
+            Edit::Insert { line, text } => {
                 self.source.insert(alloc, line as usize, text)?;
                 None
             }
-            Change::Replace { line, text } => self.source.replace(alloc, line as usize, text)?,
-            Change::Delete { line } => {
+            Edit::Replace { line, text } => self.source.replace(alloc, line as usize, text)?,
+            Edit::Delete { line } => {
                 self.source.delete(alloc, line as usize)?;
                 None
             }
-            Change::InsertKey { step, key, down } => {
+            Edit::InsertKey { step, key, down } => {
                 return Ok(self.run.insert_key(step, key, down)?);
             }
-            Change::ReplaceKey { step, key, down } => {
+            Edit::ReplaceKey { step, key, down } => {
                 return Ok(self.run.replace_key(step, key, down)?);
             }
-            Change::DeleteKey { step, key } => return Ok(self.run.delete_key(step, key)?),
+            Edit::DeleteKey { step, key } => return Ok(self.run.delete_key(step, key)?),
         };
         self.run.follow(written, self.source.image());
         Ok(())

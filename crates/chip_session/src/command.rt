@@ -7,7 +7,7 @@ ghost use Rattle.chip_session.specs.Commands.{command_of, is_space, skip_spaces,
 ghost use Rattle.chip_session.specs.CommandView.{Reads};
 ghost use Rattle.chip_session.specs.Transcript.{fault_code};
 
-use crate::change::Change;
+use crate::edit::Edit;
 use crate::limits::COMMAND_BYTES;
 use crate::question::Question;
 
@@ -16,7 +16,7 @@ use crate::question::Question;
 pub enum Command<'a> {
     /// A line that is empty or has only spaces.
     Blank,
-    Change(Change<'a>),
+    Edit(Edit<'a>),
     Ask(Question),
 }
 
@@ -66,7 +66,7 @@ fn command_named<'a>(word: &[u8], operands: &'a [u8]) -> Result<Command<'a>, Com
 {
     if word == b"ins".as_slice() {
         return match front_number(operands) {
-            Some(line) => Ok(Command::Change(Change::Insert {
+            Some(line) => Ok(Command::Edit(Edit::Insert {
                 line,
                 text: after_word(operands),
             })),
@@ -75,7 +75,7 @@ fn command_named<'a>(word: &[u8], operands: &'a [u8]) -> Result<Command<'a>, Com
     }
     if word == b"rep".as_slice() {
         return match front_number(operands) {
-            Some(line) => Ok(Command::Change(Change::Replace {
+            Some(line) => Ok(Command::Edit(Edit::Replace {
                 line,
                 text: after_word(operands),
             })),
@@ -84,7 +84,7 @@ fn command_named<'a>(word: &[u8], operands: &'a [u8]) -> Result<Command<'a>, Com
     }
     if word == b"del".as_slice() {
         return match one_number(operands) {
-            Some(line) => Ok(Command::Change(Change::Delete { line })),
+            Some(line) => Ok(Command::Edit(Edit::Delete { line })),
             None => Err(CommandFault::Unknown),
         };
     }
@@ -99,13 +99,13 @@ fn key_edit<'a>(word: &[u8], operands: &'a [u8]) -> Result<Command<'a>, CommandF
 {
     if word == b"kins".as_slice() {
         return match key_event(operands) {
-            Some((step, (key, down))) => Ok(Command::Change(Change::InsertKey { step, key, down })),
+            Some((step, (key, down))) => Ok(Command::Edit(Edit::InsertKey { step, key, down })),
             None => Err(CommandFault::Unknown),
         };
     }
     if word == b"krep".as_slice() {
         return match key_event(operands) {
-            Some((step, (key, down))) => Ok(Command::Change(Change::ReplaceKey {
+            Some((step, (key, down))) => Ok(Command::Edit(Edit::ReplaceKey {
                 step,
                 key,
                 down,
@@ -115,7 +115,7 @@ fn key_edit<'a>(word: &[u8], operands: &'a [u8]) -> Result<Command<'a>, CommandF
     }
     if word == b"kdel".as_slice() {
         return match two_numbers(operands) {
-            Some((step, key)) => Ok(Command::Change(Change::DeleteKey { step, key })),
+            Some((step, key)) => Ok(Command::Edit(Edit::DeleteKey { step, key })),
             None => Err(CommandFault::Unknown),
         };
     }

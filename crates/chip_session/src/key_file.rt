@@ -65,12 +65,12 @@ fn insert_key(
         ≡ after bench.old.session (key_command line.now)) }
 {
     let command = key_command(alloc, line)?;
-    make_change(alloc, bench, &command)
+    make_edit(alloc, bench, &command)
 }
 
 // Carries out a line of a script that asks no question, or returns the code of its refusal.
 #[tactic(auto, unfolding(crate::specs::KeyFile::refusal_to, crate::specs::Transcript::after))]
-fn make_change(
+fn make_edit(
     alloc: Global,
     bench: &mut Bench,
     line: &[u8],
@@ -79,12 +79,12 @@ fn make_change(
         ≡ refusal_to bench.old.session line.now) }
     ensures session { OnOk result (bench.new.session ≡ after bench.old.session line.now) }
 {
-    let change = match read_command(line) {
-        Ok(Command::Change(change)) => change,
+    let edit = match read_command(line) {
+        Ok(Command::Edit(edit)) => edit,
         Ok(Command::Blank | Command::Ask(_)) => return Ok(None),
         Err(fault) => return Ok(Some(fault.code())),
     };
-    match bench.apply(alloc, &change) {
+    match bench.apply(alloc, &edit) {
         Ok(()) => Ok(None),
         Err(refusal) if refusal.is_for_memory() => Err(AllocError),
         Err(refusal) => Ok(Some(refusal.code())),

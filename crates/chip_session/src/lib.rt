@@ -4,7 +4,7 @@
 mod answer;
 mod ask;
 mod bench;
-mod change;
+mod edit;
 mod command;
 mod counted;
 mod image_run;
@@ -23,7 +23,7 @@ mod text;
 
 pub use answer::{faults_answer, listing_answer, symbols_answer};
 pub use bench::Bench;
-pub use change::Change;
+pub use edit::Edit;
 pub use chip_asm::OpenError;
 pub use chip_views::Letters;
 pub use command::{Command, CommandFault, number_of, read_command};

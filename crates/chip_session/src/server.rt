@@ -503,7 +503,7 @@ pub fn respond(
     };
     let refusal = match command {
         Command::Blank => return Ok(None),
-        Command::Change(change) => match bench.apply(alloc, &change) {
+        Command::Edit(edit) => match bench.apply(alloc, &edit) {
             Ok(()) => {
                 answer.extend_from_slice(b"ok\n")?;
                 return Ok(None);

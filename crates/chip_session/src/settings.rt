@@ -1,5 +1,6 @@
 //! The settings of a session.
 ghost use Rattle.std.specs.Prelude.{◌≡◌, ◌<◌, ◌≤◌, length, ◌⊎◌, None, Some, IfOk, IfErr, MatchOption};
+ghost use Rattle.chip_machine.specs.Profile as machine;
 ghost use Rattle.chip_replay.specs.Limits.{IsSpacing};
 ghost use Rattle.chip_session.specs.Settings.{settings_of, settings_fault, spacing_fault};
 ghost use Rattle.chip_session.specs.declared.settings.SetError.TheVariants.{OutOfMemory};
@@ -89,6 +90,13 @@ impl Settings {
             spacing: LEAST_SPACING,
             names: NameHasher::new(0),
         })
+    }
+
+    /// Returns these settings with the quirks of a profile.
+    pub fn with_profile(self, profile: Profile) -> Settings
+        ensures { result ≡ record self { quirks = machine.quirks profile } }
+    {
+        self.with_quirks(profile.quirks())
     }
 
     /// Returns these settings with the given quirks.

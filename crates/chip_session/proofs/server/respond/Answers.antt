@@ -1,16 +1,16 @@
 use Rattle.std.proofs.Common.{◌∙◌, refl, sym, ap, inl, inr, ◌++◌, ◌∷◌, [], Some, Ok, Err}
 use Rattle.std.proofs.lemmas.Result.{IfOk-weaker, on_ok_weaker}
-use Rattle.chip_session.specs.Commands.{blank, change, ask}
+use Rattle.chip_session.specs.Commands.{blank, edit, ask}
 use Rattle.chip_session.specs.Refusals.{refusal_code}
-use Rattle.chip_session.specs.Transcript.{refused, fault_code, change_reply, change_after, ask_reply, refusal_of}
+use Rattle.chip_session.specs.Transcript.{refused, fault_code, edit_reply, edit_after, ask_reply, refusal_of}
 use Rattle.chip_session.specs.Answers.{answer_to}
 use Rattle.chip_session.specs.Workbench.{Workbench}
-use Rattle.chip_session.specs.Changes.{change_of}
+use Rattle.chip_session.specs.Edits.{edit_of}
 use Rattle.chip_session.specs.CommandView.{command_view}
 use Rattle.chip_session.specs.declared.refusal.Refused.TheVariants as why
 use Rattle.chip_session.proofs.ScriptLemmas.{ask_not_refused, ask_told, reply_is, after_is, refusal_is, no_memory, not_for_memory, for_memory, not_memory, on_err}
 use Rattle.chip_session.proofs.server.respond.Goals as goal
-use Rattle.chip_session.proofs.server.respond.Goals.{in-Change+in-Err-apply, in-Ask+in-Err-ask}
+use Rattle.chip_session.proofs.server.respond.Goals.{in-Edit+in-Err-apply, in-Ask+in-Err-ask}
 
 pub returns-in-Err-clause-answer : goal.returns-in-Err-clause-answer
 returns-in-Err-clause-answer c = on_ok_weaker c.refuse_for.result (λ h. h ∙ ap (λ l. l ++ refused (fault_code c.in-Err.fault)) c.clear.ensures.items
@@ -33,25 +33,25 @@ returns-in-Blank-clause-refused c = sym (refusal_is c.args.bench.now.session c.a
 
 pub returns-in-Ok-apply-clause-answer : goal.returns-in-Ok-apply-clause-answer
 returns-in-Ok-apply-clause-answer c =
-    let read = c.in-Ok.ensures ∙ ap (λ x. Ok (command_view x)) c.in-Change.is in
+    let read = c.in-Ok.ensures ∙ ap (λ x. Ok (command_view x)) c.in-Edit.is in
     c.in_ok-extend_from_slice-in-Ok-apply.ensures.items ∙ ap (λ l. l ++ 111 ∷ 107 ∷ 10 ∷ []) c.clear.ensures.items
-    ∙ sym (reply_is c.args.bench.now.session c.args.line.now (Ok (change (change_of c.in-Change.change))) read ∙ ap change_reply c.in-Ok-apply.ensures.ok)
+    ∙ sym (reply_is c.args.bench.now.session c.args.line.now (Ok (edit (edit_of c.in-Edit.edit))) read ∙ ap edit_reply c.in-Ok-apply.ensures.ok)
 
 pub returns-in-Ok-apply-clause-bench : goal.returns-in-Ok-apply-clause-bench
 returns-in-Ok-apply-clause-bench c =
-    let read = c.in-Ok.ensures ∙ ap (λ x. Ok (command_view x)) c.in-Change.is in
-    sym (after_is c.args.bench.now.session c.args.line.now (Ok (change (change_of c.in-Change.change))) read ∙ ap (change_after c.args.bench.now.session) c.in-Ok-apply.ensures.ok)
+    let read = c.in-Ok.ensures ∙ ap (λ x. Ok (command_view x)) c.in-Edit.is in
+    sym (after_is c.args.bench.now.session c.args.line.now (Ok (edit (edit_of c.in-Edit.edit))) read ∙ ap (edit_after c.args.bench.now.session) c.in-Ok-apply.ensures.ok)
 
 pub returns-in-Ok-apply-clause-refused : goal.returns-in-Ok-apply-clause-refused
 returns-in-Ok-apply-clause-refused c =
-    let read = c.in-Ok.ensures ∙ ap (λ x. Ok (command_view x)) c.in-Change.is in
-    sym (refusal_is c.args.bench.now.session c.args.line.now (Ok (change (change_of c.in-Change.change))) read ∙ ap refusal_of c.in-Ok-apply.ensures.ok)
+    let read = c.in-Ok.ensures ∙ ap (λ x. Ok (command_view x)) c.in-Edit.is in
+    sym (refusal_is c.args.bench.now.session c.args.line.now (Ok (edit (edit_of c.in-Edit.edit))) read ∙ ap refusal_of c.in-Ok-apply.ensures.ok)
 
 pub returns-in_err-extend_from_slice-in-Ok-apply-clause-memory : goal.returns-in_err-extend_from_slice-in-Ok-apply-clause-memory
 returns-in_err-extend_from_slice-in-Ok-apply-clause-memory c =
-    let read = c.in-Ok.ensures ∙ ap (λ x. Ok (command_view x)) c.in-Change.is in
+    let read = c.in-Ok.ensures ∙ ap (λ x. Ok (command_view x)) c.in-Edit.is in
     on_err c.from_residual.result
-    (inr (sym (after_is c.args.bench.now.session c.args.line.now (Ok (change (change_of c.in-Change.change))) read ∙ ap (change_after c.args.bench.now.session) c.in-Ok-apply.ensures.ok)))
+    (inr (sym (after_is c.args.bench.now.session c.args.line.now (Ok (edit (edit_of c.in-Edit.edit))) read ∙ ap (edit_after c.args.bench.now.session) c.in-Ok-apply.ensures.ok)))
 
 pub returns-in-Ok-ask-clause-answer : goal.returns-in-Ok-ask-clause-answer
 returns-in-Ok-ask-clause-answer c =
@@ -69,20 +69,20 @@ returns-in-Ok-ask-clause-refused c =
 
 pub returns : goal.returns
 returns c = elim c.match-command.branch [
-  | in-Change+in-Err-apply w ↦
-      (let read = c.in-Ok.ensures ∙ ap (λ x. Ok (command_view x)) w.in-Change.is in
-      let none = not_for_memory w.in-Err-apply.ensures.err (λ e. not_memory _ _ (for_memory (change_of w.in-Change.change)) (sym c.is_for_memory.ensures ∙ c.if-is_for_memory.false) (w.refusal-is ∙ e)) in
+  | in-Edit+in-Err-apply w ↦
+      (let read = c.in-Ok.ensures ∙ ap (λ x. Ok (command_view x)) w.in-Edit.is in
+      let none = not_for_memory w.in-Err-apply.ensures.err (λ e. not_memory _ _ (for_memory (edit_of w.in-Edit.edit)) (sym c.is_for_memory.ensures ∙ c.if-is_for_memory.false) (w.refusal-is ∙ e)) in
       record {
         answer = on_ok_weaker c.refuse_for-2.result (λ h. h
             ∙ ap (λ l. l ++ refused (refusal_code c.match-command.refusal)) (ap (λ v. v.items) w.answer-is ∙ c.clear.ensures.items)
             ∙ ap (λ r. refused (refusal_code r)) w.refusal-is
-            ∙ sym (reply_is c.args.bench.now.session c.args.line.now (Ok (change (change_of w.in-Change.change))) read ∙ ap change_reply none)) c.refuse_for-2.ensures.answer;
+            ∙ sym (reply_is c.args.bench.now.session c.args.line.now (Ok (edit (edit_of w.in-Edit.edit))) read ∙ ap edit_reply none)) c.refuse_for-2.ensures.answer;
         bench = on_ok_weaker c.refuse_for-2.result (λ h. ap (λ (b : Workbench). b.session) w.bench-is ∙ w.in-Err-apply.ensures.same
-            ∙ sym (after_is c.args.bench.now.session c.args.line.now (Ok (change (change_of w.in-Change.change))) read ∙ ap (change_after c.args.bench.now.session) none)) c.refuse_for-2.ensures.answer;
+            ∙ sym (after_is c.args.bench.now.session c.args.line.now (Ok (edit (edit_of w.in-Edit.edit))) read ∙ ap (edit_after c.args.bench.now.session) none)) c.refuse_for-2.ensures.answer;
         memory = on_err c.refuse_for-2.result (inl (ap (λ (b : Workbench). b.session) w.bench-is ∙ w.in-Err-apply.ensures.same));
         refused = IfOk-weaker c.refuse_for-2.result _ _ (λ given h. h
             ∙ ap (λ r. Some (why.Command r)) w.refusal-is
-            ∙ sym (refusal_is c.args.bench.now.session c.args.line.now (Ok (change (change_of w.in-Change.change))) read ∙ ap refusal_of none)) c.refuse_for-2.ensures.why;
+            ∙ sym (refusal_is c.args.bench.now.session c.args.line.now (Ok (edit (edit_of w.in-Edit.edit))) read ∙ ap refusal_of none)) c.refuse_for-2.ensures.why;
       })
   | in-Ask+in-Err-ask w ↦
       (let read = c.in-Ok.ensures ∙ ap (λ x. Ok (command_view x)) w.in-Ask.is in

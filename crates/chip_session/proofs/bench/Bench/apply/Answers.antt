@@ -8,10 +8,10 @@ use Rattle.chip_session.proofs.bench.Bench.apply.Goals.{in-Insert+in_ok-insert-i
 
 pub follow-requires-clause-alike : goal.follow-requires-clause-alike
 follow-requires-clause-alike c =
-    let told : IfSome c.match-change.written (λ places. IfSome (image_of c.match-change.self-inside.source.lines) (AgreeOutside places.start places.end c.match-change.self-inside.run.last_image))
-    = elim c.match-change.branch [
+    let told : IfSome c.match-edit.written (λ places. IfSome (image_of c.match-edit.self-inside.source.lines) (AgreeOutside places.start places.end c.match-edit.self-inside.run.last_image))
+    = elim c.match-edit.branch [
       | in-Insert+in_ok-insert-in-Insert w ↦ rw w.written-is tt
       | in-Replace+in_ok-written-in-Replace w ↦ rw (w.written-is, w.self-inside-is) (outside_written (image_of c.self.inside.source.lines) _ _ _ c.self.invariant w.in_ok-written-in-Replace.ensures.written)
       | in-Delete+in_ok-delete-in-Delete w ↦ rw w.written-is tt
     ] in
-    subst (λ (after : Option (List ℕ)). IfSome c.match-change.written (λ places. IfSome after (AgreeOutside places.start places.end c.match-change.self-inside.run.last_image))) (sym c.image.ensures.value) told
+    subst (λ (after : Option (List ℕ)). IfSome c.match-edit.written (λ places. IfSome after (AgreeOutside places.start places.end c.match-edit.self-inside.run.last_image))) (sym c.image.ensures.value) told

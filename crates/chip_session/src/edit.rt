@@ -1,8 +1,8 @@
-//! The changes of a session.
+//! The edits of a session.
 
-/// A change of one line, by the line's number from 1, or of one key event, by its step and key.
+/// An edit of one line, given by its number from 1, or of one key event, given by its step and key.
 #[derive(Clone, Copy)]
-pub enum Change<'a> {
+pub enum Edit<'a> {
     /// Inserts the text before that line, or after the last line.
     Insert { line: u32, text: &'a [u8] },
     /// Replaces that line by the text.
