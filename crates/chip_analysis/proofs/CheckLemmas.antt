@@ -1,8 +1,8 @@
 -- What `check` did with sources, one after another.
-use Rattle.std.proofs.Common.{◌≡◌, ◌⊎◌, inl, inr, ℕ, suc, ◌+◌, ◌<◌, ◌≤◌, Bool, List, ◌∷◌, drop, length, get_or, Option, Some, None, Result, Ok, Err, IfErr, IfOk, refl, sym, ◌∙◌, ap, subst, add-one, drop-cons}
+use Rattle.std.proofs.Common.{◌≡◌, ◌⊎◌, inl, inr, ℕ, suc, ◌+◌, ◌<◌, ◌≤◌, Bool, true, false, List, [], ◌∷◌, drop, length, get_or, Option, Some, None, Result, Ok, Err, IfErr, IfOk, refl, sym, ◌∙◌, ap, subst, add-one, drop-cons}
 use Rattle.std.proofs.lemmas.List.{drop_all}
 use Rattle.std.specs.Borrow.{Bor}
-use Rattle.std.specs.Prelude.{IsErr, option_copied}
+use Rattle.std.specs.Prelude.{All, IfSome, IsErr, IsSome, MatchOption, option_copied, option_map}
 use Rattle.chip_asm.specs.Lines.{lines_of, open_fault}
 use Rattle.chip_asm.specs.Program.{image_of}
 use Rattle.chip_asm.specs.declared.refusal.OpenError.{OpenError}
@@ -11,11 +11,23 @@ use Rattle.chip_session.specs.Settings.{SessionSettings}
 use Rattle.chip_session.specs.Tally.{Tally}
 use Rattle.chip_arguments.specs.declared.command_line.CheckArguments.{CheckArguments}
 use Rattle.chip_analysis.specs.Exploring.{AsksSet, warning_named}
-use Rattle.chip_analysis.specs.Commands.{Checks, ChecksEach, ChecksOne, IfSet, IsBadSet}
+use Rattle.chip_analysis.specs.Commands.{Checks, ChecksEach, ChecksOne, IfSet, IsBadSet, checking_asked}
 use Rattle.chip_host.specs.Reading.{GivesSource, IfSettled, IsSourceUnread}
 use Rattle.chip_host.specs.SettingArguments.{settings_asked}
 use Rattle.chip_host.specs.Endings.{Outcome}
-use Rattle.chip_analysis.specs.Checking.{paints, with_ending, worse, IsCheckText, IsPrintedCheckOf, unopened_check}
+use Rattle.chip_analysis.specs.Checking.{Checking, with_ending, worse, AreWarned, IsCheckText, IsCoveredBy, IsPrintedCheckOf, IsWarned, unopened_check}
+use Rattle.chip_analysis.specs.declared.covering.Covered.{Covered}
+use Rattle.chip_analysis.specs.inner.Covering.{IsCovered, IsCoverageOf}
+use Rattle.chip_facts.specs.Facts.{AreFacts}
+use Rattle.chip_facts.specs.Rows.{HoldFacts}
+use Rattle.chip_facts.specs.declared.facts.Facts.{Facts}
+use Rattle.chip_facts.specs.declared.table.Left.{Left}
+use Rattle.chip_machine.specs.declared.quirks.Quirks.{Quirks}
+use Rattle.chip_warnings.specs.Warned.{kinds_told, warned}
+use Rattle.chip_warnings.specs.Warnings.{StandsIn}
+use Rattle.chip_warnings.specs.declared.asked.Asked.{Asked}
+use Rattle.chip_warnings.specs.declared.coverage.Coverage.{Coverage}
+use Rattle.chip_warnings.specs.declared.warning.Warning.{Warning}
 use Rattle.chip_host.specs.Printing.{Printed, Prints, PrintsSuch, ending_with, printed, printed_by}
 use Rattle.chip_host.specs.declared.printing.Answer.{Answer}
 use Rattle.chip_host.specs.declared.ending.Ending.{Ending}
@@ -41,46 +53,85 @@ one_after_another Faulty second (Err why) = refl
 one_after_another Short second (Ok later) = refl
 one_after_another Short second (Err why) = refl
 
-module _ (is_json is_painted : Bool) (name bytes : List ℕ) where
+-- coverage in the form that the warnings take
+covers : (is_covering : Bool) (settings : SessionSettings) (image : List ℕ) (covered : Option Covered) (coverage : Option Coverage) →
+    IsCoverageOf covered coverage → IsCovered is_covering settings (Some image) covered → IsCoveredBy is_covering settings image coverage
+covers true settings image (Some covered) (Some coverage) same is =
+    rw (same.0, same.1) is
+covers false settings image None coverage same is = same
+
+-- facts say at which addresses steps may be made
+reached : (image : List ℕ) (quirks : Quirks) (facts : Option Facts) (executed : Option (List Bool)) → IfSome facts (HoldFacts image quirks) →
+    executed ≡ option_map (λ found. found.executed.items) facts → IfSome executed (λ executed. (left : List Left) × AreFacts image quirks left executed)
+reached image quirks None executed hold is = subst (λ o. IfSome o (λ executed. (left : List Left) × AreFacts image quirks left executed)) (sym is) tt
+reached image quirks (Some found) executed hold is =
+    subst (λ o. IfSome o (λ executed. (left : List Left) × AreFacts image quirks left executed)) (sym is) (found.left.items, hold.are)
+
+module _ (checking : Checking) (lines : List (List ℕ)) (warnings : List Warning) (asked : Asked) (covered : Option Covered) (facts : Option Facts)
+    (told : IsSome (image_of lines) → kinds_told warnings ≡ warned asked lines) (places : All (StandsIn checking.allowed lines) warnings)
+    (allowed : asked.allowed ≡ checking.allowed) (quirks : asked.quirks ≡ checking.settings.quirks) (tape : asked.has_tape ≡ checking.has_tape)
+    (same : IsCoverageOf covered asked.coverage) (executed : option_copied asked.reachable ≡ option_map (λ found. found.executed.items) facts) where
+  by_image : (image : Option (List ℕ)) → image_of lines ≡ image → (image ≡ None → warnings ≡ []) → IsCovered checking.is_covering checking.settings image covered →
+      IfSome facts (λ facts. MatchOption image ⊥ (λ image. HoldFacts image checking.settings.quirks facts)) →
+      MatchOption image (warnings ≡ []) (λ image. IsWarned checking lines image warnings)
+  by_image None is none cover hold = none refl
+  by_image (Some image) is none cover hold = record {
+    asked = asked;
+    allowed = allowed;
+    quirks = quirks;
+    tape = tape;
+    covered = covers checking.is_covering checking.settings image covered asked.coverage same cover;
+    reachable = reached image checking.settings.quirks facts (option_copied asked.reachable) hold executed;
+    told = told (subst IsSome (sym is) tt);
+    places = places;
+  }
+
+  -- the warnings that a source has for what is asked
+  pub are_warned : (image_of lines ≡ None → warnings ≡ []) → IsCovered checking.is_covering checking.settings (image_of lines) covered →
+      IfSome facts (λ facts. MatchOption (image_of lines) ⊥ (λ image. HoldFacts image checking.settings.quirks facts)) → AreWarned checking lines warnings
+  are_warned = by_image (image_of lines) refl
+
+module _ (checking : Checking) (name bytes : List ℕ) where
   -- what is found in a source that opens
   pub found_opened : (lines : List (List ℕ)) (wanted : Printed) → open_fault bytes ≡ None → lines ≡ lines_of bytes →
-      IsCheckText is_json is_painted name lines wanted.text × (wanted.ending ≡ ending_with (image_of lines)) → IsPrintedCheckOf is_json is_painted name (open_fault bytes) (lines_of bytes) wanted
+      (warnings : List Warning) × AreWarned checking lines warnings × IsCheckText checking.is_json checking.is_painted name lines warnings wanted.text
+      × (wanted.ending ≡ ending_with (image_of lines)) → IsPrintedCheckOf checking name (open_fault bytes) (lines_of bytes) wanted
   found_opened lines wanted opens are is = rw (opens, sym are) is
 
   -- the reason why a source doesn't open
   pub found_unopened : {E : Type 0} (error : OpenError) (answer : Result Answer E) → (error ≡ unopened.OutOfMemory) ⊎ (open_fault bytes ≡ Some error) →
-      IfOk answer (λ given. printed_by given ≡ printed (unopened_check is_json is_painted name error) Faulty) → (error ≡ unopened.OutOfMemory → IsErr answer) →
-      IfOk answer (λ given. IsPrintedCheckOf is_json is_painted name (open_fault bytes) (lines_of bytes) (printed_by given))
+      IfOk answer (λ given. printed_by given ≡ printed (unopened_check checking.is_json checking.is_painted name error) Faulty) → (error ≡ unopened.OutOfMemory → IsErr answer) →
+      IfOk answer (λ given. IsPrintedCheckOf checking name (open_fault bytes) (lines_of bytes) (printed_by given))
   found_unopened error (Ok given) (inl memory) told short = absurd (false_is_true (short memory))
   found_unopened error (Ok given) (inr fault) told short = rw fault told
   found_unopened error (Err e) why told short = tt
 
-module _ {R W : Type 0} (remaining : R → Option (List ℕ)) (contents : W → Option (List ℕ)) (is_json is_painted : Bool) where
+module _ {R W : Type 0} (remaining : R → Option (List ℕ)) (contents : W → Option (List ℕ)) (checking : Checking) where
   abbrev Each : List (Bor (List ℕ)) → Tally R → Tally R → Tally W → Tally W → Outcome → Type 0
-  Each = ChecksEach remaining contents is_json is_painted
+  Each = ChecksEach remaining contents checking
 
   abbrev One : Bor (List ℕ) → Tally R → Tally R → Tally W → Tally W → Outcome → Type 0
-  One = ChecksOne remaining contents is_json is_painted
+  One = ChecksOne remaining contents checking
 
   module _ (in_old in_new : Tally R) (out_old out_new : Tally W) (name : Bor (List ℕ)) (bytes text : List ℕ) (ended : Outcome) (same : text ≡ bytes)
       (gives : GivesSource remaining in_old in_new name.now bytes) where
-    of_text : PrintsSuch contents out_old out_new (IsPrintedCheckOf is_json is_painted name.now (open_fault text) (lines_of text)) ended →
+    of_text : PrintsSuch contents out_old out_new (IsPrintedCheckOf checking name.now (open_fault text) (lines_of text)) ended →
         One name in_old in_new out_old out_new ended
     of_text such = inl (
       bytes,
       gives,
-      subst (λ (t : List ℕ). PrintsSuch contents out_old out_new (IsPrintedCheckOf is_json is_painted name.now (open_fault t) (lines_of t)) ended) same such,
+      subst (λ (t : List ℕ). PrintsSuch contents out_old out_new (IsPrintedCheckOf checking name.now (open_fault t) (lines_of t)) ended) same such,
     )
 
     -- what is found in a source is printed; the result of reading gives the source's name
     pub one_found : {T E : Type 0} (read : Result T Failure) (shown : List ℕ) (answer : Result Answer E) → IfErr read (IsSourceUnread in_old in_new name) → shown ≡ name.now →
-        IfOk answer (λ given. IsPrintedCheckOf is_json is_painted shown (open_fault text) (lines_of text) (printed_by given)) →
+        IfOk answer (λ given. IsPrintedCheckOf checking shown (open_fault text) (lines_of text) (printed_by given)) →
         ((wanted : Printed) → IfOk answer (λ given. printed_by given ≡ wanted) → Prints contents out_old out_new wanted ended) →
         IfErr answer (λ e. (ended ≡ Err failure.OutOfMemory) × (out_new ≡ out_old)) → One name in_old in_new out_old out_new ended
     one_found {T} {E} read shown answer unread called found prints short =
         of_text
-        (delivers_such contents out_old out_new answer (IsPrintedCheckOf is_json is_painted name.now (open_fault text) (lines_of text)) ended
-        (subst (λ (n : List ℕ). IfOk answer (λ given. IsPrintedCheckOf is_json is_painted n (open_fault text) (lines_of text) (printed_by given))) called found)
+        (delivers_such contents out_old out_new answer (IsPrintedCheckOf checking name.now (open_fault text) (lines_of text)) ended
+        (subst (λ (n : List ℕ). IfOk answer (λ given. IsPrintedCheckOf checking n (open_fault text) (lines_of text) (printed_by given))) called found)
         prints short)
 
   -- a source that can't be read
@@ -88,7 +139,7 @@ module _ {R W : Type 0} (remaining : R → Option (List ℕ)) (contents : W → 
       IsSourceUnread in_old in_new name why → One name in_old in_new output output ended
   one_unread in_old in_new output name ended why e w =
       source_unread remaining in_old in_new (output ≡ output) refl name
-      (λ bytes. PrintsSuch contents output output (IsPrintedCheckOf is_json is_painted name.now (open_fault bytes) (lines_of bytes))) ended why e w
+      (λ bytes. PrintsSuch contents output output (IsPrintedCheckOf checking name.now (open_fault bytes) (lines_of bytes))) ended why e w
 
   module _ (names : List (Bor (List ℕ))) (in_old : Tally R) (out_old : Tally W) where
     -- what was done with all of them, by what is done with those that are left
@@ -133,7 +184,7 @@ module _ {R W : Type 0} (remaining : R → Option (List ℕ)) (contents : W → 
   WithAllowed settings ended =
       (allowed : Option ℕ) × AsksSet warning_named 0 (option_copied arguments.allowed) allowed
       × IfSet remaining in_old in_new (out_new ≡ out_old) allowed (λ set.
-      ChecksEach remaining contents arguments.is_json (paints arguments.color takes_color)
+      ChecksEach remaining contents (checking_asked takes_color arguments settings set)
       arguments.sources.items in_old in_new out_old out_new) ended
 
   -- there are no settings
@@ -153,8 +204,8 @@ module _ {R W : Type 0} (remaining : R → Option (List ℕ)) (contents : W → 
     checks_bad why e same quiet bad asks = with_allowed (None, asks, declines remaining in_old in_new (out_new ≡ out_old) quiet IsBadSet ended why e bad same)
 
     -- each source was checked
-    pub checks : (set : ℕ) (painted : Bool) (names : List (Bor (List ℕ))) → AsksSet warning_named 0 (option_copied arguments.allowed) (Some set) →
-        painted ≡ paints arguments.color takes_color → names ≡ arguments.sources.items →
-        ChecksEach remaining contents arguments.is_json painted names in_old in_new out_old out_new ended →
+    pub checks : (set : ℕ) (checking : Checking) (names : List (Bor (List ℕ))) → AsksSet warning_named 0 (option_copied arguments.allowed) (Some set) →
+        checking ≡ checking_asked takes_color arguments settings set → names ≡ arguments.sources.items →
+        ChecksEach remaining contents checking names in_old in_new out_old out_new ended →
         Checks remaining contents in_old in_new out_old out_new takes_color arguments ended
-    checks set painted names asks p n did = with_allowed (Some set, asks, rw (sym p, sym n) did)
+    checks set checking names asks c n did = with_allowed (Some set, asks, rw (sym c, sym n) did)

@@ -1,5 +1,5 @@
 -- What the command `prove` did with a source.
-use Rattle.std.proofs.Common.{◌≡◌, ◌⊎◌, inl, inr, ℕ, false, List, Option, Some, None, Err, refl, sym, ◌∙◌, ap, subst}
+use Rattle.std.proofs.Common.{◌≡◌, ◌⊎◌, inl, inr, ℕ, false, List, [], Option, Some, None, Err, refl, sym, ◌∙◌, ap, subst}
 use Rattle.std.specs.Prelude.{is_none, option_copied, if◌then◌else◌}
 use Rattle.chip_arguments.specs.declared.command_line.ProveArguments.{ProveArguments}
 use Rattle.chip_asm.specs.Lines.{lines_of, open_fault}
@@ -13,10 +13,10 @@ use Rattle.chip_session.specs.Settings.{SessionSettings}
 use Rattle.chip_session.specs.Tally.{Tally}
 use Rattle.chip_host.specs.Printing.{Fails, Prints, ending_with, printed}
 use Rattle.chip_host.specs.Reading.{FromSource, GivesSource, IfSettled, IsSourceUnread, image_in}
-use Rattle.chip_analysis.specs.Commands.{IfSet, IsBadSet, Proves, ProvesBy, ProvesWith}
+use Rattle.chip_analysis.specs.Commands.{IfSet, IsBadSet, Proves, ProvesBy, ProvesWith, faults_alone}
 use Rattle.chip_host.specs.Endings.{IsShort, Outcome}
 use Rattle.chip_analysis.specs.Exploring.{AsksSet, key_named, usual_keys}
-use Rattle.chip_analysis.specs.Checking.{IsCheckText, IsPrintedCheckOf, unopened_check}
+use Rattle.chip_analysis.specs.Checking.{AreWarned, IsCheckText, IsPrintedCheckOf, unopened_check}
 use Rattle.chip_host.specs.SettingArguments.{settings_asked}
 use Rattle.chip_host.specs.declared.ending.Ending.TheVariants.{Faulty}
 use Rattle.chip_host.specs.declared.ending.Failure.{Failure}
@@ -40,20 +40,21 @@ module _ {W : Type 0} (contents : W → Option (List ℕ)) (out_old out_new : Ta
   by_unopened error (inl memory) prints short = let s = short memory in by_short (image_in bytes) s.0 s.1
   by_unopened error (inr fault) prints short =
       let none : image_in bytes ≡ None = ap (λ (o : Option OpenError). if is_none o then image_of (lines_of bytes) else None) fault in
-      let is = subst (λ (o : Option OpenError). IsPrintedCheckOf arguments.is_json false arguments.search.source.now o (lines_of bytes)
+      let is = subst (λ (o : Option OpenError). IsPrintedCheckOf (faults_alone arguments.is_json settings) arguments.search.source.now o (lines_of bytes)
       (printed (unopened_check arguments.is_json false arguments.search.source.now error) Faulty)) (sym fault) refl in
       subst (λ (image : Option (List ℕ)). By image) (sym none) (inl (printed (unopened_check arguments.is_json false arguments.search.source.now error) Faulty, is, prints))
 
   -- the source opens, and has no image
   pub by_faults : (lines : List (List ℕ)) (text : List ℕ) → open_fault bytes ≡ None → lines ≡ lines_of bytes → None ≡ image_of lines →
-      IsCheckText arguments.is_json false arguments.search.source.now lines text → Prints contents out_old out_new (printed text Faulty) ended →
+      IsCheckText arguments.is_json false arguments.search.source.now lines [] text → Prints contents out_old out_new (printed text Faulty) ended →
       By (image_in bytes)
   by_faults lines text opens same none is prints =
       let none_there : image_of (lines_of bytes) ≡ None = sym (subst (λ (l : List (List ℕ)). None ≡ image_of l) same none) in
-      let is_there = subst (λ (l : List (List ℕ)). IsCheckText arguments.is_json false arguments.search.source.now l text) same is in
+      let is_there = subst (λ (l : List (List ℕ)). IsCheckText arguments.is_json false arguments.search.source.now l [] text) same is in
       let none : image_in bytes ≡ None = ap (λ (o : Option OpenError). if is_none o then image_of (lines_of bytes) else None) opens ∙ none_there in
-      let shown = subst (λ (o : Option OpenError). IsPrintedCheckOf arguments.is_json false arguments.search.source.now o (lines_of bytes) (printed text Faulty))
-      (sym opens) (is_there, sym (ap ending_with none_there)) in
+      let unwarned : AreWarned (faults_alone arguments.is_json settings) (lines_of bytes) [] = rw none_there refl in
+      let shown = subst (λ (o : Option OpenError). IsPrintedCheckOf (faults_alone arguments.is_json settings) arguments.search.source.now o (lines_of bytes) (printed text Faulty))
+      (sym opens) ([], unwarned, is_there, sym (ap ending_with none_there)) in
       subst (λ (image : Option (List ℕ)). By image) (sym none) (inl (printed text Faulty, shown, prints))
 
   -- the source opens, and has an image

@@ -10,7 +10,7 @@ use Rattle.std.specs.Prelude.{◌≡◌, ◌⊎◌, ℕ, Bool, true, false, List
 use Rattle.std.specs.Borrow.{Bor}
 use Rattle.chip_asm.specs.Lines.{lines_of, open_fault}
 use Rattle.chip_asm.specs.Program.{image_of, symbols_of}
-use Rattle.chip_analysis.specs.Checking.{IsPrintedCheckOf, with_ending, paints}
+use Rattle.chip_analysis.specs.Checking.{Checking, IsPrintedCheckOf, gives_tape, with_ending, paints}
 use Rattle.chip_host.specs.Printing.{Printed, IfOpens, Streams, WritesFront, PrintsSuch, Prints, printed_faults, Fails}
 use Rattle.chip_host.specs.SettingArguments.{settings_asked}
 use Rattle.chip_session.specs.Settings.{SessionSettings}
@@ -55,6 +55,17 @@ IsBadProperty why =
 abbrev pub IsScriptUnwritten : Option (Bor (List ℕ)) → Failure → Type 0
 IsScriptUnwritten None why = ⊥
 IsScriptUnwritten (Some name) why = IsUnwritten name why
+
+-- what is asked of `check` for the faults alone
+abbrev pub faults_alone : (is_json : Bool) → SessionSettings → Checking
+faults_alone is_json settings = record {
+  is_json = is_json;
+  is_painted = false;
+  is_covering = false;
+  has_tape = false;
+  allowed = 0;
+  settings = settings;
+}
 
 module _ {R : Type 0} (remaining : R → Option (List ℕ)) (in_old in_new : Tally R)
     (Unwritten : Type 0) where
@@ -135,18 +146,30 @@ module _ {W : Type 0} (contents : W → Option (List ℕ)) (out_old out_new : Ta
       (start_of image settings.tape settings.quirks) properties ended)
       ⊎ Fails contents out_old out_new IsShort ended
   ProvesBy arguments settings keys None source ended =
-      PrintsSuch contents out_old out_new (IsPrintedCheckOf arguments.is_json false
+      PrintsSuch contents out_old out_new (IsPrintedCheckOf (faults_alone arguments.is_json settings)
       arguments.search.source.now (open_fault source) (lines_of source)) ended
 
--- `check`, source by source. No contract describes the warnings.
+-- what the arguments ask of `check`, with these settings, and with this set of warnings switched off
+abbrev pub checking_asked : (takes_color : Bool) → CheckArguments → SessionSettings → (allowed : ℕ)
+    → Checking
+checking_asked takes_color arguments settings allowed = record {
+  is_json = arguments.is_json;
+  is_painted = paints arguments.color takes_color;
+  is_covering = arguments.is_covering;
+  has_tape = gives_tape arguments.settings;
+  allowed = allowed;
+  settings = settings;
+}
+
+-- `check`, source by source
 module _ {R W : Type 0} (remaining : R → Option (List ℕ)) (contents : W → Option (List ℕ))
-    (is_json is_painted : Bool) where
+    (checking : Checking) where
   -- the effects of `check` on one source
   abbrev pub ChecksOne : Bor (List ℕ) → (in_old in_new : Tally R) → (out_old out_new : Tally W)
       → Outcome → Type 0
   ChecksOne name in_old in_new out_old out_new ended =
       FromSource remaining in_old in_new (out_new ≡ out_old) name (λ bytes.
-      PrintsSuch contents out_old out_new (IsPrintedCheckOf is_json is_painted name.now
+      PrintsSuch contents out_old out_new (IsPrintedCheckOf checking name.now
       (open_fault bytes) (lines_of bytes))) ended
 
   -- the effects of `check` on several sources, one after another; whatever hinders one of them ends the check
@@ -164,15 +187,14 @@ module _ {R W : Type 0} (remaining : R → Option (List ℕ)) (contents : W → 
 
 module _ {R W : Type 0} (remaining : R → Option (List ℕ)) (contents : W → Option (List ℕ))
     (in_old in_new : Tally R) (out_old out_new : Tally W) where
-  -- `check`: no contract describes the warnings, but contracts do describe the settings and which warnings
-  -- the argument names
+  -- `check`
   abbrev pub Checks : (takes_color : Bool) → CheckArguments → Outcome → Type 0
   Checks takes_color arguments ended =
       IfSettled remaining in_old in_new (out_new ≡ out_old) (settings_asked arguments.settings)
       (λ settings ended. (allowed : Option ℕ)
       × AsksSet warning_named 0 (option_copied arguments.allowed) allowed
       × IfSet remaining in_old in_new (out_new ≡ out_old) allowed (λ set.
-      ChecksEach remaining contents arguments.is_json (paints arguments.color takes_color)
+      ChecksEach remaining contents (checking_asked takes_color arguments settings set)
       arguments.sources.items in_old in_new out_old out_new) ended) ended
 
   -- `explore`

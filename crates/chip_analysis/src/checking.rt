@@ -2,13 +2,13 @@
 ghost use Rattle.std.specs.Prelude.{◌≡◌, IfOk, IfSome, IsErr, MatchOption, false, true};
 ghost use Rattle.chip_asm.specs.Lines.{lines_of, open_fault};
 ghost use Rattle.chip_asm.specs.Program.{image_of};
-ghost use Rattle.chip_analysis.specs.Commands.{Checks, ChecksEach};
-ghost use Rattle.chip_analysis.specs.Checking.{gives_tape, paints, worse, IsCheckText, IsPrintedCheckOf, unopened_check};
-ghost use Rattle.chip_analysis.specs.inner.Covering.{IsCovered};
+ghost use Rattle.chip_analysis.specs.Commands.{Checks, ChecksEach, faults_alone};
+ghost use Rattle.chip_analysis.specs.Checking.{gives_tape, paints, worse, AreWarned, IsCheckText, IsPrintedCheckOf, unopened_check};
+ghost use Rattle.chip_analysis.specs.inner.Covering.{IsCovered, checking_by};
 ghost use Rattle.chip_facts.specs.Rows.{HoldFacts};
 ghost use Rattle.chip_host.specs.Printing.{printed_by, printed};
 
-use crate::covering::Covered;
+use crate::covering::{Covered, coverage_in};
 use crate::excluding::{CHECK_FACT_STEPS, executed_in, facts_within};
 use crate::noting::tell_notes;
 use crate::progress::{Progress, Teller};
@@ -100,8 +100,7 @@ fn worse(ending: Ending, later: Ending) -> Ending
 impl<'p> Checker<'p> {
     /// Returns a checker that prints only faults.
     pub(crate) fn for_faults(settings: &'p Settings, is_json: bool) -> Checker<'p>
-        ensures json { result.is_json ≡ is_json }
-        ensures painted { result.is_painted ≡ false }
+        ensures { checking_by result ≡ faults_alone is_json settings.now }
     {
         Checker {
             allowed: 0,
@@ -121,8 +120,8 @@ impl<'p> Checker<'p> {
         output: &mut Counted<O>,
         teller: &mut T,
     ) -> Result<Ending, Failure<'a>>
-        ensures { ChecksEach I.remaining O.contents self.now.is_json self.now.is_painted
-            names.now input.old input.new output.old output.new result }
+        ensures { ChecksEach I.remaining O.contents (checking_by self.now) names.now input.old
+            input.new output.old output.new result }
     {
         let mut ending = Ending::Done;
         for name in names {
@@ -142,27 +141,39 @@ impl<'p> Checker<'p> {
         bytes: &[u8],
         teller: &mut T,
     ) -> Result<Answer, AllocError>
-        ensures { IfOk result (λ answer. IsPrintedCheckOf self.now.is_json self.now.is_painted
-            name.now (open_fault bytes.now) (lines_of bytes.now) (printed_by answer)) }
+        ensures { IfOk result (λ answer. IsPrintedCheckOf (checking_by self.now) name.now
+            (open_fault bytes.now) (lines_of bytes.now) (printed_by answer)) }
     {
         let source = match Source::open(alloc, bytes) {
             Ok(source) => source,
             Err(error) => return self.unopened(alloc, name, error),
         };
         tell_notes(alloc, name, &source, teller);
-        let covered = self.covered(alloc, &source, teller)?;
-        let coverage = covered.as_ref().map(|covered| covered.coverage());
-        let facts = self.facts_about(alloc, &source);
+        let warnings = self.warnings_on(alloc, &source, teller)?;
+        let text = self.text_of(alloc, name, &source, &warnings)?;
+        Ok(Answer::on(&source, text))
+    }
+
+    // Returns the warnings of a source that aren't switched off.
+    fn warnings_on<W: Watcher>(
+        &self,
+        alloc: Global,
+        source: &Source,
+        watcher: &mut W,
+    ) -> Result<Vec<Warning>, AllocError>
+        ensures { IfOk result (λ warnings. AreWarned (checking_by self.now) source.now.lines
+            warnings.items) }
+    {
+        let covered = self.covered(alloc, source, watcher)?;
+        let facts = self.facts_about(alloc, source);
         let asked = Asked {
             allowed: self.allowed,
             quirks: self.settings.quirks(),
             has_tape: self.has_tape,
-            coverage,
+            coverage: coverage_in(&covered),
             reachable: executed_in(&facts),
         };
-        let warnings = warnings(alloc, &source, asked)?;
-        let text = self.text_of(alloc, name, &source, &warnings)?;
-        Ok(Answer::on(&source, text))
+        warnings(alloc, source, asked)
     }
 
     // Returns what key scripts execute of a source's image, if that is asked for and there is an image.
@@ -202,7 +213,7 @@ impl<'p> Checker<'p> {
         warnings: &[Warning],
     ) -> Result<Vec<u8>, AllocError>
         ensures { IfOk result (λ text. IsCheckText self.now.is_json self.now.is_painted name.now
-            source.now.lines text.items) }
+            source.now.lines warnings.now text.items) }
     {
         if self.is_json {
             check_json(alloc, name, source, warnings)

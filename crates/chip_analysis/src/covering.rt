@@ -2,7 +2,8 @@
 ghost use Rattle.std.specs.Prelude.{◌≡◌, ◌↔◌, ◌<◌, IfOk, IsErr, IsTrue};
 ghost use Rattle.chip_machine.specs.Start.{start_of};
 ghost use Rattle.chip_analysis.specs.Exploring.{usual_keys};
-ghost use Rattle.chip_analysis.specs.inner.Covering.{IsCoverage, covered_step};
+ghost use Rattle.chip_analysis.specs.Checking.{IsCoverage};
+ghost use Rattle.chip_analysis.specs.inner.Covering.{IsCoverageOf, covered_step};
 
 use crate::exploring::{bytes_of, machine_of};
 use crate::sets::ALL_KEYS;
@@ -85,8 +86,8 @@ impl Covered {
         })
     }
 
-    /// Returns the coverage in the form that the warnings take.
-    pub(crate) fn coverage(&self) -> Coverage<'_>
+    // Returns the coverage in the form that the warnings take.
+    fn coverage(&self) -> Coverage<'_>
         ensures executed { result.executed.now ≡ self.now.executed }
         ensures within { result.within ≡ self.now.within }
     {
@@ -94,6 +95,16 @@ impl Covered {
             executed: self.executed.addresses(),
             within: self.within,
         }
+    }
+}
+
+/// Returns the coverage in the form that the warnings take, if there is any.
+pub(crate) fn coverage_in(covered: &Option<Covered>) -> Option<Coverage<'_>>
+    ensures { IsCoverageOf covered.now result }
+{
+    match covered {
+        Some(covered) => Some(covered.coverage()),
+        None => None,
     }
 }
 

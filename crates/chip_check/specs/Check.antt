@@ -1,6 +1,6 @@
--- The faults of a source as compilers print them: place, sentence, line and marks, and below them lines of help,
--- of which only the beginnings are stated (chosen by this project).
-use Rattle.std.specs.Prelude.{◌≡◌, ℕ, ◌+◌, ◌-◌, ◌==◌, Bool, true, false, List, [], ◌∷◌, ◌++◌, drop, take, if◌then◌else◌, Option, Some, None, codes}
+-- The faults and warnings of a source as compilers print them: place, sentence, line and marks, and below them lines
+-- of help. Only the beginnings of the lines of help are stated (chosen by this project).
+use Rattle.std.specs.Prelude.{◌≡◌, ℕ, ◌+◌, ◌-◌, ◌==◌, ◌&&◌, Bool, true, false, List, [], ◌∷◌, ◌++◌, drop, length, nat_le, take, if◌then◌else◌, Option, Some, None, codes}
 use Rattle.std.specs.Fmt.{decimal}
 use Rattle.std.specs.List.{flat_map, position_or_len}
 use Rattle.chip_lang.specs.declared.fault.Fault.{Fault}
@@ -9,6 +9,7 @@ use Rattle.chip_lang.specs.declared.fault_place.Span.{Span}
 use Rattle.chip_lang.specs.FaultNumber.{number_of_fault}
 use Rattle.chip_lang.specs.FaultPlace.{mnemonic_of}
 use Rattle.chip_lang.specs.Token.{is_between}
+use Rattle.chip_asm.specs.LineViews.{LineFacts, line_at}
 use Rattle.chip_asm.specs.Program.{fault_at}
 use Rattle.chip_asm.specs.Lines.{is_newline}
 use Rattle.chip_check.specs.declared.hint.Hint.{Hint}
@@ -18,6 +19,9 @@ use Rattle.chip_check.specs.declared.quoted.ShownByte.{ShownByte}
 use Rattle.chip_check.specs.declared.quoted.ShownByte.TheVariants.{Plain, Escaped}
 use Rattle.chip_check.specs.Place.{place_in}
 use Rattle.chip_check.specs.Quoted.{quoted_line, shown_bytes}
+use Rattle.chip_warnings.specs.Warnings.{letter_of_warning, number_of_warning}
+use Rattle.chip_warnings.specs.declared.warning.Warning.{Warning}
+use Rattle.chip_warnings.specs.declared.warning.WarningCode.{WarningCode}
 
 unfoldable pub sentence_of : Fault → List ℕ
 sentence_of BadCharacter = codes "bad character"
@@ -145,18 +149,43 @@ AreReports print all number (line ∷ lines) text =
     × (text ≡ report_of print all number line (fault_at all number) hints ++ others)
     × AreReports print all (number + 1) lines others
 
--- whether a text begins with the text for a source's lines; anything may follow, such as the warnings
-abbrev pub IsCheckedIn : Print → (lines : List (List ℕ)) (text : List ℕ) → Type 0
-IsCheckedIn print lines text =
-    (reports : List ℕ) × (others : List ℕ) × AreReports print lines 1 lines reports
-    × (text ≡ reports ++ others)
+-- the code of a warning: the letter W or P, and a number
+abbrev pub warning_code : WarningCode → List ℕ
+warning_code code = letter_of_warning code ∷ decimal (number_of_warning code)
 
--- whether a text is the reports of a source's faults, in the order of the lines
-abbrev pub IsCheck : (is_painted : Bool) (name : List ℕ) (lines : List (List ℕ)) (text : List ℕ)
-    → Type 0
-IsCheck is_painted name lines text = AreReports (report is_painted name) lines 1 lines text
+-- whether a place lies in a line
+abbrev pub is_inside : Span → (line : List ℕ) → Bool
+is_inside span line = nat_le span.start span.end && nat_le span.end (length line)
 
--- whether a text begins with the reports of a source's faults, in the order of the lines
-abbrev pub IsChecked : (is_painted : Bool) (name : List ℕ) (lines : List (List ℕ)) (text : List ℕ)
-    → Type 0
-IsChecked is_painted name lines text = IsCheckedIn (report is_painted name) lines text
+-- the text for a warning of a line, with these lines of help; empty if the warning's place doesn't lie in the line
+abbrev pub warning_text : Print → (line : List ℕ) → Warning → List Hint → List ℕ
+warning_text print line w hints =
+    if is_inside w.span line then print w.line line w.span (warning_code w.code) w.sentence.items hints
+    else []
+
+-- whether a text is the text for a warning of a line, with some lines of help; empty if there is no such line
+abbrev pub IsWarningText : Print → Option LineFacts → Warning → (text : List ℕ) → Type 0
+IsWarningText print None w text = text ≡ []
+IsWarningText print (Some line) w text = (hints : List Hint) × (text ≡ warning_text print line.text w hints)
+
+-- whether a text is the text for some warnings of a source, one after another
+abbrev pub AreWarnings : Print → (lines : List (List ℕ)) → List Warning → (text : List ℕ) → Type 0
+AreWarnings print lines [] text = text ≡ []
+AreWarnings print lines (w ∷ warnings) text =
+    (first others : List ℕ) × (text ≡ first ++ others)
+    × IsWarningText print (line_at lines w.line) w first × AreWarnings print lines warnings others
+
+-- whether a text is the text for a source: that for its faults, in the order of the lines, and then that for these
+-- warnings
+pub record IsCheckedIn (print : Print) (lines : List (List ℕ)) (warnings : List Warning) (text : List ℕ)
+    : Type 0 where
+  pub reports : List ℕ
+  pub others : List ℕ
+  pub faults : AreReports print lines 1 lines reports
+  pub warned : AreWarnings print lines warnings others
+  pub is : text ≡ reports ++ others
+
+-- whether a text is the reports of a source's faults, and then those of these warnings
+abbrev pub IsChecked : (is_painted : Bool) (name : List ℕ) (lines : List (List ℕ))
+    (warnings : List Warning) (text : List ℕ) → Type 0
+IsChecked is_painted name lines warnings text = IsCheckedIn (report is_painted name) lines warnings text

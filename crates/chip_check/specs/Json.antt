@@ -1,4 +1,4 @@
--- The faults of a source as JSON: an object on a line of its own for each faulty line (chosen by this project).
+-- The faults and warnings of a source as JSON: each is an object on a line of its own (chosen by this project).
 use Rattle.std.specs.Prelude.{ℕ, ◌+◌, ◌==◌, ◌||◌, nat_lt, List, [], ◌∷◌, ◌++◌, if◌then◌else◌, codes}
 use Rattle.std.specs.Fmt.{decimal}
 use Rattle.std.specs.List.{flat_map}
@@ -8,7 +8,8 @@ use Rattle.chip_lang.specs.Show.{two_hex_digits}
 use Rattle.chip_check.specs.declared.hint.Hint.{Hint}
 use Rattle.chip_check.specs.declared.hint.HintKind.{HintKind}
 use Rattle.chip_check.specs.declared.hint.HintKind.TheVariants.{Help, Note}
-use Rattle.chip_check.specs.Check.{Print, AreReports, IsCheckedIn}
+use Rattle.chip_check.specs.Check.{Print, IsCheckedIn}
+use Rattle.chip_warnings.specs.declared.warning.Warning.{Warning}
 
 -- a byte inside a string: a backslash comes before a quote and before a backslash, and a control byte is written by
 -- its number
@@ -58,10 +59,6 @@ object name number span code sentence hints =
 abbrev pub as_object : (name : List ℕ) → Print
 as_object name number line span code sentence hints = object name number span code sentence hints
 
--- whether a text is the objects of the faults of a source's lines, in their order
-abbrev pub AreObjects : (name : List ℕ) (lines : List (List ℕ)) (text : List ℕ) → Type 0
-AreObjects name lines text = AreReports (as_object name) lines 1 lines text
-
--- whether a text begins with the objects of those faults; anything may follow, such as the objects of warnings
-abbrev pub IsCheckJson : (name : List ℕ) (lines : List (List ℕ)) (text : List ℕ) → Type 0
-IsCheckJson name lines text = IsCheckedIn (as_object name) lines text
+-- whether a text is the objects of a source's faults, in the order of the lines, and then those of these warnings
+abbrev pub IsCheckJson : (name : List ℕ) (lines : List (List ℕ)) (warnings : List Warning) (text : List ℕ) → Type 0
+IsCheckJson name lines warnings text = IsCheckedIn (as_object name) lines warnings text

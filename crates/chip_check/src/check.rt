@@ -1,9 +1,9 @@
 //! The faults and warnings of a source, as compilers print them and as JSON.
 
-ghost use Rattle.std.specs.Prelude.{◌≡◌, ◌++◌, ℕ, List, [], IfOk, OnOk};
+ghost use Rattle.std.specs.Prelude.{◌≡◌, ◌++◌, ℕ, List, IfOk, OnOk};
 ghost use Rattle.chip_asm.specs.Program.{fault_at, symbols_of};
-ghost use Rattle.chip_check.specs.Check.{AreReports, IsCheck, IsChecked, IsCheckedIn, report_of};
-ghost use Rattle.chip_check.specs.Json.{AreObjects, IsCheckJson};
+ghost use Rattle.chip_check.specs.Check.{AreReports, AreWarnings, IsChecked, IsCheckedIn, report_of, warning_text};
+ghost use Rattle.chip_check.specs.Json.{IsCheckJson};
 ghost use Rattle.chip_check.specs.Unopened.{unopened_object, unopened_report};
 ghost use Rattle.chip_check.specs.inner.Known.{Agree, listed};
 ghost use Rattle.chip_check.specs.inner.Printing.{print_in};
@@ -38,10 +38,8 @@ pub fn check_text(
     source: &Source,
     warnings: &[Warning],
 ) -> Result<Vec<u8>, AllocError>
-    ensures checked { IfOk result (λ text.
-        IsChecked is_painted name.now source.now.lines text.items) }
-    ensures alone { warnings.now ≡ []
-        → IfOk result (λ text. IsCheck is_painted name.now source.now.lines text.items) }
+    ensures { IfOk result (λ text.
+        IsChecked is_painted name.now source.now.lines warnings.now text.items) }
 {
     let form = Form::Text { is_painted };
     check_in(alloc, Style { form, name }, source, warnings)
@@ -64,9 +62,8 @@ pub fn check_json(
     source: &Source,
     warnings: &[Warning],
 ) -> Result<Vec<u8>, AllocError>
-    ensures checked { IfOk result (λ text. IsCheckJson name.now source.now.lines text.items) }
-    ensures alone { warnings.now ≡ []
-        → IfOk result (λ text. AreObjects name.now source.now.lines text.items) }
+    ensures { IfOk result (λ text.
+        IsCheckJson name.now source.now.lines warnings.now text.items) }
 {
     let form = Form::Json;
     check_in(alloc, Style { form, name }, source, warnings)
@@ -143,11 +140,8 @@ fn check_in(
     source: &Source,
     warnings: &[Warning],
 ) -> Result<Vec<u8>, AllocError>
-    ensures checked { IfOk result (λ text.
-        IsCheckedIn (print_in style.entry.form style.entry.name.now) source.now.lines text.items) }
-    ensures alone { warnings.now ≡ [] → IfOk result (λ text.
-        AreReports (print_in style.entry.form style.entry.name.now) source.now.lines 1
-        source.now.lines text.items) }
+    ensures { IfOk result (λ text. IsCheckedIn (print_in style.entry.form style.entry.name.now)
+        source.now.lines warnings.now text.items) }
 {
     let mut text = reports(alloc, style, source)?;
     push_warnings(alloc, &mut text, style, source, warnings)?;
@@ -198,9 +192,9 @@ fn push_warnings(
     source: &Source,
     warnings: &[Warning],
 ) -> Result<(), AllocError>
-    ensures others { OnOk result ((others : List ℕ)
-        × (text.new.items ≡ text.old.items ++ others)) }
-    ensures alone { warnings.now ≡ [] → OnOk result (text.new.items ≡ text.old.items) }
+    ensures { OnOk result ((others : List ℕ)
+        × AreWarnings (print_in style.entry.form style.entry.name.now) source.now.lines
+        warnings.now others × (text.new.items ≡ text.old.items ++ others)) }
 {
     for warning in warnings {
         if let Some(line) = source.line(warning.line) {
@@ -218,7 +212,9 @@ fn push_warning(
     line: &[u8],
     warning: &Warning,
 ) -> Result<(), AllocError>
-    ensures { OnOk result ((others : List ℕ) × (text.new.items ≡ text.old.items ++ others)) }
+    ensures { OnOk result ((hints : List Hint) × (text.new.items ≡ text.old.items
+        ++ warning_text (print_in style.entry.form style.entry.name.now) line.now warning.now
+        hints)) }
 {
     let span = warning.span;
     if span.start > span.end || span.end > line.len() {

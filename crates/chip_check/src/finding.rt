@@ -3,7 +3,7 @@
 ghost use Rattle.std.specs.Prelude.{◌≡◌, ◌≤◌, ◌+◌, IfOk, length};
 ghost use Rattle.chip_lang.specs.FaultPlace.{mnemonic_of};
 ghost use Rattle.chip_asm.specs.Program.{symbols_of};
-ghost use Rattle.chip_check.specs.Check.{code_of, sentence_of, sentence_with};
+ghost use Rattle.chip_check.specs.Check.{code_of, sentence_of, sentence_with, warning_code};
 ghost use Rattle.chip_check.specs.Place.{place_in};
 ghost use Rattle.chip_check.specs.Unopened.{unopened_code, unopened_help, unopened_line, unopened_place, unopened_sentence};
 ghost use Rattle.chip_check.specs.inner.Known.{Agree, listed};
@@ -16,7 +16,7 @@ use crate::place::place_in;
 use chip_asm::limits::{LINE_BYTES, MOST_LINES};
 use chip_asm::{LineView, OpenError, Source};
 use chip_lang::{Fault, Span};
-use chip_warnings::Warning;
+use chip_warnings::{Warning, WarningCode};
 use std::alloc::{AllocError, Global};
 
 /// A fault or a warning of a line, with its place and help.
@@ -105,23 +105,36 @@ impl Finding {
 
     /// The finding for a warning.
     pub(crate) fn of_warning(alloc: Global, warning: &Warning) -> Result<Finding, AllocError>
-        ensures { IfOk result (λ finding. finding.span ≡ warning.now.span) }
+        ensures span { IfOk result (λ finding. finding.span ≡ warning.now.span) }
+        ensures code { IfOk result (λ finding.
+            finding.code.items ≡ warning_code warning.now.code) }
+        ensures sentence { IfOk result (λ finding.
+            finding.sentence.items ≡ warning.now.sentence.items) }
     {
         let mut hints = Vec::new(alloc);
         if !warning.help.is_empty() {
             push_help(alloc, &mut hints, &[&warning.help])?;
         }
         let sentence = Vec::from_slice(alloc, &warning.sentence)?;
-        let letter = warning.code.letter();
-        let warning_number = warning.code.number();
-        let code = format!(in alloc; "{letter}{warning_number}")?.into_bytes();
         Ok(Finding {
             span: warning.span,
-            code,
+            code: warning_code(alloc, warning.code)?,
             sentence,
             hints,
         })
     }
+}
+
+/// The code of a warning: W or P, and its number.
+fn warning_code(alloc: Global, code: WarningCode) -> Result<Vec<u8>, AllocError>
+    ensures { IfOk result (λ text. text.items ≡ warning_code code) }
+{
+    let number = code.number();
+    let text = match code {
+        WarningCode::Property(_) => format!(in alloc; "P{number}")?,
+        _ => format!(in alloc; "W{number}")?,
+    };
+    Ok(text.into_bytes())
 }
 
 /// A list of one line of help, which says what to write.
